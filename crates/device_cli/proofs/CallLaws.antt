@@ -1,7 +1,8 @@
 -- What a desk has of a call of its session.
 use Rattle.std.proofs.Common.{◌≡◌, ℕ, ◌+◌, ◌<◌, ◌≤◌, Bool, true, false, List, Option, None, Some, Ok, Err, inl, inr, refl, sym, ◌∙◌, subst, ap, arith}
 use Rattle.platform.specs.Image.{Image}
-use Rattle.platform.specs.History.{History, Turns}
+use Rattle.platform.specs.History.{CellStays, History, Turns}
+use Rattle.platform.proofs.Moments.{During-now}
 use Rattle.platform.specs.declared.platforms.Platform.{Ghosts}
 use Rattle.sdbt_base.specs.declared.tapes.Tape.{Ghosts as TapeGhosts}
 use Rattle.sdbt_base.specs.Arrays.{Blocks, Device, Session as OpenSession, State, committed, session_on}
@@ -12,7 +13,10 @@ use Rattle.device_course.specs.States.{IsAt}
 use Rattle.device_course.specs.States as states
 use Rattle.device_session.specs.declared.refusals.CommitReply.TheVariants as replies
 use Rattle.device_course.proofs.KeysLaws.{on_done}
-use Rattle.device_session.specs.Open.{blocks_of}
+use Rattle.device_session.specs.Open.{IsOpen, blocks_of, is_touched, root_of}
+use Rattle.device_session.proofs.CountLaws.{needs_some}
+use Rattle.root_codec.specs.RootRecord.{root_bytes}
+use Rattle.page_store.specs.Roots.{IsRootWithin}
 use Rattle.device_session.specs.Reading.{room_of}
 use Rattle.device_session.specs.Sessions.{Session}
 use Rattle.script_lang.specs.Answers.{answer, none_counted}
@@ -30,13 +34,14 @@ use Rattle.session_calls.specs.declared.stops.DeviceStop.{DeviceStop}
 use Rattle.session_calls.specs.declared.stops.DeviceStop.TheVariants as stops
 use Rattle.session_calls.proofs.StateLaws.{at_array}
 use Rattle.device_cli.specs.Added.{left_by}
-use Rattle.device_cli.specs.Causes.{IsPast, MayStop}
+use Rattle.device_cli.specs.Causes.{LacksMemory, MayStop, OnMounted}
 use Rattle.device_cli.specs.Desk.{After}
 use Rattle.device_cli.specs.Replied.{Halts, Serves}
 use Rattle.line_run.specs.Stops.{IsSound}
 use Rattle.device_cli.specs.Represents.{Represents}
 use Rattle.device_cli.specs.World.{World, is_full, needed_of, world_of}
 use Rattle.device_cli.specs.declared.desk.Desk.{Desk}
+use Rattle.device_cli.proofs.ReplyLaws.{held_has}
 use Rattle.device_cli.proofs.ServedLaws.{at, with_session, has_session, serves_still, halts_still, is_full_false, is_full_true, gives_commit_full, gives_idle, gives_raised}
 use Rattle.device_cli.proofs.ServingLaws.{KeepsCell, keeps_same, needed_some}
 
@@ -133,61 +138,77 @@ no_draw keys = record { keys = keys; faults = 0 }
 
 -- ---- any image
 
--- what holds of the session that is held
-pub if_held : (held : Option Session) (session : Session) (P : Session → Type 0) → held ≡ Some session → P session → IfSome held P
-if_held held session P is h = subst (λ (s : Option Session). IfSome s P) (sym is) h
-
 pub room_held : (held : Option Session) (session : Session) → held ≡ Some session → IfSome held (λ s. room_of s ≡ 256) → room_of session ≡ 256
 room_held held session is room = subst (λ (h : Option Session). IfSome h (λ s. room_of s ≡ 256)) is room
 
-pub past_held : (held : Option Session) (session : Session) (block : ℕ) → held ≡ Some session → blocks_of session ≤ block → IsPast held block
-past_held held session block is past = subst (λ (s : Option Session). IsPast s block) (sym is) past
+-- what holds of the session that is held, where a call left the cell
+pub mounted_has : (tells : Type 0) (held : Option Session) (session : Session) (old new : History) (P : Session → Type 0) → held ≡ Some session → (tells → CellStays old new) → (tells → IfSome held (IsMounted old.present)) → P session
+    → OnMounted tells new.present held P
+mounted_has tells held session old new P is stays mounted h =
+    held_has held session (λ (s : Session). (tells → new.present.cell ≡ Some (root_bytes (root_of s))) × P s) is
+    (λ told. During-now old new (λ (image : Image). image.cell ≡ old.present.cell) (stays told) ∙ (mounted_held held session old.present is (mounted told)).cell, h)
 
 -- how a call of the session stops a command
-pub read_stops : (tells Known : Type 0) (image after : Image) (session : Session) (block : ℕ) (bytes : List ℕ) (stop : DeviceStop) → (tells → Known) → ReadsAny Known image after session block bytes (Err stop) → MayStop tells after (Read block) stop
-read_stops tells Known image after session block bytes stops.Platform known any = tt
-read_stops tells Known image after session block bytes (stops.BadRecord addr) known any = λ told. any (known told)
-read_stops tells Known image after session block bytes stops.Memory known any = absurd any
-read_stops tells Known image after session block bytes stops.Tape known any = absurd any
-read_stops tells Known image after session block bytes stops.Ledger known any = absurd any
-read_stops tells Known image after session block bytes stops.BadRoot known any = absurd any
+pub read_stops : (tells Known : Type 0) (held : Option Session) (image : Image) (now : World) (session : Session) (block : ℕ) (bytes : List ℕ) (stop : DeviceStop) → (tells → Known)
+    → ReadsAny Known image now.history.present session block bytes (Err stop) → MayStop tells held now.history.present now.head now.capacity (Read block) stop
+read_stops tells Known held image now session block bytes stops.Platform known any = tt
+read_stops tells Known held image now session block bytes (stops.BadRecord addr) known any = λ told. any (known told)
+read_stops tells Known held image now session block bytes stops.Memory known any = absurd any
+read_stops tells Known held image now session block bytes stops.Tape known any = absurd any
+read_stops tells Known held image now session block bytes stops.Ledger known any = absurd any
+read_stops tells Known held image now session block bytes stops.BadRoot known any = absurd any
 
 -- a wrong place, or the root node
 wrong_one : {A B C : Type 0} → A ⊎ (B × C) → A ⊎ B
 wrong_one (inl place) = inl place
 wrong_one (inr node) = inr node.0
 
-pub write_stops : (tells Known : Type 0) (image after : Image) (session : Session) (block : ℕ) (content : List ℕ) (stop : DeviceStop) → (tells → Known) → WritesAny Known image after session block (Err stop) → MayStop tells after (Write block content) stop
-write_stops tells Known image after session block content stops.Platform known any = tt
-write_stops tells Known image after session block content (stops.BadRecord addr) known any = λ told. wrong_one (any (known told))
-write_stops tells Known image after session block content stops.Memory known any = tt
-write_stops tells Known image after session block content stops.Tape known any = tt
-write_stops tells Known image after session block content stops.Ledger known any = absurd any
-write_stops tells Known image after session block content stops.BadRoot known any = absurd any
+pub write_stops : (tells Known : Type 0) (held : Option Session) (image : Image) (now : World) (session : Session) (block : ℕ) (content : List ℕ) (stop : DeviceStop) → (tells → Known)
+    → (stop ≡ stops.Memory → LacksMemory tells held now.history.present now.head now.capacity (Write block content)) → WritesAny Known image now.history.present session block (Err stop) → MayStop tells held now.history.present now.head now.capacity (Write block content) stop
+write_stops tells Known held image now session block content stops.Platform known lacks any = tt
+write_stops tells Known held image now session block content (stops.BadRecord addr) known lacks any = λ told. wrong_one (any (known told))
+write_stops tells Known held image now session block content stops.Memory known lacks any = lacks refl
+write_stops tells Known held image now session block content stops.Tape known lacks any = tt
+write_stops tells Known held image now session block content stops.Ledger known lacks any = absurd any
+write_stops tells Known held image now session block content stops.BadRoot known lacks any = absurd any
 
-pub trim_stops : (tells Known : Type 0) (image after : Image) (session : Session) (block : ℕ) (stop : DeviceStop) → (tells → Known) → TrimsAny Known image after session block (Err stop) → MayStop tells after (Trim block) stop
-trim_stops tells Known image after session block stops.Platform known any = tt
-trim_stops tells Known image after session block (stops.BadRecord addr) known any = λ told. wrong_one (any (known told))
-trim_stops tells Known image after session block stops.Memory known any = tt
-trim_stops tells Known image after session block stops.Tape known any = absurd any
-trim_stops tells Known image after session block stops.Ledger known any = absurd any
-trim_stops tells Known image after session block stops.BadRoot known any = absurd any
+pub trim_stops : (tells Known : Type 0) (held : Option Session) (image : Image) (now : World) (session : Session) (block : ℕ) (stop : DeviceStop) → (tells → Known)
+    → LacksMemory tells held now.history.present now.head now.capacity (Trim block) → TrimsAny Known image now.history.present session block (Err stop) → MayStop tells held now.history.present now.head now.capacity (Trim block) stop
+trim_stops tells Known held image now session block stops.Platform known lacks any = tt
+trim_stops tells Known held image now session block (stops.BadRecord addr) known lacks any = λ told. wrong_one (any (known told))
+trim_stops tells Known held image now session block stops.Memory known lacks any = lacks
+trim_stops tells Known held image now session block stops.Tape known lacks any = absurd any
+trim_stops tells Known held image now session block stops.Ledger known lacks any = absurd any
+trim_stops tells Known held image now session block stops.BadRoot known lacks any = absurd any
 
-pub mount_stops : (tells : Type 0) (image : Image) (cell : Option (List ℕ)) (pages : ℕ) (stop : DeviceStop) → IsMountStop tells cell pages stop → MayStop tells image Mount stop
-mount_stops tells image cell pages stops.Platform is = tt
-mount_stops tells image cell pages stops.Memory is = tt
-mount_stops tells image cell pages stops.BadRoot is = tt
-mount_stops tells image cell pages stops.Tape is = absurd is
-mount_stops tells image cell pages stops.Ledger is = absurd is
-mount_stops tells image cell pages (stops.BadRecord addr) is = absurd is
+-- a mount without a session
+pub mount_stops : (tells : Type 0) (held : Option Session) (image : Image) (pages : ℕ) (now : World) (stop : DeviceStop) → held ≡ None → (tells → now.history.present ≡ image) → now.head ≡ pages
+    → IsMountStop tells image.cell pages stop → MayStop tells held now.history.present now.head now.capacity Mount stop
+mount_stops tells held image pages now stops.Platform none same head is = tt
+mount_stops tells held image pages now stops.Memory none same head is =
+    (none, λ told. let found = is told in (found.0, subst (λ (n : ℕ). IsRootWithin n found.0) (sym head) found.1, ap (λ (i : Image). i.cell) (same told) ∙ found.2))
+mount_stops tells held image pages now stops.BadRoot none same head is = tt
+mount_stops tells held image pages now stops.Tape none same head is = absurd is
+mount_stops tells held image pages now stops.Ledger none same head is = absurd is
+mount_stops tells held image pages now (stops.BadRecord addr) none same head is = absurd is
 
-pub commit_stops : {S R : Type 0} (P : Ghosts S) (T : TapeGhosts R) (platform platform_now : S) (tape tape_now : R) (session : Session) (image : Image) (stop : DeviceStop) → StopsAt P T platform platform_now tape tape_now session stop → MayStop P.tells image Commit stop
-commit_stops P T platform platform_now tape tape_now session image stops.Platform stopped = tt
-commit_stops P T platform platform_now tape tape_now session image stops.Tape stopped = tt
-commit_stops P T platform platform_now tape tape_now session image stops.Ledger stopped = tt
-commit_stops P T platform platform_now tape tape_now session image stops.Memory stopped = tt
-commit_stops P T platform platform_now tape tape_now session image stops.BadRoot stopped = absurd stopped.left
-commit_stops P T platform platform_now tape tape_now session image (stops.BadRecord addr) stopped = absurd stopped.left
+-- a commit of changes needs a page
+pub commit_stops : {S R : Type 0} (P : Ghosts S) (T : TapeGhosts R) (platform platform_now : S) (tape tape_now : R) (held now : Option Session) (session : Session) (stop : DeviceStop) → held ≡ Some session → IsOpen session (P.head platform)
+    → P.capacity platform_now ≡ P.capacity platform → (P.tells → IfSome held (IsMounted (P.history platform).present)) → StopsAt P T platform platform_now tape tape_now session stop
+    → MayStop P.tells held (P.history platform_now).present (P.head platform_now) (P.capacity platform_now) Commit stop
+commit_stops P T platform platform_now tape tape_now held now session stops.Platform is there capacity mounted stopped = tt
+commit_stops P T platform platform_now tape tape_now held now session stops.Tape is there capacity mounted stopped = tt
+commit_stops P T platform platform_now tape tape_now held now session stops.Ledger is there capacity mounted stopped = tt
+commit_stops P T platform platform_now tape tape_now held now session stops.Memory is there capacity mounted stopped = (
+  omega (arith, needs_some session (P.head platform) there stopped.touched, stopped.room, stopped.left.0.head, capacity),
+  mounted_has P.tells held session (P.history platform) (P.history platform_now) (λ (s : Session). is_touched s ≡ true) is stopped.left.1 mounted stopped.touched,
+)
+commit_stops P T platform platform_now tape tape_now held now session stops.BadRoot is there capacity mounted stopped = absurd stopped.left
+commit_stops P T platform platform_now tape tape_now held now session (stops.BadRecord addr) is there capacity mounted stopped = absurd stopped.left
+
+-- a write for which no memory is given adds nothing
+pub write_kept : {S R : Type 0} (P : Ghosts S) (T : TapeGhosts R) (platform platform_now : S) (tape tape_now : R) (stop : DeviceStop) → AddsBlock P T platform platform_now tape tape_now (Err stop) → stop ≡ stops.Memory → P.head platform_now ≡ P.head platform
+write_kept P T platform platform_now tape tape_now stop adds e = (subst (λ (s : DeviceStop). AddsBlock P T platform platform_now tape tape_now (Err s)) e adds).head
 
 -- one stop, whatever the answers are beside it
 pub same_stop : {X Y : Type 0} (stop other : DeviceStop) → IsErrOf {T = X} {E = DeviceStop} (Err stop) other → IsErrOf {T = Y} {E = DeviceStop} (Err stop) other

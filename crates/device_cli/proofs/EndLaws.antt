@@ -1,5 +1,5 @@
 -- What the end of an order gives: what is forgotten, and what the words `check` and `seize` say.
-use Rattle.std.proofs.Common.{◌≡◌, ◌≤◌, ◌⊎◌, ℕ, List, Option, None, Result, sym, ◌∙◌, ap, subst}
+use Rattle.std.proofs.Common.{◌≡◌, ◌≤◌, ◌⊎◌, ℕ, List, Option, None, Result, inl, inr, sym, ◌∙◌, ap, subst}
 use Rattle.std.specs.Prelude.{◌≢◌, IfErr}
 use Rattle.sdbt_base.specs.Arrays.{Device, closed}
 use Rattle.platform.specs.History.{History, Steps}
@@ -14,20 +14,23 @@ use Rattle.device_course.specs.Course.{Made}
 use Rattle.device_course.specs.Marks.{last_mark}
 use Rattle.device_course.proofs.ProgramLaws.{Ended}
 use Rattle.device_course.proofs.ReachingLaws.{discloses}
+use Rattle.device_cli.specs.Causes.{HasLacked, IsOf}
 use Rattle.device_cli.specs.Checks.{Checked, Checks, IsSilent, status_at}
+use Rattle.device_cli.specs.Drawing.{DrewUntil}
 use Rattle.device_cli.specs.Handed.{Handed}
+use Rattle.device_cli.specs.Pages.{IfNext}
 use Rattle.device_cli.specs.Program.{ServesScript, Forgets}
 use Rattle.device_cli.specs.Ran.{Ran, AnswersScript, IsComplete}
 use Rattle.line_run.specs.Stops.{Ending, exit_of, HasCause}
 use Rattle.line_run.specs.Puts.{damage_line}
 use Rattle.device_cli.specs.Seizing.{Seizing, Seizes, ReadsFewFor}
-use Rattle.device_cli.specs.World.{World, world}
+use Rattle.device_cli.specs.World.{World, drew_by, world}
 use Rattle.device_cli.specs.declared.checking.Finding.{Finding}
 use Rattle.line_run.specs.declared.stop.Stop.{Stop}
 use Rattle.device_cli.proofs.CheckLaws.{accepted_at, complete_check, cut_at, empty_at, image_stays, refused_at, silent_at, unserved_at}
 use Rattle.device_cli.proofs.CompleteLaws.{complete_ending}
 use Rattle.device_cli.proofs.MappedLaws.{seizes_maps}
-use Rattle.device_cli.proofs.ScriptLaws.{answers_script, made_by}
+use Rattle.device_cli.proofs.ScriptLaws.{answers_with, made_by}
 use Rattle.device_cli.proofs.SeizeWordLaws.{bad_status, complete_seizure}
 
 -- ---- what is forgotten
@@ -38,34 +41,44 @@ forgets tells old new Going e =
     record { discloses = all; seizes = seizes_maps tells old.drawn new.drawn old.history new.history all }
 
 -- one that serves a script
-pub ended_run : (tells : Type 0) (old new : Outside) (Going : Type 0) (was : World) (session : Option Session) (reads : ℕ) (ending : Ending) (left left_now written written_now : Option (List ℕ))
+pub ended_run : (tells : Type 0) (old new : Outside) (Going : Type 0) (was : World) (drawn drawn_now : Option (List (List ℕ))) (session : Option Session) (reads : ℕ) (ending : Ending) (left left_now written written_now : Option (List ℕ))
     → was.session ≡ None → was.history ≡ old.history → was.head ≡ old.head → was.capacity ≡ old.capacity
-    → Ran tells was (world session new.history new.head new.capacity reads) damage_line ending left left_now written written_now
+    → Ran tells (drew_by drawn was) (drew_by drawn_now (world session new.history new.head new.capacity reads)) damage_line ending left left_now written written_now
     → KeepsOn tells old.drawn new.drawn old.written new.written None old.history new.history Going (λ keys. Unit {0}) → Ended tells old new Going
-ended_run tells old new Going was session reads ending left left_now written written_now alone history head capacity ran keeps =
+ended_run tells old new Going was drawn drawn_now session reads ending left left_now written written_now alone history head capacity ran keeps =
     let later = ran.handled.replied.later in
     record {
       later = record { capacity = later.capacity ∙ capacity; rises = subst (λ (n : ℕ). n ≤ new.head) head later.rises; within = later.within };
       keeps = keeps;
       made = subst (λ (h : History). tells → (device : Option Device) → Stands h.present device → IsServedImage h.present
           → (marks : List (Option Device)) × Made h new.history None (closed device) marks (closed (last_mark device marks))) history
-          (made_by tells was session new.history new.head new.capacity reads ending left left_now written written_now alone ran);
+          (made_by tells was drawn drawn_now session new.history new.head new.capacity reads ending left left_now written written_now alone ran);
     }
 
 -- ---- what the words say
 
-pub serves_at : {S R I O L : Type 0} (tells : Type 0) (status : ℕ) (old new : Handed S R I O L) (session : Option Session) (ending : Ending) → old.world.session ≡ None → new.world.session ≡ None → status ≡ exit_of ending
-    → Ran tells old.world (record new.world { session = session }) damage_line ending old.left new.left old.written new.written → IfErr ending (HasCause old.counts new.counts) → ServesScript tells status old new
-serves_at tells status old new session ending alone then_alone is ran cause =
+-- want of memory is told at a line that takes some
+where_lacked : (tells : Type 0) (old new : World) (status : ℕ) (left left_now written written_now : Option (List ℕ)) (Whole : Type 0) (script : AnswersScript tells old new status left left_now written written_now)
+    → (status ≡ 11) ⊎ ((status ≡ 0) × Whole) → ((status ≡ 11) × IfNext script.replies script.lines (IsOf (HasLacked tells new.history.present new.head new.capacity))) ⊎ ((status ≡ 0) × Whole)
+where_lacked tells old new status left left_now written written_now Whole script (inl e) = inl (e, script.no_memory e)
+where_lacked tells old new status left left_now written written_now Whole script (inr whole) = inr whole
+
+pub serves_at : {S R I O L : Type 0} (tells : Type 0) (status : ℕ) (old new : Handed S R I O L) (session : Option Session) (ending : Ending) → old.world.session ≡ None → new.world.session ≡ None → new.world.drawn ≡ None → status ≡ exit_of ending
+    → Ran tells (drew_by old.drawn old.world) (drew_by new.drawn (record new.world { session = session })) damage_line ending old.left new.left old.written new.written → IfErr ending (HasCause old.counts new.counts) → ServesScript tells status old new
+serves_at tells status old new session ending alone then_alone untold is ran cause =
     let now = new.world in
-    let same : world None now.history now.head now.capacity now.reads ≡ now = ap (λ (s : Option Session). record now { session = s }) (sym then_alone) in
-    let script : AnswersScript tells old.world now (exit_of ending) old.left new.left old.written new.written =
-    subst (λ (there : World). AnswersScript tells old.world there (exit_of ending) old.left new.left old.written new.written) same
-    (answers_script tells old.world session now.history now.head now.capacity now.reads ending old.left new.left old.written new.written alone ran) in
+    let Serves : World → ℕ → Type 0 = λ there n. (script : AnswersScript tells old.world there n old.left new.left old.written new.written) × DrewUntil old.drawn script.lines script.replies new.drawn in
+    let same : world None now.history now.head now.capacity now.reads ≡ now =
+    ap (λ (d : Option (List (List ℕ))). record now { session = None; drawn = d }) (sym untold) ∙ ap (λ (s : Option Session). record now { session = s }) (sym then_alone) in
+    let script = answers_with tells old.world old.drawn new.drawn session now.history now.head now.capacity now.reads ending old.left new.left old.written new.written alone ran in
+    let here : Serves now (exit_of ending) = subst (λ (there : World). Serves there (exit_of ending)) same (script.0, script.2) in
+    let all : Serves now status = subst (λ (n : ℕ). Serves now n) (sym is) here in
     record {
-      answers = subst (λ (n : ℕ). AnswersScript tells old.world now n old.left new.left old.written new.written) (sym is) script;
-      complete = λ told there stands served text ample quiet. subst (λ (n : ℕ). (n ≡ 11) ⊎ ((n ≡ 0) × IsComplete (closed there) text old.written new.written)) (sym is)
-          (complete_ending tells old.world now ending old.counts new.counts old.left new.left old.written new.written text there told stands served script ran.taken ran.gave ran.took cause quiet ample);
+      answers = all.0;
+      drew = all.1;
+      complete = λ told there stands served text ample quiet. where_lacked tells old.world now status old.left new.left old.written new.written (IsComplete (closed there) text old.written new.written) all.0
+          (subst (λ (n : ℕ). (n ≡ 11) ⊎ ((n ≡ 0) × IsComplete (closed there) text old.written new.written)) (sym is)
+          (complete_ending tells old.world now ending old.counts new.counts old.left new.left old.written new.written text there told stands served here.0 ran.taken ran.gave ran.took cause quiet ample));
     }
 
 pub checked_at : {S R I O L : Type 0} (tells : Type 0) (status : ℕ) (old new : Handed S R I O L) (ending : Result Finding Stop) → new.tape ≡ old.tape → new.ledger ≡ old.ledger → new.world.head ≡ old.world.head

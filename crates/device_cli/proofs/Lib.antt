@@ -7,7 +7,8 @@ pub mod TurnLaws
 pub mod EnoughLaws
 pub mod PassLaws
 pub mod SeenLaws
-pub mod RangeLaws
+pub mod ReplyLaws
+pub mod DrawingLaws
 pub mod RepliedLaws
 pub mod Serving
 pub mod Reading

@@ -12,7 +12,8 @@ use Rattle.device_course.specs.Marks.{Leaves}
 use Rattle.device_cli.specs.Represents.{Stood}
 use Rattle.device_cli.proofs.RepliedLaws.{made_idle, Replied-idle, Handled-then, count-then}
 use Rattle.device_cli.proofs.PassLaws.{AreMarks-none}
-use Rattle.device_cli.proofs.RangeLaws.{ranges_none}
+use Rattle.device_cli.proofs.DrawingLaws.{until_none}
+use Rattle.device_cli.proofs.ReplyLaws.{so_none}
 use Rattle.script_lang.specs.Replies.{line_of, Reply}
 use Rattle.device_cli.specs.Run.{Took}
 use Rattle.line_run.specs.Stops.{TookUntil, Ending, IsSound, exit_of}
@@ -27,19 +28,19 @@ use Rattle.line_run.proofs.StopLaws.{TookUntil-line}
 
 -- the same after the platform stood still
 pub Ran-after : (tells : Type 0) (old mid new : World) (last : DeviceStop → List ℕ) (ending : Ending) (left left_now a b : Option (List ℕ))
-    → IsLater old mid → mid.head ≡ old.head → (tells → mid.reads ≡ old.reads) → mid.session ≡ old.session
+    → IsLater old mid → mid.head ≡ old.head → (tells → mid.reads ≡ old.reads) → mid.session ≡ old.session → mid.drawn ≡ old.drawn
     → (tells → Extends old.history mid.history) → (tells → (entry : State) → Stood old entry → Stood mid entry × During old.history mid.history (Leaves entry.device))
     → Ran tells mid new last ending left left_now a b → Ran tells old new last ending left left_now a b
-Ran-after tells old mid new last ending left left_now a b later same unread held extends still r = record {
+Ran-after tells old mid new last ending left left_now a b later same unread held undrawn extends still r = record {
   taken = r.taken;
   lines = r.lines;
   gave = r.gave;
   took = r.took;
   come = r.come;
   handled = Handled-then tells old mid new last ending [] r.lines a a b
-      (record { put = []; got = Got-nothing a; replied = Replied-idle tells old mid last later same unread held extends still }) r.handled;
+      (record { put = []; got = Got-nothing a; replied = Replied-idle tells old mid last later same unread held undrawn extends still }) r.handled;
   prompt =
-      let more = count-then tells old mid new last ending [] r.lines a a b (record { put = []; got = Got-nothing a; replied = Replied-idle tells old mid last later same unread held extends still }) r.handled in
+      let more = count-then tells old mid new last ending [] r.lines a a b (record { put = []; got = Got-nothing a; replied = Replied-idle tells old mid last later same unread held undrawn extends still }) r.handled in
       let p = r.prompt in
       record { before = p.before; last = p.last; parts = p.parts; piece = p.piece; served = omega (arith, p.served, more) };
 }
@@ -64,7 +65,7 @@ Ran-other tells old new ending left left_now a b other r = let p = r.handled.rep
   handled = record {
     put = r.handled.put;
     got = r.handled.got;
-    replied = record { replies = p.replies; part = p.part; put_is = p.put_is; behind = IsBehind-other ending p.part other p.behind; many = p.many; stopped = p.stopped; ranges = p.ranges; later = p.later; full = p.full; enough = p.enough; looks = p.looks; answered = p.answered };
+    replied = record { replies = p.replies; part = p.part; put_is = p.put_is; behind = IsBehind-other ending p.part other p.behind; many = p.many; stopped = p.stopped; drew = p.drew; so = p.so; later = p.later; full = p.full; enough = p.enough; looks = p.looks; answered = p.answered };
   };
   prompt = r.prompt;
 }
@@ -94,7 +95,8 @@ Ran-last tells old new stop left left_now a b c r got = let p = r.handled.replie
       behind = refl;
       many = p.many;
       stopped = p.stopped;
-      ranges = p.ranges;
+      drew = p.drew;
+      so = p.so;
       later = p.later;
       full = p.full;
       enough = p.enough;
@@ -125,7 +127,8 @@ Ran-cut tells old new stop left left_now a b c r (n, got) damaged = let p = r.ha
       behind = inr (stop, (n, refl));
       many = p.many;
       stopped = tt;
-      ranges = p.ranges;
+      drew = p.drew;
+      so = p.so;
       later = p.later;
       full = p.full;
       enough = p.enough;
@@ -147,11 +150,11 @@ IsEarly (device.BadRecord addr) = ⊥
 
 -- a run that was stopped before its first line
 pub Ran-refused : (tells : Type 0) (old new : World) (stop : DeviceStop) (left written : Option (List ℕ)) → IsEarly stop
-    → IsLater old new → new.head ≡ old.head → (tells → new.reads ≡ old.reads)
+    → IsLater old new → new.head ≡ old.head → (tells → new.reads ≡ old.reads) → new.drawn ≡ old.drawn
     → (tells → Extends old.history new.history) → (tells → (entry : State) → Stood old entry → Stood new entry × During old.history new.history (Leaves entry.device))
     → (tells → (entry : State) → Stood old entry → IsSound stop) → Ran tells old new no_line (Err (stops.Device stop)) left left written written
 unfolding whole_lines_of
-Ran-refused tells old new stop left written which later same unread extends still sound = record {
+Ran-refused tells old new stop left written which later same unread undrawn extends still sound = record {
   taken = [];
   lines = [];
   gave = Gave-nothing left;
@@ -167,7 +170,8 @@ Ran-refused tells old new stop left written which later same unread extends stil
       behind = refl;
       many = omega arith;
       stopped = early_end stop which;
-      ranges = ranges_none tells old.history new.history [] extends;
+      drew = until_none old.drawn new.drawn [] undrawn;
+      so = so_none tells old.history new.history [] extends;
       later = later;
       full = λ updates enough. tt;
       enough = λ updates enough. tt;
@@ -190,7 +194,7 @@ Ran-refused tells old new stop left written which later same unread extends stil
   prompt = record { before = []; last = []; parts = refl; piece = omega arith; served = omega arith };
 }
   where
-    early_end : (s : DeviceStop) → IsEarly s → IsEndingAt tells new.history.present [] [] (Err (stops.Device s))
+    early_end : (s : DeviceStop) → IsEarly s → IsEndingAt tells new [] [] (Err (stops.Device s))
     early_end device.BadRoot w = tt
     early_end device.Platform w = tt
     early_end device.Memory w = absurd w

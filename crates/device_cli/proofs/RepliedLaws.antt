@@ -24,7 +24,7 @@ use Rattle.script_lang.specs.Arrays.{needs_room}
 use Rattle.line_run.specs.Stops.{IsOfLine, Ending, IsSound}
 use Rattle.device_cli.specs.Looks.{LooksOn}
 use Rattle.device_cli.proofs.LookLaws.{looks_idle, looks_then, looks_longer, looks_weaker}
-use Rattle.device_cli.specs.World.{World, is_full, needed_of, AreEnough, IsLater}
+use Rattle.device_cli.specs.World.{World, drew_by, is_full, needed_of, AreEnough, IsLater}
 use Rattle.device_course.specs.Marks.{Leaves, last_mark}
 use Rattle.device_course.specs.Course.{Made}
 use Rattle.device_course.proofs.MadeLaws.{shut, made_none, made_one, made_stopped, made_then, made_closed}
@@ -33,8 +33,10 @@ use Rattle.device_cli.specs.Added.{left_by, HasAdded, IsNear}
 use Rattle.device_cli.specs.Pages.{needed_for, updates_after, updates_of, TurnOn, AnswersOn, IsShort, AreShort, IfNext}
 use Rattle.device_cli.specs.Replied.{AreMany, IsStopAt, IsEndingAt, IsAhead, AreMarks, EndsIn, Answered, Replied, Handled, Halts, Serves}
 use Rattle.line_run.specs.Puts.{no_line, IsBehind, HasPut}
-use Rattle.device_cli.specs.Causes.{MayStop, RangesOn}
-use Rattle.device_cli.proofs.RangeLaws.{ranges_longer, ranges_none, ranges_then}
+use Rattle.device_cli.specs.Causes.{MayStop, SoOn}
+use Rattle.device_cli.proofs.DrawingLaws.{IfNext-behind, IfNext-longer, until_none, until_then, until_longer}
+use Rattle.device_cli.specs.Drawing.{DrewUntil}
+use Rattle.device_cli.proofs.ReplyLaws.{so_longer, so_none, so_then}
 use Rattle.device_cli.specs.Seen.{Saw, SeenOn}
 use Rattle.device_cli.proofs.SeenLaws.{saw_plain, SeenOn-append, SeenOn-longer}
 use Rattle.line_run.specs.declared.stop.Stop.{Stop}
@@ -64,16 +66,17 @@ made_idle old new entry rep (there, during) =
 
 -- no lines, and nothing put, while the platform stood still
 pub Replied-idle : (tells : Type 0) (old new : World) (last : DeviceStop → List ℕ) → IsLater old new → new.head ≡ old.head → (tells → new.reads ≡ old.reads) → new.session ≡ old.session
-    → (tells → Extends old.history new.history) → (tells → (entry : State) → Stood old entry → Stood new entry × During old.history new.history (Leaves entry.device))
+    → new.drawn ≡ old.drawn → (tells → Extends old.history new.history) → (tells → (entry : State) → Stood old entry → Stood new entry × During old.history new.history (Leaves entry.device))
     → Replied tells old new last (Ok tt) [] []
-Replied-idle tells old new last later same unread held extends still = record {
+Replied-idle tells old new last later same unread held undrawn extends still = record {
   replies = [];
   part = [];
   put_is = refl;
   behind = refl;
   many = refl;
   stopped = tt;
-  ranges = ranges_none tells old.history new.history [] extends;
+  drew = until_none old.drawn new.drawn [] undrawn;
+  so = so_none tells old.history new.history [] extends;
   later = later;
   full = λ updates enough. tt;
   enough = λ updates enough. subst (λ (session : Option Session). AreEnough session updates) (sym held) enough;
@@ -99,7 +102,7 @@ still_there w entry rep = (rep, During-start w.history (Leaves entry.device) (st
 
 -- no lines, and nothing put
 pub Replied-nothing : (tells : Type 0) (w : World) (last : DeviceStop → List ℕ) → w.head ≤ w.capacity → Replied tells w w last (Ok tt) [] []
-Replied-nothing tells w last fits = Replied-idle tells w w last (IsLater-refl w fits) refl (λ told. refl) refl (λ told. Extends-refl w.history) (λ told entry rep. still_there w entry rep)
+Replied-nothing tells w last fits = Replied-idle tells w w last (IsLater-refl w fits) refl (λ told. refl) refl refl (λ told. Extends-refl w.history) (λ told entry rep. still_there w entry rep)
 
 -- what the serving of a line did from a state: a reply that belongs to it, and the state after it
 abbrev pub Turned : World → World → State → ℕ → List ℕ → Reply → Type 0
@@ -129,16 +132,17 @@ TurnsEach tells old new line reply = tells → (entry : State) (updates : ℕ) �
 
 -- a line with its reply
 pub Replied-line : (tells : Type 0) (old new : World) (last : DeviceStop → List ℕ) (line : List ℕ) (reply : Reply)
-    → IsLater old new → RangesOn tells old.history new.history (line ∷ []) (reply ∷ []) → TellsShort old new line reply → StaysEnough old new reply
+    → IsLater old new → DrewUntil old.drawn (line ∷ []) (reply ∷ []) new.drawn → SoOn tells old.history new.history (line ∷ []) (reply ∷ []) → TellsShort old new line reply → StaysEnough old new reply
     → LooksOn tells old new (line ∷ []) (IsOk {T = Unit {0}} {E = Stop} (Ok tt)) → TurnsEach tells old new line reply → Replied tells old new last (Ok tt) (line ∷ []) (line_of reply)
-Replied-line tells old new last line reply later ranges full enough looks turned = record {
+Replied-line tells old new last line reply later drew so full enough looks turned = record {
   replies = reply ∷ [];
   part = [];
   put_is = grind (arith, common_steps);
   behind = refl;
   many = refl;
   stopped = tt;
-  ranges = ranges;
+  drew = drew;
+  so = so;
   later = later;
   full = λ updates paid. (full updates paid, tt);
   enough = enough;
@@ -163,16 +167,17 @@ Replied-line tells old new last line reply later ranges full enough looks turned
 
 -- a line whose reply was put in part
 pub Replied-part : (tells : Type 0) (old new : World) (last : DeviceStop → List ℕ) (line : List ℕ) (reply : Reply) (n : ℕ)
-    → IsLater old new → (tells → Extends old.history new.history) → LooksOn tells old new (line ∷ []) (IsOk {T = Unit {0}} {E = Stop} (Err stops.Sink)) → TurnsEach tells old new line reply
+    → IsLater old new → DrewUntil old.drawn (line ∷ []) [] new.drawn → (tells → Extends old.history new.history) → LooksOn tells old new (line ∷ []) (IsOk {T = Unit {0}} {E = Stop} (Err stops.Sink)) → TurnsEach tells old new line reply
     → Replied tells old new last (Err stops.Sink) (line ∷ []) (take n (line_of reply))
-Replied-part tells old new last line reply n later extends looks turned = record {
+Replied-part tells old new last line reply n later drew extends looks turned = record {
   replies = [];
   part = take n (line_of reply);
   put_is = refl;
   behind = inl (reply, (n, refl));
   many = omega arith;
   stopped = tt;
-  ranges = ranges_none tells old.history new.history (line ∷ []) extends;
+  drew = drew;
+  so = so_none tells old.history new.history (line ∷ []) extends;
   later = later;
   full = λ updates enough. tt;
   enough = λ updates enough. tt;
@@ -245,19 +250,20 @@ left_more device.BadRoot command changes more less = omega arith
 left_more (device.BadRecord addr) command changes more less = omega arith
 
 -- a line that the device stopped at
-pub Replied-stop : (tells : Type 0) (old new : World) (line : List ℕ) (command : Command) (stop : DeviceStop) → Spells line command → IsLater old new → (tells → Extends old.history new.history) → new.head ≤ old.head + left_by stop command (needed_of old.session)
-    → IsEndingAt tells new.history.present [] (line ∷ []) (Err (stops.Device stop))
+pub Replied-stop : (tells : Type 0) (old new : World) (line : List ℕ) (command : Command) (stop : DeviceStop) → Spells line command → IsLater old new → DrewUntil old.drawn (line ∷ []) [] new.drawn → (tells → Extends old.history new.history) → new.head ≤ old.head + left_by stop command (needed_of old.session)
+    → IsEndingAt tells new [] (line ∷ []) (Err (stops.Device stop))
     → LooksOn tells old new (line ∷ []) (IsOk {T = Unit {0}} {E = Stop} (Err (stops.Device stop)))
     → (tells → IsServedImage new.history.present) → (tells → (entry : State) → Stood old entry → Halts old new entry command stop)
     → Replied tells old new no_line (Err (stops.Device stop)) (line ∷ []) []
-Replied-stop tells old new line command stop spells later extends added damage looks served halts = record {
+Replied-stop tells old new line command stop spells later drew extends added damage looks served halts = record {
   replies = [];
   part = [];
   put_is = refl;
   behind = refl;
   many = omega arith;
   stopped = damage;
-  ranges = ranges_none tells old.history new.history (line ∷ []) extends;
+  drew = drew;
+  so = so_none tells old.history new.history (line ∷ []) extends;
   later = later;
   full = λ updates enough. tt;
   enough = λ updates enough. tt;
@@ -278,20 +284,6 @@ Replied-stop tells old new line command stop spells later extends added damage l
         made = h.made;
       };
 }
-
--- the line after all of some, and then more
-IfNext-behind : (P : List ℕ → Type 0) (lines more : List (List ℕ)) (replies others : List Reply) → length replies ≡ length lines
-    → IfNext others more P → IfNext (replies ++ others) (lines ++ more) P
-IfNext-behind P [] more [] others same h = h
-IfNext-behind P [] more (reply ∷ replies) others same h = absurd (omega (arith, same))
-IfNext-behind P (line ∷ lines) more [] others same h = absurd (omega (arith, same))
-IfNext-behind P (line ∷ lines) more (reply ∷ replies) others same h = IfNext-behind P lines more replies others (omega (arith, same)) h
-
-IfNext-longer : (P : List ℕ → Type 0) (lines more : List (List ℕ)) (replies : List Reply) → IfNext replies lines P → IfNext replies (lines ++ more) P
-IfNext-longer P [] more [] h = absurd h
-IfNext-longer P [] more (reply ∷ replies) h = absurd h
-IfNext-longer P (line ∷ lines) more [] h = h
-IfNext-longer P (line ∷ lines) more (reply ∷ replies) h = IfNext-longer P lines more replies h
 
 HasAdded-behind : (most : Command → ℕ) (lines more : List (List ℕ)) (replies others : List Reply) (pages now : ℕ) → length replies ≡ length lines
     → HasAdded most more others pages now → HasAdded most (lines ++ more) (replies ++ others) pages now
@@ -324,22 +316,22 @@ AreMany-then (Err stops.Limit) a b c d e h = omega (arith, e, h)
 AreMany-then (Err stops.Sink) a b c d e h = omega (arith, e, h)
 AreMany-then (Err (stops.Device stop)) a b c d e h = omega (arith, e, h)
 
-IsStopAt-then : (tells : Type 0) (image : Image) (stop : DeviceStop) (lines more : List (List ℕ)) (replies others : List Reply) → length replies ≡ length lines
-    → IsStopAt tells image others more stop → IsStopAt tells image (replies ++ others) (lines ++ more) stop
-IsStopAt-then tells image device.Platform lines more replies others same h = tt
-IsStopAt-then tells image device.BadRoot lines more replies others same h = tt
-IsStopAt-then tells image device.Tape lines more replies others same h = IfNext-behind _ lines more replies others same h
-IsStopAt-then tells image device.Ledger lines more replies others same h = IfNext-behind _ lines more replies others same h
-IsStopAt-then tells image device.Memory lines more replies others same h = IfNext-behind _ lines more replies others same h
-IsStopAt-then tells image (device.BadRecord addr) lines more replies others same h = IfNext-behind _ lines more replies others same h
+IsStopAt-then : (tells : Type 0) (now : World) (stop : DeviceStop) (lines more : List (List ℕ)) (replies others : List Reply) → length replies ≡ length lines
+    → IsStopAt tells now others more stop → IsStopAt tells now (replies ++ others) (lines ++ more) stop
+IsStopAt-then tells now device.Platform lines more replies others same h = tt
+IsStopAt-then tells now device.BadRoot lines more replies others same h = tt
+IsStopAt-then tells now device.Tape lines more replies others same h = IfNext-behind _ lines more replies others same h
+IsStopAt-then tells now device.Ledger lines more replies others same h = IfNext-behind _ lines more replies others same h
+IsStopAt-then tells now device.Memory lines more replies others same h = IfNext-behind _ lines more replies others same h
+IsStopAt-then tells now (device.BadRecord addr) lines more replies others same h = IfNext-behind _ lines more replies others same h
 
-IsEndingAt-then : (tells : Type 0) (image : Image) (ending : Ending) (lines more : List (List ℕ)) (replies others : List Reply) → length replies ≡ length lines
-    → IsEndingAt tells image others more ending → IsEndingAt tells image (replies ++ others) (lines ++ more) ending
-IsEndingAt-then tells image (Ok done) lines more replies others same h = tt
-IsEndingAt-then tells image (Err stops.Source) lines more replies others same h = tt
-IsEndingAt-then tells image (Err stops.Limit) lines more replies others same h = tt
-IsEndingAt-then tells image (Err stops.Sink) lines more replies others same h = tt
-IsEndingAt-then tells image (Err (stops.Device stop)) lines more replies others same h = IsStopAt-then tells image stop lines more replies others same h
+IsEndingAt-then : (tells : Type 0) (now : World) (ending : Ending) (lines more : List (List ℕ)) (replies others : List Reply) → length replies ≡ length lines
+    → IsEndingAt tells now others more ending → IsEndingAt tells now (replies ++ others) (lines ++ more) ending
+IsEndingAt-then tells now (Ok done) lines more replies others same h = tt
+IsEndingAt-then tells now (Err stops.Source) lines more replies others same h = tt
+IsEndingAt-then tells now (Err stops.Limit) lines more replies others same h = tt
+IsEndingAt-then tells now (Err stops.Sink) lines more replies others same h = tt
+IsEndingAt-then tells now (Err (stops.Device stop)) lines more replies others same h = IsStopAt-then tells now stop lines more replies others same h
 
 SeenOn-moved : (old middle new : World) (from : ℕ) (mid now : State) (pages updates pages_now : ℕ) (lines : List (List ℕ)) (replies : List Reply) → middle.capacity ≡ old.capacity → middle.head ≡ pages
     → SeenOn middle.capacity new.history from mid middle.head updates lines replies now pages_now → SeenOn old.capacity new.history from mid pages updates lines replies now pages_now
@@ -427,8 +419,9 @@ Replied-then tells old mid new last ending lines more put others p q =
       put_is = grind (arith, common_steps, flat_map-append line_of p.replies q.replies, p.put_is, q.put_is, p.behind);
       behind = q.behind;
       many = rw (length-append p.replies q.replies, length-append lines more) (AreMany-then ending _ _ _ _ p.many q.many);
-      stopped = IsEndingAt-then tells new.history.present ending lines more p.replies q.replies p.many q.stopped;
-      ranges = ranges_then tells old.history mid.history new.history lines more p.replies q.replies p.many p.ranges q.ranges;
+      stopped = IsEndingAt-then tells new ending lines more p.replies q.replies p.many q.stopped;
+      drew = until_then old.drawn mid.drawn new.drawn lines more p.replies q.replies p.many p.drew q.drew;
+      so = so_then tells old.history mid.history new.history lines more p.replies q.replies p.many p.so q.so;
       later = IsLater-then old mid new p.later q.later;
       full = λ updates paid. AreShort-append new.head new.capacity updates lines more p.replies q.replies p.many
           (AreShort-later mid new updates lines p.replies q.later (p.full updates paid)) (q.full (updates_of updates p.replies) (p.enough updates paid));
@@ -446,21 +439,21 @@ AreMany-longer stops.Limit a b c most line h = absurd line
 AreMany-longer stops.Sink a b c most line h = omega (arith, h)
 AreMany-longer (stops.Device stop) a b c most line h = omega (arith, h)
 
-IsStopAt-longer : (tells : Type 0) (image : Image) (stop : DeviceStop) (lines more : List (List ℕ)) (replies : List Reply)
-    → IsStopAt tells image replies lines stop → IsStopAt tells image replies (lines ++ more) stop
-IsStopAt-longer tells image device.Platform lines more replies h = tt
-IsStopAt-longer tells image device.BadRoot lines more replies h = tt
-IsStopAt-longer tells image device.Tape lines more replies h = IfNext-longer _ lines more replies h
-IsStopAt-longer tells image device.Ledger lines more replies h = IfNext-longer _ lines more replies h
-IsStopAt-longer tells image device.Memory lines more replies h = IfNext-longer _ lines more replies h
-IsStopAt-longer tells image (device.BadRecord addr) lines more replies h = IfNext-longer _ lines more replies h
+IsStopAt-longer : (tells : Type 0) (now : World) (stop : DeviceStop) (lines more : List (List ℕ)) (replies : List Reply)
+    → IsStopAt tells now replies lines stop → IsStopAt tells now replies (lines ++ more) stop
+IsStopAt-longer tells now device.Platform lines more replies h = tt
+IsStopAt-longer tells now device.BadRoot lines more replies h = tt
+IsStopAt-longer tells now device.Tape lines more replies h = IfNext-longer _ lines more replies h
+IsStopAt-longer tells now device.Ledger lines more replies h = IfNext-longer _ lines more replies h
+IsStopAt-longer tells now device.Memory lines more replies h = IfNext-longer _ lines more replies h
+IsStopAt-longer tells now (device.BadRecord addr) lines more replies h = IfNext-longer _ lines more replies h
 
-IsEndingAt-longer : (tells : Type 0) (image : Image) (stop : Stop) (lines more : List (List ℕ)) (replies : List Reply)
-    → IsEndingAt tells image replies lines (Err stop) → IsEndingAt tells image replies (lines ++ more) (Err stop)
-IsEndingAt-longer tells image stops.Source lines more replies h = tt
-IsEndingAt-longer tells image stops.Limit lines more replies h = tt
-IsEndingAt-longer tells image stops.Sink lines more replies h = tt
-IsEndingAt-longer tells image (stops.Device stop) lines more replies h = IsStopAt-longer tells image stop lines more replies h
+IsEndingAt-longer : (tells : Type 0) (now : World) (stop : Stop) (lines more : List (List ℕ)) (replies : List Reply)
+    → IsEndingAt tells now replies lines (Err stop) → IsEndingAt tells now replies (lines ++ more) (Err stop)
+IsEndingAt-longer tells now stops.Source lines more replies h = tt
+IsEndingAt-longer tells now stops.Limit lines more replies h = tt
+IsEndingAt-longer tells now stops.Sink lines more replies h = tt
+IsEndingAt-longer tells now (stops.Device stop) lines more replies h = IsStopAt-longer tells now stop lines more replies h
 
 EndsIn-longer : (old new : World) (stop : Stop) (entry now : State) (updates : ℕ) (lines more : List (List ℕ)) (replies : List Reply) (part : List ℕ) (pages : ℕ)
     → EndsIn old new entry updates lines replies part now pages (Err stop) → EndsIn old new entry updates (lines ++ more) replies part now pages (Err stop)
@@ -479,8 +472,9 @@ Replied-longer tells old new last stop lines more put line p = record {
   put_is = p.put_is;
   behind = p.behind;
   many = AreMany-longer stop (length p.replies) (length lines) (length (lines ++ more)) (omega (arith, length-append lines more)) line p.many;
-  stopped = IsEndingAt-longer tells new.history.present stop lines more p.replies p.stopped;
-  ranges = ranges_longer tells old.history new.history lines more p.replies p.ranges;
+  stopped = IsEndingAt-longer tells new stop lines more p.replies p.stopped;
+  drew = until_longer old.drawn new.drawn lines more p.replies p.drew;
+  so = so_longer tells old.history new.history lines more p.replies p.so;
   later = p.later;
   full = λ updates enough. AreShort-longer new.head new.capacity updates lines more p.replies (p.full updates enough);
   enough = λ updates enough. tt;
@@ -519,7 +513,7 @@ Handled-longer tells old new last stop lines more a b line p =
 
 -- lines that have their replies, and then a stop
 stopped : (tells : Type 0) (old new : World) (last : DeviceStop → List ℕ) (stop : Stop) (lines : List (List ℕ)) (put : List ℕ) (p : Replied tells old new last (Ok tt) lines put)
-    → IsBehind line_of last p.part (Err stop) → AreMany (length p.replies) (length lines) (Err stop) → IsEndingAt tells new.history.present p.replies lines (Err stop)
+    → IsBehind line_of last p.part (Err stop) → AreMany (length p.replies) (length lines) (Err stop) → IsEndingAt tells new p.replies lines (Err stop)
     → ((entry : State) (updates : ℕ) → Answered old new (Ok tt) entry updates lines p.replies p.part → Answered old new (Err stop) entry updates lines p.replies p.part)
     → Replied tells old new last (Err stop) lines put
 stopped tells old new last stop lines put p behind many damage answered = record {
@@ -529,7 +523,8 @@ stopped tells old new last stop lines put p behind many damage answered = record
   behind = behind;
   many = many;
   stopped = damage;
-  ranges = p.ranges;
+  drew = p.drew;
+  so = p.so;
   later = p.later;
   full = p.full;
   enough = λ updates enough. tt;
@@ -554,16 +549,16 @@ Handled-cut tells old new last lines a b p = let cut = Replied-cut tells old new
 
 -- a line whose reply was put, whole or in part
 pub Handled-line : (tells : Type 0) (old new : World) (last : DeviceStop → List ℕ) (line : List ℕ) (reply : Reply) (ending : Ending) (a b : Option (List ℕ))
-    → IsLater old new → RangesOn tells old.history new.history (line ∷ []) (reply ∷ []) → TellsShort old new line reply → StaysEnough old new reply
-    → LooksOn tells old new (line ∷ []) (IsOk ending) → TurnsEach tells old new line reply → HasPut (line_of reply) ending a b
+    → IsLater old new → DrewUntil old.drawn (line ∷ []) (reply ∷ []) new.drawn → DrewUntil old.drawn (line ∷ []) [] new.drawn → SoOn tells old.history new.history (line ∷ []) (reply ∷ []) → TellsShort old new line reply
+    → StaysEnough old new reply → LooksOn tells old new (line ∷ []) (IsOk ending) → TurnsEach tells old new line reply → HasPut (line_of reply) ending a b
     → Handled tells old new last ending (line ∷ []) a b
-Handled-line tells old new last line reply (Ok done) a b later ranges full enough looks turned put =
-    record { put = line_of reply; got = put; replied = Replied-line tells old new last line reply later ranges full enough looks turned }
-Handled-line tells old new last line reply (Err stops.Sink) a b later ranges full enough looks turned (n, put) =
-    record { put = take n (line_of reply); got = put; replied = Replied-part tells old new last line reply n later (λ told. (ranges told).0) looks turned }
-Handled-line tells old new last line reply (Err stops.Source) a b later ranges full enough looks turned put = absurd put
-Handled-line tells old new last line reply (Err stops.Limit) a b later ranges full enough looks turned put = absurd put
-Handled-line tells old new last line reply (Err (stops.Device stop)) a b later ranges full enough looks turned put = absurd put
+Handled-line tells old new last line reply (Ok done) a b later drew cut so full enough looks turned put =
+    record { put = line_of reply; got = put; replied = Replied-line tells old new last line reply later drew so full enough looks turned }
+Handled-line tells old new last line reply (Err stops.Sink) a b later drew cut so full enough looks turned (n, put) =
+    record { put = take n (line_of reply); got = put; replied = Replied-part tells old new last line reply n later cut (λ told. (so told).0) looks turned }
+Handled-line tells old new last line reply (Err stops.Source) a b later drew cut so full enough looks turned put = absurd put
+Handled-line tells old new last line reply (Err stops.Limit) a b later drew cut so full enough looks turned put = absurd put
+Handled-line tells old new last line reply (Err (stops.Device stop)) a b later drew cut so full enough looks turned put = absurd put
 
 -- a line outside the grammar
 pub turned_bad : (w : World) (entry : State) (updates : ℕ) (line : List ℕ) → IsBad line → Stood w entry → Turned w w entry updates line Bad
@@ -607,24 +602,34 @@ pub tells_short : (old new : World) (line : List ℕ) (command : Command) (reply
 tells_short old new line command reply spells later full updates enough e =
     (command, spells, short_of command (needed_of old.session) updates new.head new.capacity enough later.within (full e))
 
-stops_there : (tells : Type 0) (image : Image) (line : List ℕ) (command : Command) (stop : DeviceStop) → Spells line command → MayStop tells image command stop → IsStopAt tells image [] (line ∷ []) stop
-stops_there tells image line command device.Platform spells may = tt
-stops_there tells image line command device.BadRoot spells may = tt
-stops_there tells image line command device.Tape spells may = (command, spells, may)
-stops_there tells image line command device.Ledger spells may = (command, spells, may)
-stops_there tells image line command device.Memory spells may = (command, spells, may)
-stops_there tells image line command (device.BadRecord addr) spells may = (command, spells, may)
+stops_there : (tells : Type 0) (held : Option Session) (now : World) (line : List ℕ) (command : Command) (stop : DeviceStop) → Spells line command → MayStop tells held now.history.present now.head now.capacity command stop → IsStopAt tells now [] (line ∷ []) stop
+stops_there tells held now line command device.Platform spells may = tt
+stops_there tells held now line command device.BadRoot spells may = tt
+stops_there tells held now line command device.Tape spells may = (command, spells, may)
+stops_there tells held now line command device.Ledger spells may = (command, spells, may)
+stops_there tells held now line command device.Memory spells may = (command, spells, (held, may))
+stops_there tells held now line command (device.BadRecord addr) spells may = (command, spells, may)
+
+-- what a stop leaves says nothing of the tape
+pub halts_by : (old new : World) (drawn drawn_now : Option (List (List ℕ))) (entry : State) (command : Command) (stop : DeviceStop) → Halts old new entry command stop → Halts (drew_by drawn old) (drew_by drawn_now new) entry command stop
+halts_by old new drawn drawn_now entry command device.Platform h = h
+halts_by old new drawn drawn_now entry command device.Tape h = h
+halts_by old new drawn drawn_now entry command device.Ledger h = h
+halts_by old new drawn drawn_now entry command device.Memory h = h
+halts_by old new drawn drawn_now entry command device.BadRoot h = h
+halts_by old new drawn drawn_now entry command (device.BadRecord addr) h = h
 
 -- a line that the device stopped at
 pub Handled-stop : (tells : Type 0) (old new : World) (line : List ℕ) (command : Command) (stop : DeviceStop) (written : Option (List ℕ)) → Spells line command
-    → IsLater old new → (tells → Extends old.history new.history) → new.head ≤ old.head + left_by stop command (needed_of old.session) → MayStop tells new.history.present command stop
+    → IsLater old new → DrewUntil old.drawn (line ∷ []) [] new.drawn → (tells → Extends old.history new.history) → new.head ≤ old.head + left_by stop command (needed_of old.session)
+    → MayStop tells old.session new.history.present new.head new.capacity command stop
     → LooksOn tells old new (line ∷ []) (IsOk {T = Unit {0}} {E = Stop} (Err (stops.Device stop)))
     → (tells → IsServedImage new.history.present) → (tells → (entry : State) → Stood old entry → Halts old new entry command stop)
     → Handled tells old new no_line (Err (stops.Device stop)) (line ∷ []) written written
-Handled-stop tells old new line command stop written spells later extends added may looks served halts = record {
+Handled-stop tells old new line command stop written spells later drew extends added may looks served halts = record {
   put = [];
   got = Got-nothing written;
-  replied = Replied-stop tells old new line command stop spells later extends added (stops_there tells new.history.present line command stop spells may) looks served halts;
+  replied = Replied-stop tells old new line command stop spells later drew extends added (stops_there tells old.session new line command stop spells may) looks served halts;
 }
 
 -- the same lines
@@ -639,8 +644,9 @@ Handled-lines tells old new last ending lines others a b same p = let r = p.repl
     put_is = r.put_is;
     behind = r.behind;
     many = subst (λ (ls : List (List ℕ)). AreMany (length r.replies) (length ls) ending) same r.many;
-    stopped = subst (λ (ls : List (List ℕ)). IsEndingAt tells new.history.present r.replies ls ending) same r.stopped;
-    ranges = subst (λ (ls : List (List ℕ)). RangesOn tells old.history new.history ls r.replies) same r.ranges;
+    stopped = subst (λ (ls : List (List ℕ)). IsEndingAt tells new r.replies ls ending) same r.stopped;
+    drew = subst (λ (ls : List (List ℕ)). DrewUntil old.drawn ls r.replies new.drawn) same r.drew;
+    so = subst (λ (ls : List (List ℕ)). SoOn tells old.history new.history ls r.replies) same r.so;
     later = r.later;
     full = λ updates enough. subst (λ (ls : List (List ℕ)). AreShort new.head new.capacity updates ls r.replies) same (r.full updates enough);
     enough = r.enough;

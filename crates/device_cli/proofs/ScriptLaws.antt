@@ -10,7 +10,7 @@ use Rattle.script_lang.specs.Commands.{Command, Commit}
 use Rattle.device_terms.specs.Served.{IsServedImage}
 use Rattle.device_session.specs.Sessions.{Session}
 use Rattle.platform.specs.History.{History}
-use Rattle.device_cli.specs.World.{World, world, AreEnough}
+use Rattle.device_cli.specs.World.{World, drew_by, world, AreEnough}
 use Rattle.device_cli.specs.Looks.{IsWarmFor}
 use Rattle.device_course.specs.States.{IsSessionOf}
 use Rattle.device_cli.specs.Represents.{StandsFor, Represents}
@@ -18,7 +18,8 @@ use Rattle.platform.specs.Runs.{Passes}
 use Rattle.device_cli.specs.Replied.{HasMark, AreMany, IsEndingAt, IsAhead, EndsIn, Answered}
 use Rattle.line_run.specs.Stops.{Ending, exit_of}
 use Rattle.line_run.specs.Puts.{IsBehind, IsFirstPart, damage_line, AreLines, HaveCome}
-use Rattle.device_cli.specs.Causes.{Draws, PutsEntry, TakesMemory, MeetsRecord, IsOf}
+use Rattle.device_cli.specs.Causes.{Draws, PutsEntry, HasLacked, MeetsRecord, IsOf}
+use Rattle.device_cli.specs.Drawing.{DrewUntil}
 use Rattle.device_cli.specs.Added.{left_by, HasAdded, IsNear}
 use Rattle.device_cli.specs.Pages.{needed_for, updates_of, accepted, AnswersOn, IfNext}
 use Rattle.device_cli.proofs.TurnLaws.{answers_bound, needed_most}
@@ -108,57 +109,57 @@ bad_root (Err (stops.Device device.Ledger)) part h e = absurd (omega (arith, e))
 bad_root (Err (stops.Device device.BadRoot)) part h e = h
 bad_root (Err (stops.Device (device.BadRecord addr))) part h e = absurd (omega (arith, e))
 
-bad_record : (tells : Type 0) (image : Image) (ending : Ending) (part : List ℕ) (replies : List Reply) (lines : List (List ℕ)) → IsBehind line_of damage_line part ending → IsEndingAt tells image replies lines ending
-    → exit_of ending ≡ 9 → (addr : ℕ) × (part ≡ damage_line (device.BadRecord addr)) × IfNext replies lines (IsOf (λ command. MeetsRecord tells image command addr))
-bad_record tells image (Ok done) part replies lines h d e = absurd (omega (arith, e))
-bad_record tells image (Err stops.Source) part replies lines h d e = absurd (omega (arith, e))
-bad_record tells image (Err stops.Sink) part replies lines h d e = absurd (omega (arith, e))
-bad_record tells image (Err stops.Limit) part replies lines h d e = absurd (omega (arith, e))
-bad_record tells image (Err (stops.Device device.Platform)) part replies lines h d e = absurd (omega (arith, e))
-bad_record tells image (Err (stops.Device device.Tape)) part replies lines h d e = absurd (omega (arith, e))
-bad_record tells image (Err (stops.Device device.Memory)) part replies lines h d e = absurd (omega (arith, e))
-bad_record tells image (Err (stops.Device device.Ledger)) part replies lines h d e = absurd (omega (arith, e))
-bad_record tells image (Err (stops.Device device.BadRoot)) part replies lines h d e = absurd (omega (arith, e))
-bad_record tells image (Err (stops.Device (device.BadRecord addr))) part replies lines h d e = (addr, h, d)
+bad_record : (tells : Type 0) (now : World) (ending : Ending) (part : List ℕ) (replies : List Reply) (lines : List (List ℕ)) → IsBehind line_of damage_line part ending → IsEndingAt tells now replies lines ending
+    → exit_of ending ≡ 9 → (addr : ℕ) × (part ≡ damage_line (device.BadRecord addr)) × IfNext replies lines (IsOf (λ command. MeetsRecord tells now.history.present command addr))
+bad_record tells now (Ok done) part replies lines h d e = absurd (omega (arith, e))
+bad_record tells now (Err stops.Source) part replies lines h d e = absurd (omega (arith, e))
+bad_record tells now (Err stops.Sink) part replies lines h d e = absurd (omega (arith, e))
+bad_record tells now (Err stops.Limit) part replies lines h d e = absurd (omega (arith, e))
+bad_record tells now (Err (stops.Device device.Platform)) part replies lines h d e = absurd (omega (arith, e))
+bad_record tells now (Err (stops.Device device.Tape)) part replies lines h d e = absurd (omega (arith, e))
+bad_record tells now (Err (stops.Device device.Memory)) part replies lines h d e = absurd (omega (arith, e))
+bad_record tells now (Err (stops.Device device.Ledger)) part replies lines h d e = absurd (omega (arith, e))
+bad_record tells now (Err (stops.Device device.BadRoot)) part replies lines h d e = absurd (omega (arith, e))
+bad_record tells now (Err (stops.Device (device.BadRecord addr))) part replies lines h d e = (addr, h, d)
 
-no_key : (tells : Type 0) (image : Image) (ending : Ending) (replies : List Reply) (lines : List (List ℕ)) → IsEndingAt tells image replies lines ending
+no_key : (tells : Type 0) (now : World) (ending : Ending) (replies : List Reply) (lines : List (List ℕ)) → IsEndingAt tells now replies lines ending
     → exit_of ending ≡ 6 → IfNext replies lines (IsOf Draws)
-no_key tells image (Ok done) replies lines d e = absurd (omega (arith, e))
-no_key tells image (Err stops.Source) replies lines d e = absurd (omega (arith, e))
-no_key tells image (Err stops.Sink) replies lines d e = absurd (omega (arith, e))
-no_key tells image (Err stops.Limit) replies lines d e = absurd (omega (arith, e))
-no_key tells image (Err (stops.Device device.Platform)) replies lines d e = absurd (omega (arith, e))
-no_key tells image (Err (stops.Device device.Tape)) replies lines d e = d
-no_key tells image (Err (stops.Device device.Memory)) replies lines d e = absurd (omega (arith, e))
-no_key tells image (Err (stops.Device device.Ledger)) replies lines d e = absurd (omega (arith, e))
-no_key tells image (Err (stops.Device device.BadRoot)) replies lines d e = absurd (omega (arith, e))
-no_key tells image (Err (stops.Device (device.BadRecord addr))) replies lines d e = absurd (omega (arith, e))
+no_key tells now (Ok done) replies lines d e = absurd (omega (arith, e))
+no_key tells now (Err stops.Source) replies lines d e = absurd (omega (arith, e))
+no_key tells now (Err stops.Sink) replies lines d e = absurd (omega (arith, e))
+no_key tells now (Err stops.Limit) replies lines d e = absurd (omega (arith, e))
+no_key tells now (Err (stops.Device device.Platform)) replies lines d e = absurd (omega (arith, e))
+no_key tells now (Err (stops.Device device.Tape)) replies lines d e = d
+no_key tells now (Err (stops.Device device.Memory)) replies lines d e = absurd (omega (arith, e))
+no_key tells now (Err (stops.Device device.Ledger)) replies lines d e = absurd (omega (arith, e))
+no_key tells now (Err (stops.Device device.BadRoot)) replies lines d e = absurd (omega (arith, e))
+no_key tells now (Err (stops.Device (device.BadRecord addr))) replies lines d e = absurd (omega (arith, e))
 
-no_entry : (tells : Type 0) (image : Image) (ending : Ending) (replies : List Reply) (lines : List (List ℕ)) → IsEndingAt tells image replies lines ending
+no_entry : (tells : Type 0) (now : World) (ending : Ending) (replies : List Reply) (lines : List (List ℕ)) → IsEndingAt tells now replies lines ending
     → exit_of ending ≡ 7 → IfNext replies lines (IsOf PutsEntry)
-no_entry tells image (Ok done) replies lines d e = absurd (omega (arith, e))
-no_entry tells image (Err stops.Source) replies lines d e = absurd (omega (arith, e))
-no_entry tells image (Err stops.Sink) replies lines d e = absurd (omega (arith, e))
-no_entry tells image (Err stops.Limit) replies lines d e = absurd (omega (arith, e))
-no_entry tells image (Err (stops.Device device.Platform)) replies lines d e = absurd (omega (arith, e))
-no_entry tells image (Err (stops.Device device.Tape)) replies lines d e = absurd (omega (arith, e))
-no_entry tells image (Err (stops.Device device.Memory)) replies lines d e = absurd (omega (arith, e))
-no_entry tells image (Err (stops.Device device.Ledger)) replies lines d e = d
-no_entry tells image (Err (stops.Device device.BadRoot)) replies lines d e = absurd (omega (arith, e))
-no_entry tells image (Err (stops.Device (device.BadRecord addr))) replies lines d e = absurd (omega (arith, e))
+no_entry tells now (Ok done) replies lines d e = absurd (omega (arith, e))
+no_entry tells now (Err stops.Source) replies lines d e = absurd (omega (arith, e))
+no_entry tells now (Err stops.Sink) replies lines d e = absurd (omega (arith, e))
+no_entry tells now (Err stops.Limit) replies lines d e = absurd (omega (arith, e))
+no_entry tells now (Err (stops.Device device.Platform)) replies lines d e = absurd (omega (arith, e))
+no_entry tells now (Err (stops.Device device.Tape)) replies lines d e = absurd (omega (arith, e))
+no_entry tells now (Err (stops.Device device.Memory)) replies lines d e = absurd (omega (arith, e))
+no_entry tells now (Err (stops.Device device.Ledger)) replies lines d e = d
+no_entry tells now (Err (stops.Device device.BadRoot)) replies lines d e = absurd (omega (arith, e))
+no_entry tells now (Err (stops.Device (device.BadRecord addr))) replies lines d e = absurd (omega (arith, e))
 
-no_memory : (tells : Type 0) (image : Image) (ending : Ending) (replies : List Reply) (lines : List (List ℕ)) → IsEndingAt tells image replies lines ending
-    → exit_of ending ≡ 11 → IfNext replies lines (IsOf TakesMemory)
-no_memory tells image (Ok done) replies lines d e = absurd (omega (arith, e))
-no_memory tells image (Err stops.Source) replies lines d e = absurd (omega (arith, e))
-no_memory tells image (Err stops.Sink) replies lines d e = absurd (omega (arith, e))
-no_memory tells image (Err stops.Limit) replies lines d e = absurd (omega (arith, e))
-no_memory tells image (Err (stops.Device device.Platform)) replies lines d e = absurd (omega (arith, e))
-no_memory tells image (Err (stops.Device device.Tape)) replies lines d e = absurd (omega (arith, e))
-no_memory tells image (Err (stops.Device device.Memory)) replies lines d e = d
-no_memory tells image (Err (stops.Device device.Ledger)) replies lines d e = absurd (omega (arith, e))
-no_memory tells image (Err (stops.Device device.BadRoot)) replies lines d e = absurd (omega (arith, e))
-no_memory tells image (Err (stops.Device (device.BadRecord addr))) replies lines d e = absurd (omega (arith, e))
+no_memory : (tells : Type 0) (now : World) (ending : Ending) (replies : List Reply) (lines : List (List ℕ)) → IsEndingAt tells now replies lines ending
+    → exit_of ending ≡ 11 → IfNext replies lines (IsOf (HasLacked tells now.history.present now.head now.capacity))
+no_memory tells now (Ok done) replies lines d e = absurd (omega (arith, e))
+no_memory tells now (Err stops.Source) replies lines d e = absurd (omega (arith, e))
+no_memory tells now (Err stops.Sink) replies lines d e = absurd (omega (arith, e))
+no_memory tells now (Err stops.Limit) replies lines d e = absurd (omega (arith, e))
+no_memory tells now (Err (stops.Device device.Platform)) replies lines d e = absurd (omega (arith, e))
+no_memory tells now (Err (stops.Device device.Tape)) replies lines d e = absurd (omega (arith, e))
+no_memory tells now (Err (stops.Device device.Memory)) replies lines d e = d
+no_memory tells now (Err (stops.Device device.Ledger)) replies lines d e = absurd (omega (arith, e))
+no_memory tells now (Err (stops.Device device.BadRoot)) replies lines d e = absurd (omega (arith, e))
+no_memory tells now (Err (stops.Device (device.BadRecord addr))) replies lines d e = absurd (omega (arith, e))
 
 cut : (ending : Ending) (part : List ℕ) → IsBehind line_of damage_line part ending → exit_of ending ≡ 4
     → ((reply : Reply) × IsFirstPart (line_of reply) part) ⊎ ((stop : DeviceStop) × IsFirstPart (damage_line stop) part)
@@ -352,10 +353,10 @@ answers_from old new ending entry lines replies part f = record {
   exits = exits_of new.history.present entry lines replies f.ahead f.marks f.are f.made.exits.there.device;
 }
 
--- what is said of a run's end says nothing of its session
-forget : (old : World) (session : Option Session) (history : History) (head capacity reads : ℕ) (status : ℕ) (entry : State) (lines : List (List ℕ)) (replies : List Reply) (part : List ℕ)
-    → AnswersFrom old (world session history head capacity reads) status entry lines replies part → AnswersFrom old (world None history head capacity reads) status entry lines replies part
-forget old session history head capacity reads status entry lines replies part f = record {
+-- what is said of a run's end says nothing of its session, and of its tape
+forget : (old : World) (drawn drawn_now : Option (List (List ℕ))) (session : Option Session) (history : History) (head capacity reads : ℕ) (status : ℕ) (entry : State) (lines : List (List ℕ)) (replies : List Reply) (part : List ℕ)
+    → AnswersFrom (drew_by drawn old) (drew_by drawn_now (world session history head capacity reads)) status entry lines replies part → AnswersFrom old (world None history head capacity reads) status entry lines replies part
+forget old drawn drawn_now session history head capacity reads status entry lines replies part f = record {
   now = f.now;
   pages = f.pages;
   answers = f.answers;
@@ -379,10 +380,10 @@ enough_alone : (held : Option Session) → held ≡ None → AreEnough held 0
 enough_alone held alone = subst (λ (session : Option Session). AreEnough session 0) (sym alone) (omega arith)
 
 -- a run answers the script, whatever session it ends with
-pub answers_script : (tells : Type 0) (old : World) (session : Option Session) (history : History) (head capacity reads : ℕ) (ending : Ending) (left left_now written written_now : Option (List ℕ))
-    → old.session ≡ None → Ran tells old (world session history head capacity reads) damage_line ending left left_now written written_now
+pub answers_script : (tells : Type 0) (old : World) (drawn drawn_now : Option (List (List ℕ))) (session : Option Session) (history : History) (head capacity reads : ℕ) (ending : Ending) (left left_now written written_now : Option (List ℕ))
+    → old.session ≡ None → Ran tells (drew_by drawn old) (drew_by drawn_now (world session history head capacity reads)) damage_line ending left left_now written written_now
     → AnswersScript tells old (world None history head capacity reads) (exit_of ending) left left_now written written_now
-answers_script tells old session history head capacity reads ending left left_now written written_now alone r = let p = r.handled.replied in record {
+answers_script tells old drawn drawn_now session history head capacity reads ending left left_now written written_now alone r = let p = r.handled.replied in record {
   taken = r.taken;
   gave = r.gave;
   lines = r.lines;
@@ -396,34 +397,34 @@ answers_script tells old session history head capacity reads ending left left_no
   whole = whole ending (length p.replies) (length r.lines) r.taken left_now r.lines p.many r.come;
   no_part = no_part ending p.part p.behind;
   bad_root = bad_root ending p.part p.behind;
-  bad_record = bad_record tells history.present ending p.part p.replies r.lines p.behind p.stopped;
-  no_key = no_key tells history.present ending p.replies r.lines p.stopped;
-  no_entry = no_entry tells history.present ending p.replies r.lines p.stopped;
-  no_memory = no_memory tells history.present ending p.replies r.lines p.stopped;
+  bad_record = bad_record tells (drew_by drawn_now (world session history head capacity reads)) ending p.part p.replies r.lines p.behind p.stopped;
+  no_key = no_key tells (drew_by drawn_now (world session history head capacity reads)) ending p.replies r.lines p.stopped;
+  no_entry = no_entry tells (drew_by drawn_now (world session history head capacity reads)) ending p.replies r.lines p.stopped;
+  no_memory = no_memory tells (drew_by drawn_now (world session history head capacity reads)) ending p.replies r.lines p.stopped;
   cut = cut ending p.part p.behind;
   full = p.full 0 (enough_alone old.session alone);
-  ranges = λ told. (p.ranges told).1;
+  so = λ told. (p.so told).1;
   looks = λ told most last h. (p.looks told None last most (subst (λ (held : Option Session). IsWarmFor held None) (sym alone) tt) h).0;
   answered = λ told there stands served.
-      forget old session history head capacity reads (exit_of ending) (closed there) r.lines p.replies p.part
-      (answers_from old (world session history head capacity reads) ending (closed there) r.lines p.replies p.part
+      forget old drawn drawn_now session history head capacity reads (exit_of ending) (closed there) r.lines p.replies p.part
+      (answers_from (drew_by drawn old) (drew_by drawn_now (world session history head capacity reads)) ending (closed there) r.lines p.replies p.part
       (p.answered told (closed there) 0 (record { there = alone_on old there alone stands; served = served }) (enough_alone old.session alone)));
 }
 
--- and with its replies
-pub answers_with : (tells : Type 0) (old : World) (session : Option Session) (history : History) (head capacity reads : ℕ) (ending : Ending) (left left_now written written_now : Option (List ℕ))
-    → old.session ≡ None → (r : Ran tells old (world session history head capacity reads) damage_line ending left left_now written written_now)
-    → (script : AnswersScript tells old (world None history head capacity reads) (exit_of ending) left left_now written written_now) × (script.replies ≡ r.handled.replied.replies)
+-- and with its replies, and the keys that its lines drew
+pub answers_with : (tells : Type 0) (old : World) (drawn drawn_now : Option (List (List ℕ))) (session : Option Session) (history : History) (head capacity reads : ℕ) (ending : Ending) (left left_now written written_now : Option (List ℕ))
+    → old.session ≡ None → (r : Ran tells (drew_by drawn old) (drew_by drawn_now (world session history head capacity reads)) damage_line ending left left_now written written_now)
+    → (script : AnswersScript tells old (world None history head capacity reads) (exit_of ending) left left_now written written_now) × (script.replies ≡ r.handled.replied.replies) × DrewUntil drawn script.lines script.replies drawn_now
 unfolding answers_script
-answers_with tells old session history head capacity reads ending left left_now written written_now alone r =
-    (answers_script tells old session history head capacity reads ending left left_now written written_now alone r, refl)
+answers_with tells old drawn drawn_now session history head capacity reads ending left left_now written written_now alone r =
+    (answers_script tells old drawn drawn_now session history head capacity reads ending left left_now written written_now alone r, refl, r.handled.replied.drew)
 
 -- which devices a run made, whatever session it ends with
-pub made_by : (tells : Type 0) (old : World) (session : Option Session) (history : History) (head capacity reads : ℕ) (ending : Ending) (left left_now written written_now : Option (List ℕ))
-    → old.session ≡ None → Ran tells old (world session history head capacity reads) damage_line ending left left_now written written_now
+pub made_by : (tells : Type 0) (old : World) (drawn drawn_now : Option (List (List ℕ))) (session : Option Session) (history : History) (head capacity reads : ℕ) (ending : Ending) (left left_now written written_now : Option (List ℕ))
+    → old.session ≡ None → Ran tells (drew_by drawn old) (drew_by drawn_now (world session history head capacity reads)) damage_line ending left left_now written written_now
     → tells → (there : Option Device) → StandsFor old.history.present there → IsServedImage old.history.present
     → (marks : List (Option Device)) × Made old.history history None (closed there) marks (closed (last_mark there marks))
-made_by tells old session history head capacity reads ending left left_now written written_now alone r told there stands served =
+made_by tells old drawn drawn_now session history head capacity reads ending left left_now written written_now alone r told there stands served =
     let f = r.handled.replied.answered told (closed there) 0 (record { there = alone_on old there alone stands; served = served }) (enough_alone old.session alone) in
     (f.marks, f.made)
 
@@ -450,7 +451,7 @@ answers_nothing tells w left written = record {
   no_memory = λ e. absurd (omega (arith, e));
   cut = λ e. absurd (omega (arith, e));
   full = tt;
-  ranges = λ told. tt;
+  so = λ told. tt;
   looks = λ told most last h. omega (arith, h.0);
   answered = λ told there stands served. record {
     now = closed there;

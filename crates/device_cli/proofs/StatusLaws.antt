@@ -114,14 +114,14 @@ says_untaken seed count replies (Err stops.Sink) written now ending says e = sto
 says_untaken seed count replies (Err stops.Source) written now ending says e = says
 says_untaken seed count replies (Err stops.Limit) written now ending says e = says
 
-pub work_status : (tells : Type 0) (seed count : ℕ) (old new : World) (written written_now : Option (List ℕ)) (words : List (List ℕ)) (status : ℕ) (ending : Ending)
-    → IsIdle old new written written_now ending ⊎ Worked tells seed count old new written written_now ending → status ≡ exit_of ending → AreWorkWords seed count words → IsStatusOf words status
-work_status tells seed count old new written now words status ending course is work = record {
+pub work_status : (tells : Type 0) (seed count : ℕ) (old new was now : World) (written written_now : Option (List ℕ)) (words : List (List ℕ)) (status : ℕ) (ending : Ending)
+    → IsIdle old new written written_now ending ⊎ Worked tells seed count was now written written_now ending → status ≡ exit_of ending → AreWorkWords seed count words → IsStatusOf words status
+work_status tells seed count old new was now written written_now words status ending course is work = record {
   input = λ n. absurd (untaken course (subst (λ (m : ℕ). (m ≡ 3) ⊎ (m ≡ 12)) is n));
   lines = λ n. inr (seed, count, work);
   refused = λ n. absurd (never_ten ending (sym is ∙ n));
 }
   where
-    untaken : IsIdle old new written now ending ⊎ Worked tells seed count old new written now ending → (exit_of ending ≡ 3) ⊎ (exit_of ending ≡ 12) → ⊥
+    untaken : IsIdle old new written written_now ending ⊎ Worked tells seed count was now written written_now ending → (exit_of ending ≡ 3) ⊎ (exit_of ending ≡ 12) → ⊥
     untaken (inl i) e = stop_untaken device.Memory (subst (λ (x : Ending). (exit_of x ≡ 3) ⊎ (exit_of x ≡ 12)) i.memory e)
-    untaken (inr w) e = says_untaken seed count w.ran.handled.replied.replies w.serving written now ending w.says e
+    untaken (inr w) e = says_untaken seed count w.ran.handled.replied.replies w.serving written written_now ending w.says e

@@ -13,11 +13,12 @@ use Rattle.script_lang.specs.Replies.{Reply, line_of}
 use Rattle.workload.specs.Summaries.{refused, heading, summary}
 use Rattle.workload.proofs.ScriptLaws.{script_has_lines, script_is_short}
 use Rattle.device_terms.specs.Served.{IsServedImage}
-use Rattle.device_cli.specs.World.{World, world}
+use Rattle.device_cli.specs.World.{World, drew_by, world}
 use Rattle.device_cli.specs.Represents.{StandsFor}
 use Rattle.device_cli.specs.Ran.{Ran, AnswersScript, IsAmple}
 use Rattle.line_run.specs.Stops.{Ending, exit_of, HasCause, status_of}
 use Rattle.line_run.specs.Puts.{HasPut, damage_line}
+use Rattle.device_cli.specs.Drawing.{DrewUntil}
 use Rattle.device_cli.specs.Handed.{Handed}
 use Rattle.sdbt_base.specs.Counts.{Counts, NoneRose}
 use Rattle.device_cli.specs.Working.{IsIdle, Says, ServesAll, ServesWork, Worked, Working, script_of}
@@ -55,18 +56,18 @@ pub idle : (w : World) (written : Option (List ℕ)) → IsIdle w w written writ
 idle w written = record { memory = refl; world = refl; unput = refl }
 
 -- what a run gives, or what is as it was
-pub ended_work : (tells : Type 0) (old new : Outside) (Going : Type 0) (seed count : ℕ) (was : World) (session : Option Session) (reads : ℕ) (written written_now : Option (List ℕ)) (ending : Ending)
+pub ended_work : (tells : Type 0) (old new : Outside) (Going : Type 0) (seed count : ℕ) (was : World) (drawn drawn_now : Option (List (List ℕ))) (session : Option Session) (reads : ℕ) (written written_now : Option (List ℕ)) (ending : Ending)
     → was.session ≡ None → was.history ≡ old.history → was.head ≡ old.head → was.capacity ≡ old.capacity → new.head ≤ new.capacity
-    → IsIdle was (world session new.history new.head new.capacity reads) written written_now ending ⊎ Worked tells seed count was (world session new.history new.head new.capacity reads) written written_now ending
+    → IsIdle was (world session new.history new.head new.capacity reads) written written_now ending ⊎ Worked tells seed count (drew_by drawn was) (drew_by drawn_now (world session new.history new.head new.capacity reads)) written written_now ending
     → KeepsOn tells old.drawn new.drawn old.written new.written None old.history new.history Going (λ keys. Unit {0}) → Ended tells old new Going
-ended_work tells old new Going seed count was session reads written written_now ending alone history head capacity room (inl not) keeps =
+ended_work tells old new Going seed count was drawn drawn_now session reads written written_now ending alone history head capacity room (inl not) keeps =
     let same : new.history ≡ old.history = ap (λ (w : World). w.history) not.world ∙ history in record {
       later = record { capacity = ap (λ (w : World). w.capacity) not.world ∙ capacity; rises = omega (arith, ap (λ (w : World). w.head) not.world, head); within = room };
       keeps = keeps;
       made = λ told device stands served. ([], subst (λ (h : History). Made old.history h None (closed device) [] (closed device)) (sym same) (made_start old.history None (closed device) (shut old.history.present device stands served)));
     }
-ended_work tells old new Going seed count was session reads written written_now ending alone history head capacity room (inr w) keeps =
-    ended_run tells old new Going was session reads w.serving (Some (script_of seed count)) w.left (Some []) w.told alone history head capacity w.ran keeps
+ended_work tells old new Going seed count was drawn drawn_now session reads written written_now ending alone history head capacity room (inr w) keeps =
+    ended_run tells old new Going was drawn drawn_now session reads w.serving (Some (script_of seed count)) w.left (Some []) w.told alone history head capacity w.ran keeps
 
 -- ---- completeness
 
@@ -117,20 +118,22 @@ work_complete tells old new seed count serving ending before now left told writt
 -- ---- what is said of the words
 
 -- whatever session the serving ends with
-pub serves_work : {S R I O L : Type 0} (tells : Type 0) (seed count : ℕ) (old new : Handed S R I O L) (session : Option Session) (ending : Ending) → old.world.session ≡ None → new.world.session ≡ None
-    → Worked tells seed count old.world (record new.world { session = session }) old.written new.written ending → ServesWork tells seed count old.world new.world old.written new.written ending
-serves_work tells seed count old new session ending alone then_alone w =
+pub serves_work : {S R I O L : Type 0} (tells : Type 0) (seed count : ℕ) (old new : Handed S R I O L) (session : Option Session) (ending : Ending) → old.world.session ≡ None → new.world.session ≡ None → new.world.drawn ≡ None
+    → Worked tells seed count (drew_by old.drawn old.world) (drew_by new.drawn (record new.world { session = session })) old.written new.written ending → ServesWork tells seed count old.world new.world old.drawn new.drawn old.written new.written ending
+serves_work tells seed count old new session ending alone then_alone untold w =
     let text : Option (List ℕ) = Some (script_of seed count) in
     let now = new.world in
-    let script = answers_with tells old.world session now.history now.head now.capacity now.reads w.serving text w.left (Some []) w.told alone w.ran in
-    let same : world None now.history now.head now.capacity now.reads ≡ now = ap (λ (s : Option Session). record now { session = s }) (sym then_alone) in
-    let Answered : World → Type 0 = λ there. (s : AnswersScript tells old.world there (exit_of w.serving) text w.left (Some []) w.told) × (s.replies ≡ w.ran.handled.replied.replies) in
+    let script = answers_with tells old.world old.drawn new.drawn session now.history now.head now.capacity now.reads w.serving text w.left (Some []) w.told alone w.ran in
+    let same : world None now.history now.head now.capacity now.reads ≡ now =
+    ap (λ (d : Option (List (List ℕ))). record now { session = None; drawn = d }) (sym untold) ∙ ap (λ (s : Option Session). record now { session = s }) (sym then_alone) in
+    let Answered : World → Type 0 = λ there. (s : AnswersScript tells old.world there (exit_of w.serving) text w.left (Some []) w.told) × (s.replies ≡ w.ran.handled.replied.replies) × DrewUntil old.drawn s.lines s.replies new.drawn in
     let here : Answered now = subst Answered same script in
     record {
       serving = w.serving;
       left = w.left;
       told = w.told;
       serves = here.0;
+      drew = here.2;
       says = subst (λ (replies : List Reply). Says seed count replies w.serving old.written new.written ending) (sym here.1) w.says;
     }
 
@@ -146,23 +149,23 @@ idle_still old new session ending alone then_alone i =
     }
 
 pub working_of : {S R I O L : Type 0} (tells : Type 0) (seed count status : ℕ) (old new : Handed S R I O L) (session : Option Session) (ending : Ending)
-    → old.world.session ≡ None → new.world.session ≡ None → new.input ≡ old.input → count ≤ 5000 → status ≡ exit_of ending → IfErr ending (HasCause old.counts new.counts)
+    → old.world.session ≡ None → new.world.session ≡ None → new.world.drawn ≡ None → new.input ≡ old.input → count ≤ 5000 → status ≡ exit_of ending → IfErr ending (HasCause old.counts new.counts)
     → (tells → (IsServedImage old.world.history.present → ⊥) → (exit_of ending ≡ 8) ⊎ (exit_of ending ≡ 4) ⊎ (exit_of ending ≡ 5) ⊎ (exit_of ending ≡ 11))
-    → IsIdle old.world (record new.world { session = session }) old.written new.written ending ⊎ Worked tells seed count old.world (record new.world { session = session }) old.written new.written ending
+    → IsIdle old.world (record new.world { session = session }) old.written new.written ending ⊎ Worked tells seed count (drew_by old.drawn old.world) (drew_by new.drawn (record new.world { session = session })) old.written new.written ending
     → Working tells seed count status old new
-working_of tells seed count status old new session ending alone then_alone untaken few is cause refused course = record {
+working_of tells seed count status old new session ending alone then_alone untold untaken few is cause refused course = record {
   untaken = untaken;
   ending = ending;
   status_is = is;
   course = elim course [
     | inl i ↦ inl (idle_still old new session ending alone then_alone i)
-    | inr w ↦ inr (serves_work tells seed count old new session ending alone then_alone w)
+    | inr w ↦ inr (serves_work tells seed count old new session ending alone then_alone untold w)
   ];
   bad_root = λ told unserved. subst (λ (n : ℕ). (n ≡ 8) ⊎ (n ≡ 4) ⊎ (n ≡ 5) ⊎ (n ≡ 11)) (sym is) (refused told unserved);
   complete = λ told there stands served room quiet. subst (λ (n : ℕ). (n ≡ 11) ⊎ ((n ≡ 0) × ServesAll seed count there old.written new.written ending)) (sym is) (elim course [
     | inl i ↦ inl (ap exit_of i.memory)
     | inr w ↦
-        (let s = serves_work tells seed count old new session ending alone then_alone w in
+        (let s = serves_work tells seed count old new session ending alone then_alone untold w in
         work_complete tells old.world new.world seed count s.serving ending old.counts new.counts s.left s.told old.written new.written there told stands served s.serves s.says cause few room quiet)
   ]);
 }

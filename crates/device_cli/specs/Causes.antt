@@ -1,22 +1,24 @@
 -- Why a command is answered so, on any image, forged ones too.
-use Rattle.std.specs.Prelude.{◌≡◌, ◌≤◌, ◌⊎◌, ℕ, true, false, List, [], ◌∷◌, Option, None, Some, Result, Ok, Err, IfSome}
+use Rattle.std.specs.Prelude.{◌≡◌, ◌<◌, ◌≤◌, ◌⊎◌, ℕ, true, false, List, [], ◌∷◌, Option, None, Some, Result, Ok, Err, IfSome}
 use Rattle.platform.specs.Image.{Image}
 use Rattle.platform.specs.History.{History, Extends, image_at, moment}
 use Rattle.root_codec.specs.declared.root.Root.{Root}
 use Rattle.root_codec.specs.RootRecord.{FitsRoot, root_bytes}
+use Rattle.page_store.specs.Roots.{IsBadCell, IsRootWithin}
 use Rattle.device_session.specs.Damage.{IsFound, HasRoom}
-use Rattle.device_session.specs.Open.{blocks_of}
+use Rattle.device_session.specs.Open.{blocks_of, is_touched, root_of}
 use Rattle.device_session.specs.Reading.{FindsContent}
 use Rattle.device_session.specs.Sessions.{Session}
 use Rattle.script_lang.specs.Arrays.{in_limits, trimmed}
-use Rattle.script_lang.specs.Grammar.{Spells}
+use Rattle.script_lang.specs.Grammar.{Spells, IsBad}
 use Rattle.script_lang.specs.Commands.{Command}
 use Rattle.script_lang.specs.Commands as commands
 use Rattle.script_lang.specs.Replies.{Reply}
 use Rattle.script_lang.specs.Replies as given
-use Rattle.session_calls.specs.Damage.{IsWrongPlace, IsWrongPage}
+use Rattle.session_calls.specs.Damage.{IsMounted, IsWrongPlace, IsWrongPage}
 use Rattle.session_calls.specs.declared.stops.DeviceStop.{DeviceStop}
 use Rattle.session_calls.specs.declared.stops.DeviceStop.TheVariants as device
+use Rattle.device_cli.specs.World.{World}
 
 -- ---- stops
 
@@ -32,14 +34,6 @@ abbrev pub PutsEntry : Command → Type 0
 PutsEntry (commands.Format blocks order) = Unit {0}
 PutsEntry commands.Commit = Unit {0}
 PutsEntry _ = ⊥
-
--- it takes memory
-abbrev pub TakesMemory : Command → Type 0
-TakesMemory (commands.Read block) = ⊥
-TakesMemory commands.Drop = ⊥
-TakesMemory commands.Erase = ⊥
-TakesMemory commands.Stat = ⊥
-TakesMemory _ = Unit {0}
 
 -- it calls the platform
 abbrev pub CallsPlatform : Command → Type 0
@@ -61,33 +55,43 @@ MeetsRecord tells image (commands.Write block content) addr = tells → IsWrongP
 MeetsRecord tells image (commands.Trim block) addr = tells → IsWrongPage image addr
 MeetsRecord tells image _ addr = ⊥
 
--- the device may stop so at the command
-abbrev pub MayStop : Type 0 → Image → Command → DeviceStop → Type 0
-MayStop tells image command device.Platform = CallsPlatform command
-MayStop tells image command device.Tape = Draws command
-MayStop tells image command device.Ledger = PutsEntry command
-MayStop tells image command device.Memory = TakesMemory command
-MayStop tells image command device.BadRoot = JudgesRoot command
-MayStop tells image command (device.BadRecord addr) = MeetsRecord tells image command addr
+-- there is a session, and it has this
+abbrev pub OnHeld : Option Session → (Session → Type 0) → Type 0
+OnHeld None P = ⊥
+OnHeld (Some session) P = P session
 
--- a command that draws no key leaves the tape, and one that puts no entry the ledger
-pub record IsUncalled {T L : Type 0} (tape tape_now : T) (ledger ledger_now : L) (command : Command) : Type 0 where
-  pub undrawn : (Draws command → ⊥) → tape_now ≡ tape
-  pub unput : (PutsEntry command → ⊥) → ledger_now ≡ ledger
+-- there is one on the root record in the cell, and it has this
+abbrev pub OnMounted : Type 0 → Image → Option Session → (Session → Type 0) → Type 0
+OnMounted tells image held P = OnHeld held (λ session. (tells → image.cell ≡ Some (root_bytes (root_of session))) × P session)
+
+-- memory may lack at the command: none of its refusals comes before that. The numbers of a format are those of a device, and the cell is empty; a mount has no session, and the root record in the cell can be
+-- served; an update is of a block of the device; a commit is of changes; the cell can be seized; and where a page is wanted, one is free. No other command takes memory
+abbrev pub LacksMemory : Type 0 → Option Session → Image → ℕ → ℕ → Command → Type 0
+LacksMemory tells held image head capacity (commands.Format blocks order) = (in_limits blocks order ≡ true) × (head < capacity) × (tells → image.cell ≡ None)
+LacksMemory tells held image head capacity commands.Mount = (held ≡ None) × (tells → (root : Root) × IsRootWithin head root × (image.cell ≡ Some (root_bytes root)))
+LacksMemory tells held image head capacity (commands.Write block content) = (head < capacity) × OnMounted tells image held (λ session. block < blocks_of session)
+LacksMemory tells held image head capacity (commands.Trim block) = OnMounted tells image held (λ session. block < blocks_of session)
+LacksMemory tells held image head capacity commands.Commit = (head < capacity) × OnMounted tells image held (λ session. is_touched session ≡ true)
+LacksMemory tells held image head capacity commands.Seize = tells → IsBadCell head image.cell → ⊥
+LacksMemory tells held image head capacity _ = ⊥
+
+-- the device may stop so at the command, behind which there is this image, with so many pages of so many
+abbrev pub MayStop : Type 0 → Option Session → Image → ℕ → ℕ → Command → DeviceStop → Type 0
+MayStop tells held image head capacity command device.Platform = CallsPlatform command
+MayStop tells held image head capacity command device.Tape = Draws command
+MayStop tells held image head capacity command device.Ledger = PutsEntry command
+MayStop tells held image head capacity command device.Memory = LacksMemory tells held image head capacity command
+MayStop tells held image head capacity command device.BadRoot = JudgesRoot command
+MayStop tells held image head capacity command (device.BadRecord addr) = MeetsRecord tells image command addr
 
 -- ---- replies
-
--- there is a session, on a device that has no such block
-abbrev pub IsPast : Option Session → ℕ → Type 0
-IsPast None block = ⊥
-IsPast (Some session) block = blocks_of session ≤ block
 
 -- the command's numbers are out of range: no device has these, or the session's device hasn't this one
 abbrev pub IsOutOfRange : Option Session → Command → Type 0
 IsOutOfRange held (commands.Format blocks order) = in_limits blocks order ≡ false
-IsOutOfRange held (commands.Read block) = IsPast held block
-IsOutOfRange held (commands.Write block content) = IsPast held block
-IsOutOfRange held (commands.Trim block) = IsPast held block
+IsOutOfRange held (commands.Read block) = OnHeld held (λ session. blocks_of session ≤ block)
+IsOutOfRange held (commands.Write block content) = OnHeld held (λ session. blocks_of session ≤ block)
+IsOutOfRange held (commands.Trim block) = OnHeld held (λ session. blocks_of session ≤ block)
 IsOutOfRange held _ = ⊥
 
 -- a look-up of the block comes to these bytes, but for their trailing zeros
@@ -95,26 +99,45 @@ abbrev pub IsLookedUp : Image → ℕ → List ℕ → Session → Type 0
 IsLookedUp image block bytes session = (content : List ℕ) × FindsContent image.readable session.grove block content × (bytes ≡ trimmed content)
 
 abbrev pub HasContent : Type 0 → Image → Option Session → Command → List ℕ → Type 0
-HasContent tells image held (commands.Read block) bytes = tells → IfSome held (IsLookedUp image block bytes)
+HasContent tells image held (commands.Read block) bytes = OnHeld held (λ session. tells → IsLookedUp image block bytes session)
 HasContent tells image held _ bytes = ⊥
 
 -- an update can be done: the block is mapped, or another one can be; and for a trim, it isn't mapped, or one is counted
 abbrev pub CanBeDone : Type 0 → Image → Option Session → Command → Type 0
-CanBeDone tells image held (commands.Write block content) = tells → IfSome held (λ session. IsFound true image.readable session block ⊎ HasRoom session)
-CanBeDone tells image held (commands.Trim block) = tells → IfSome held (λ session. IsFound false image.readable session block ⊎ (1 ≤ session.mapped))
+CanBeDone tells image held (commands.Write block content) = OnHeld held (λ session. tells → IsFound true image.readable session block ⊎ HasRoom session)
+CanBeDone tells image held (commands.Trim block) = OnHeld held (λ session. tells → IsFound false image.readable session block ⊎ (1 ≤ session.mapped))
 CanBeDone tells image held _ = ⊥
+
+-- the reply is one of the command's own, which gives no content and tells of no block
+abbrev pub IsOwnReply : Command → Reply → Type 0
+IsOwnReply (commands.Format blocks order) given.Formatted = Unit {0}
+IsOwnReply (commands.Format blocks order) given.NotEmpty = Unit {0}
+IsOwnReply (commands.Format blocks order) given.Full = Unit {0}
+IsOwnReply commands.Mount (given.Mounted number) = Unit {0}
+IsOwnReply commands.Mount given.AlreadyMounted = Unit {0}
+IsOwnReply commands.Mount given.NoDevice = Unit {0}
+IsOwnReply (commands.Write block content) given.Full = Unit {0}
+IsOwnReply commands.Commit (given.Committed number) = Unit {0}
+IsOwnReply commands.Commit given.Full = Unit {0}
+IsOwnReply commands.Drop given.Dropped = Unit {0}
+IsOwnReply commands.Erase given.Erased = Unit {0}
+IsOwnReply commands.Erase given.NoDevice = Unit {0}
+IsOwnReply commands.Stat (given.Stat mapped number) = Unit {0}
+IsOwnReply commands.Seize (given.Seized pages nodes blocks) = Unit {0}
+IsOwnReply _ _ = ⊥
 
 -- the command may have the reply
 abbrev pub MayReply : Type 0 → Image → Option Session → Command → Reply → Type 0
 MayReply tells image held command given.Range = IsOutOfRange held command
 MayReply tells image held command (given.Content bytes) = HasContent tells image held command bytes
 MayReply tells image held command given.Done = CanBeDone tells image held command
-MayReply tells image held command _ = Unit {0}
+MayReply tells image held command given.Unmounted = held ≡ None
+MayReply tells image held command reply = IsOwnReply command reply
 
--- the one table of a command's answers on any image, over which there was this session before
-abbrev pub AnswersAny : Type 0 → Image → Image → Option Session → Command → Result Reply DeviceStop → Type 0
-AnswersAny tells image after held command (Ok reply) = MayReply tells image held command reply
-AnswersAny tells image after held command (Err stop) = MayStop tells after command stop
+-- the one table of a command's answers on any image
+abbrev pub AnswersAny : Type 0 → World → World → Command → Result Reply DeviceStop → Type 0
+AnswersAny tells old now command (Ok reply) = MayReply tells old.history.present old.session command reply
+AnswersAny tells old now command (Err stop) = MayStop tells old.session now.history.present now.head now.capacity command stop
 
 -- ---- lines
 
@@ -122,29 +145,27 @@ AnswersAny tells image after held command (Err stop) = MayStop tells after comma
 abbrev pub IsOf : (Command → Type 0) → List ℕ → Type 0
 IsOf P line = (command : Command) × Spells line command × P command
 
--- at a moment the cell held a root record of a device without the block
-pub record WasPast (history : History) (block : ℕ) : Type 0 where
+-- memory lacked at such a command, with some session or none
+abbrev pub HasLacked : Type 0 → Image → ℕ → ℕ → Command → Type 0
+HasLacked tells image head capacity command = (held : Option Session) × LacksMemory tells held image head capacity command
+
+-- at a moment, which is not before this one, there was a session on the root record in the cell, or none, with which the command may have the reply
+pub record WasSo (tells : Type 0) (history : History) (from : ℕ) (command : Command) (reply : Reply) : Type 0 where
   pub at : ℕ
+  pub later : from ≤ at
   pub within : at ≤ moment history
-  pub root : Root
-  pub in_range : FitsRoot root
-  pub cell : (image_at history at).cell ≡ Some (root_bytes root)
-  pub past : root.blocks ≤ block
+  pub held : Option Session
+  pub in_range : IfSome held (λ session. FitsRoot (root_of session))
+  pub mounted : IfSome held (IsMounted (image_at history at))
+  pub may : MayReply tells (image_at history at) held command reply
 
--- the command's numbers are those of no device, or of no block of the device in the cell at a moment
-abbrev pub WasOutOfRange : History → Command → Type 0
-WasOutOfRange history (commands.Format blocks order) = in_limits blocks order ≡ false
-WasOutOfRange history (commands.Read block) = WasPast history block
-WasOutOfRange history (commands.Write block content) = WasPast history block
-WasOutOfRange history (commands.Trim block) = WasPast history block
-WasOutOfRange history _ = ⊥
+-- each of these replies is `bad` to a line outside the grammar, or was so of its line's command
+abbrev pub AreSo : Type 0 → History → ℕ → List (List ℕ) → List Reply → Type 0
+AreSo tells history from lines [] = Unit {0}
+AreSo tells history from [] (reply ∷ replies) = ⊥
+AreSo tells history from (line ∷ lines) (reply ∷ replies) =
+    ((IsBad line × (reply ≡ given.Bad)) ⊎ IsOf (λ command. WasSo tells history from command reply) line) × AreSo tells history from lines replies
 
--- what the replies to these lines say that are `range`, was so at moments of the history
-abbrev pub AreOutOfRange : History → List (List ℕ) → List Reply → Type 0
-AreOutOfRange history lines [] = Unit {0}
-AreOutOfRange history [] (reply ∷ replies) = ⊥
-AreOutOfRange history (line ∷ lines) (reply ∷ replies) = (reply ≡ given.Range → IsOf (WasOutOfRange history) line) × AreOutOfRange history lines replies
-
--- the same of a part of a run
-abbrev pub RangesOn : Type 0 → History → History → List (List ℕ) → List Reply → Type 0
-RangesOn tells old new lines replies = tells → Extends old new × AreOutOfRange new lines replies
+-- the same of the moments of a part of a run
+abbrev pub SoOn : Type 0 → History → History → List (List ℕ) → List Reply → Type 0
+SoOn tells old new lines replies = tells → Extends old new × AreSo tells new (moment old) lines replies

@@ -1,5 +1,6 @@
 pub mod Given
 pub mod Causes
+pub mod Drawing
 pub mod Words
 pub mod Checks
 pub mod Seizing

@@ -4,8 +4,11 @@ use Rattle.sdbt_base.specs.Arrays.{Device, closed}
 use Rattle.sdbt_base.specs.Told.{Gave, Got}
 use Rattle.platform.specs.History.{History}
 use Rattle.device_terms.specs.Served.{IsServedImage}
+use Rattle.device_cli.specs.Causes.{HasLacked, IsOf}
+use Rattle.device_cli.specs.Drawing.{DrewUntil}
 use Rattle.device_cli.specs.Given.{HasBadRecord}
 use Rattle.device_cli.specs.Handed.{Handed}
+use Rattle.device_cli.specs.Pages.{IfNext}
 use Rattle.device_cli.specs.Ran.{AnswersScript, IsAmple, IsComplete}
 use Rattle.device_course.specs.Reaching.{DisclosesTree}
 use Rattle.line_run.specs.Puts.{damage_line}
@@ -44,12 +47,14 @@ pub record Refuses {S R I O L : Type 0} (tells : Type 0) (words : List (List ℕ
 
 -- a run: the bytes put are the lines of replies, one for each line in turn, and perhaps a part behind them; on a device that stands they are the replies of an array of
 -- blocks, and at each moment a loss of power leaves a device that they passed. With room for 42 pages a line, a short input and no fault each line has its reply, unless
--- no memory is given
+-- no memory is given to one that takes some, and is not refused
 pub record ServesScript {S R I O L : Type 0} (tells : Type 0) (status : ℕ) (old new : Handed S R I O L) : Type 0 where
   pub answers : AnswersScript tells old.world new.world status old.left new.left old.written new.written
+  -- no line draws a key but a `format`, `write` or `commit` that is done, of which a write draws one; and perhaps one of these that was cut short
+  pub drew : DrewUntil old.drawn answers.lines answers.replies new.drawn
   pub complete : tells → (there : Option Device) → StandsFor old.world.history.present there → IsServedImage old.world.history.present
       → (text : List ℕ) → IsAmple old.left text old.world.head old.world.capacity → NoneRose old.counts new.counts
-      → (status ≡ 11) ⊎ ((status ≡ 0) × IsComplete (closed there) text old.written new.written)
+      → ((status ≡ 11) × IfNext answers.replies answers.lines (IsOf (HasLacked tells new.world.history.present new.world.head new.world.capacity))) ⊎ ((status ≡ 0) × IsComplete (closed there) text old.written new.written)
 
 -- chains of opening from the root key reach at each moment exactly the device's records, and what was deleted never; and under the premises on keys a seizure counts at each
 -- moment exactly the blocks of the device's map: so the replies to `seize` lines do, which belong to such moments

@@ -7,7 +7,7 @@ use Rattle.text_lines.specs.Lines.{whole_lines_of, lines_of}
 use Rattle.script_lang.specs.Replies.{line_of, Reply, Full}
 use Rattle.sdbt_base.specs.Arrays.{State, Device, closed}
 use Rattle.script_lang.specs.Answers.{Answers}
-use Rattle.device_cli.specs.Causes.{Draws, PutsEntry, TakesMemory, MeetsRecord, IsOf, AreOutOfRange}
+use Rattle.device_cli.specs.Causes.{Draws, PutsEntry, HasLacked, MeetsRecord, IsOf, AreSo}
 use Rattle.device_cli.specs.Looks.{AreLooks}
 use Rattle.device_cli.specs.World.{World}
 use Rattle.device_cli.specs.Represents.{StandsFor}
@@ -79,16 +79,17 @@ pub record AnswersScript (tells : Type 0) (old new : World) (status : ℕ) (left
   pub no_part : status ≢ 4 → status ≢ 8 → status ≢ 9 → part ≡ []
   pub bad_root : status ≡ 8 → part ≡ damage_line device.BadRoot
   -- behind the replies stands the line that the device stopped at: one that reads or changes a block, and comes to a record that doesn't fit; one that draws; one that puts an entry; one that
-  -- takes memory
+  -- takes memory, and is not refused
   pub bad_record : status ≡ 9 → (addr : ℕ) × (part ≡ damage_line (device.BadRecord addr)) × IfNext replies lines (IsOf (λ command. MeetsRecord tells new.history.present command addr))
   pub no_key : status ≡ 6 → IfNext replies lines (IsOf Draws)
   pub no_entry : status ≡ 7 → IfNext replies lines (IsOf PutsEntry)
-  pub no_memory : status ≡ 11 → IfNext replies lines (IsOf TakesMemory)
+  pub no_memory : status ≡ 11 → IfNext replies lines (IsOf (HasLacked tells new.history.present new.head new.capacity))
   pub cut : status ≡ 4 → ((reply : Reply) × IsFirstPart (line_of reply) part) ⊎ ((stop : DeviceStop) × IsFirstPart (damage_line stop) part)
   -- a reply that too few pages were free is true for good
   pub full : AreShort new.head new.capacity 0 lines replies
-  -- and one that says `range` was true at a moment of the run
-  pub ranges : tells → AreOutOfRange new.history lines replies
+  -- and on any image each was so at a moment of the run: `data` is what a look-up comes to, `ok` comes only where the update can be done, and `range` by the numbers
+  -- alone; so a line that comes to a record which doesn't fit has none of these, and ends the run
+  pub so : tells → AreSo tells new.history (moment old.history) lines replies
   -- where the lines only look, no more pages are read than these: one for a read of the block that was read just before, 21 for another one, and else none
   pub looks : tells → (most : ℕ) (last : Option ℕ) → AreLooks None lines most last → new.reads ≤ old.reads + most
   -- over an image that stands for a device which can be served, from that device on without a session

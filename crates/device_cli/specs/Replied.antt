@@ -10,7 +10,8 @@ use Rattle.script_lang.specs.Answers.{IsMark, IsAnswer, answer, none_counted}
 use Rattle.script_lang.specs.Commands.{Command}
 use Rattle.line_run.specs.Puts.{IsBehind, IsFirstPart}
 use Rattle.line_run.specs.Stops.{Ending, IsSound}
-use Rattle.device_cli.specs.Causes.{Draws, PutsEntry, TakesMemory, MeetsRecord, IsOf, RangesOn}
+use Rattle.device_cli.specs.Causes.{Draws, PutsEntry, HasLacked, MeetsRecord, IsOf, SoOn}
+use Rattle.device_cli.specs.Drawing.{DrewUntil}
 use Rattle.device_cli.specs.Looks.{LooksOn}
 use Rattle.device_cli.specs.World.{World, is_full, AreEnough, IsLater}
 use Rattle.device_course.specs.Marks.{Leaves, mark_at, last_mark}
@@ -32,17 +33,17 @@ AreMany replies lines (Err (stops.Device stop)) = replies ≤ lines
 AreMany replies lines (Err stops.Sink) = replies ≤ lines
 
 -- the device stopped a run at the line behind those that have replies, as the line's command may; or before the first line, where the platform failed or the root record can't be served
-abbrev pub IsStopAt : Type 0 → Image → List Reply → List (List ℕ) → DeviceStop → Type 0
-IsStopAt tells image replies lines device.Platform = Unit {0}
-IsStopAt tells image replies lines device.BadRoot = Unit {0}
-IsStopAt tells image replies lines device.Tape = IfNext replies lines (IsOf Draws)
-IsStopAt tells image replies lines device.Ledger = IfNext replies lines (IsOf PutsEntry)
-IsStopAt tells image replies lines device.Memory = IfNext replies lines (IsOf TakesMemory)
-IsStopAt tells image replies lines (device.BadRecord addr) = IfNext replies lines (IsOf (λ command. MeetsRecord tells image command addr))
+abbrev pub IsStopAt : Type 0 → World → List Reply → List (List ℕ) → DeviceStop → Type 0
+IsStopAt tells now replies lines device.Platform = Unit {0}
+IsStopAt tells now replies lines device.BadRoot = Unit {0}
+IsStopAt tells now replies lines device.Tape = IfNext replies lines (IsOf Draws)
+IsStopAt tells now replies lines device.Ledger = IfNext replies lines (IsOf PutsEntry)
+IsStopAt tells now replies lines device.Memory = IfNext replies lines (IsOf (HasLacked tells now.history.present now.head now.capacity))
+IsStopAt tells now replies lines (device.BadRecord addr) = IfNext replies lines (IsOf (λ command. MeetsRecord tells now.history.present command addr))
 
-abbrev pub IsEndingAt : Type 0 → Image → List Reply → List (List ℕ) → Ending → Type 0
-IsEndingAt tells image replies lines (Err (stops.Device stop)) = IsStopAt tells image replies lines stop
-IsEndingAt tells image replies lines _ = Unit {0}
+abbrev pub IsEndingAt : Type 0 → World → List Reply → List (List ℕ) → Ending → Type 0
+IsEndingAt tells now replies lines (Err (stops.Device stop)) = IsStopAt tells now replies lines stop
+IsEndingAt tells now replies lines _ = Unit {0}
 
 -- how a run over a device that stands ends, after the replies that led to the state `now`: in that state, with so many
 -- pages; by a fault alone; or, where the output failed, with a first part of one more reply's line, for the device after it
@@ -108,8 +109,9 @@ pub record Replied (tells : Type 0) (old new : World) (last : DeviceStop → Lis
   pub put_is : put ≡ flat_map line_of replies ++ part
   pub behind : IsBehind line_of last part ending
   pub many : AreMany (length replies) (length lines) ending
-  pub stopped : IsEndingAt tells new.history.present replies lines ending
-  pub ranges : RangesOn tells old.history new.history lines replies
+  pub stopped : IsEndingAt tells new replies lines ending
+  pub drew : DrewUntil old.drawn lines replies new.drawn
+  pub so : SoOn tells old.history new.history lines replies
   pub later : IsLater old new
   pub full : (updates : ℕ) → AreEnough old.session updates → AreShort new.head new.capacity updates lines replies
   pub enough : (updates : ℕ) → AreEnough old.session updates → OnOk ending (AreEnough new.session (updates_of updates replies))

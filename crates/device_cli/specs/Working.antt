@@ -7,6 +7,7 @@ use Rattle.workload.specs.Lines.{line_of}
 use Rattle.workload.specs.Scripts.{commands_of}
 use Rattle.workload.specs.Summaries.{summary}
 use Rattle.device_terms.specs.Served.{IsServedImage}
+use Rattle.device_cli.specs.Drawing.{DrewUntil}
 use Rattle.device_cli.specs.Ran.{Ran, AnswersScript, IsComplete}
 use Rattle.line_run.specs.Stops.{Ending, exit_of}
 use Rattle.line_run.specs.Puts.{HasPut, damage_line}
@@ -48,11 +49,12 @@ pub record Worked (tells : Type 0) (seed count : ℕ) (old new : World) (written
   pub says : Says seed count ran.handled.replied.replies serving written written_now ending
 
 -- the same by what the program says of a run
-pub record ServesWork (tells : Type 0) (seed count : ℕ) (old new : World) (written written_now : Option (List ℕ)) (ending : Ending) : Type 0 where
+pub record ServesWork (tells : Type 0) (seed count : ℕ) (old new : World) (drawn drawn_now : Option (List (List ℕ))) (written written_now : Option (List ℕ)) (ending : Ending) : Type 0 where
   pub serving : Ending
   pub left : Option (List ℕ)
   pub told : Option (List ℕ)
   pub serves : AnswersScript tells old new (exit_of serving) (Some (script_of seed count)) left (Some []) told
+  pub drew : DrewUntil drawn serves.lines serves.replies drawn_now
   pub says : Says seed count serves.replies serving written written_now ending
 
 -- each line of the script had its reply, none that too few pages are free, and what came of these is put
@@ -68,7 +70,7 @@ pub record Working {S R I O L : Type 0} (tells : Type 0) (seed count status : �
   pub untaken : new.input ≡ old.input
   pub ending : Ending
   pub status_is : status ≡ exit_of ending
-  pub course : IsIdle old.world new.world old.written new.written ending ⊎ ServesWork tells seed count old.world new.world old.written new.written ending
+  pub course : IsIdle old.world new.world old.written new.written ending ⊎ ServesWork tells seed count old.world new.world old.drawn new.drawn old.written new.written ending
   pub bad_root : tells → (IsServedImage old.world.history.present → ⊥) → (status ≡ 8) ⊎ (status ≡ 4) ⊎ (status ≡ 5) ⊎ (status ≡ 11)
   pub complete : tells → (there : Option Device) → StandsFor old.world.history.present there → IsServedImage old.world.history.present
       → old.world.head + 42 * (count + 5) ≤ old.world.capacity → NoneRose old.counts new.counts

@@ -1,5 +1,6 @@
 -- What a run works on.
-use Rattle.std.specs.Prelude.{◌≡◌, ℕ, ◌-◌, ◌*◌, ◌≤◌, Bool, nat_lt, Option, None, Some}
+use Rattle.std.specs.Prelude.{◌≡◌, ℕ, ◌-◌, ◌*◌, ◌≤◌, Bool, nat_lt, List, Option, None, Some}
+use Rattle.sdbt_base.specs.declared.tapes.Tape.{Ghosts as TapeGhosts}
 use Rattle.platform.specs.History.{History}
 use Rattle.platform.specs.declared.platforms.Platform.{Ghosts}
 use Rattle.device_session.specs.Open.{needed_by}
@@ -7,20 +8,28 @@ use Rattle.device_session.specs.Sessions.{Session}
 use Rattle.script_lang.specs.Commands.{Command}
 use Rattle.device_cli.specs.Pages.{needed_for}
 
--- the session, if one is open; the moments of the platform; how many pages it has, and how many it can have; and how many page reads were made
+-- the session, if one is open; the moments of the platform; how many pages it has, and how many it can have; how many page reads were made; and the keys that the tape drew
 pub record World : Type 0 where
   pub session : Option Session
   pub history : History
   pub head : ℕ
   pub capacity : ℕ
   pub reads : ℕ
+  pub drawn : Option (List (List ℕ))
 
 abbrev pub world : Option Session → History → ℕ → ℕ → ℕ → World
-world session history head capacity reads = record { session = session; history = history; head = head; capacity = capacity; reads = reads }
+world session history head capacity reads = record { session = session; history = history; head = head; capacity = capacity; reads = reads; drawn = None }
 
--- the same of a platform
+-- the same of a platform, while nothing is told of a tape
 abbrev pub world_of : {S : Type 0} → Ghosts S → Option Session → S → World
 world_of P session platform = world session (P.history platform) (P.head platform) (P.capacity platform) (P.reads platform)
+
+-- the same with a tape that drew these keys
+abbrev pub drew_by : Option (List (List ℕ)) → World → World
+drew_by drawn w = record w { drawn = drawn }
+
+abbrev pub world_by : {S R : Type 0} → Ghosts S → TapeGhosts R → Option Session → S → R → World
+world_by P T session platform tape = drew_by (T.drawn tape) (world_of P session platform)
 
 -- how many pages a commit of the session's changes needs
 abbrev pub needed_of : Option Session → ℕ

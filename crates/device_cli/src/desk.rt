@@ -8,8 +8,10 @@ ghost use Rattle.sdbt_base.specs.Counts.{counts};
 ghost use Rattle.session_calls.specs.Blame.{IsBlamed};
 ghost use Rattle.platform.specs.History.{During};
 ghost use Rattle.seizure.specs.Opened.{count_of_kind};
-ghost use Rattle.device_cli.specs.Causes.{AnswersAny, IsUncalled};
+ghost use Rattle.device_cli.specs.Causes.{AnswersAny};
+ghost use Rattle.device_cli.specs.Drawing.{DrewFor, Spends};
 ghost use Rattle.device_cli.specs.Replied.{outcome};
+ghost use Rattle.device_cli.specs.World.{world_of};
 
 use device_core::{EraseRefusal, FormatRefusal};
 use device_session::{CommitReply, Session};
@@ -66,8 +68,9 @@ impl Desk {
         ensures blame { IsBlamed (counts (P.faults platform.old) (T.faults tape.old) 0 0 (L.faults ledger.old))
             (counts (P.faults platform.new) (T.faults tape.new) 0 0 (L.faults ledger.new)) result }
         // On any image: why it is answered so.
-        ensures any { AnswersAny P.tells (P.history platform.old).present (P.history platform.new).present self.old.session (asked command.now self.old.buffer) (outcome result self.new.buffer) }
-        ensures still { IsUncalled tape.old tape.new ledger.old ledger.new (asked command.now self.old.buffer) }
+        ensures any { AnswersAny P.tells (world_of P.Platform self.old.session platform.old) (world_of P.Platform self.new.session platform.new) (asked command.now self.old.buffer) (outcome result self.new.buffer) }
+        // What it draws and puts, by its reply.
+        ensures still { Spends tape.old tape.new ledger.old ledger.new (T.drawn tape.old) (T.drawn tape.new) (asked command.now self.old.buffer) (outcome result self.new.buffer) }
         ensures pages { AddsPages P.Platform self.old self.new platform.old platform.new (asked command.now self.old.buffer) result }
         ensures enough { StaysEnough self.old self.new result }
         ensures keeps { Keeps P.Platform T.Tape L.Sink self.old self.new platform.old platform.new tape.old tape.new ledger.old ledger.new result }
@@ -104,8 +107,9 @@ impl Desk {
         ensures after { After P.Platform self.old self.new platform.old platform.new (commands.Format blocks order) result }
         ensures blame { IsBlamed (counts (P.faults platform.old) (T.faults tape.old) 0 0 (L.faults ledger.old))
             (counts (P.faults platform.new) (T.faults tape.new) 0 0 (L.faults ledger.new)) result }
-        ensures any { AnswersAny P.tells (P.history platform.old).present (P.history platform.new).present self.old.session (commands.Format blocks order) (outcome result self.new.buffer) }
+        ensures any { AnswersAny P.tells (world_of P.Platform self.old.session platform.old) (world_of P.Platform self.new.session platform.new) (commands.Format blocks order) (outcome result self.new.buffer) }
         ensures pages { AddsPages P.Platform self.old self.new platform.old platform.new (commands.Format blocks order) result }
+        ensures drew { IfOk (outcome result self.new.buffer) (λ reply. DrewFor (T.drawn tape.old) (commands.Format blocks order) reply (T.drawn tape.new)) }
         ensures enough { StaysEnough self.old self.new result }
         ensures keeps { Keeps P.Platform T.Tape L.Sink self.old self.new platform.old platform.new tape.old tape.new ledger.old ledger.new result }
         ensures answered { P.tells → ServesAny P.Platform self.old self.new platform.old platform.new (commands.Format blocks order) result }
@@ -128,7 +132,7 @@ impl Desk {
         requires { Before P.Platform self.old platform.old }
         ensures after { After P.Platform self.old self.new platform.old platform.new commands.Mount result }
         ensures blame { IsBlamed (counts (P.faults platform.old) 0 0 0 0) (counts (P.faults platform.new) 0 0 0 0) result }
-        ensures any { AnswersAny P.tells (P.history platform.old).present (P.history platform.new).present self.old.session commands.Mount (outcome result self.new.buffer) }
+        ensures any { AnswersAny P.tells (world_of P.Platform self.old.session platform.old) (world_of P.Platform self.new.session platform.new) commands.Mount (outcome result self.new.buffer) }
         ensures pages { AddsPages P.Platform self.old self.new platform.old platform.new commands.Mount result }
         ensures enough { StaysEnough self.old self.new result }
         ensures keeps { KeepsStill P.Platform self.old self.new platform.old platform.new result }
@@ -150,7 +154,7 @@ impl Desk {
         requires { Before P.Platform self.old platform.old }
         ensures after { After P.Platform self.old self.new platform.old platform.new (commands.Read block) result }
         ensures blame { IsBlamed (counts (P.faults platform.old) 0 0 0 0) (counts (P.faults platform.new) 0 0 0 0) result }
-        ensures any { AnswersAny P.tells (P.history platform.old).present (P.history platform.new).present self.old.session (commands.Read block) (outcome result self.new.buffer) }
+        ensures any { AnswersAny P.tells (world_of P.Platform self.old.session platform.old) (world_of P.Platform self.new.session platform.new) (commands.Read block) (outcome result self.new.buffer) }
         ensures pages { AddsPages P.Platform self.old self.new platform.old platform.new (commands.Read block) result }
         ensures enough { StaysEnough self.old self.new result }
         ensures keeps { KeepsStill P.Platform self.old self.new platform.old platform.new result }
@@ -179,8 +183,9 @@ impl Desk {
         ensures after { After P.Platform self.old self.new platform.old platform.new (commands.Write block (take count self.old.buffer)) result }
         ensures blame { IsBlamed (counts (P.faults platform.old) (T.faults tape.old) 0 0 0)
             (counts (P.faults platform.new) (T.faults tape.new) 0 0 0) result }
-        ensures any { AnswersAny P.tells (P.history platform.old).present (P.history platform.new).present self.old.session (commands.Write block (take count self.old.buffer)) (outcome result self.new.buffer) }
+        ensures any { AnswersAny P.tells (world_of P.Platform self.old.session platform.old) (world_of P.Platform self.new.session platform.new) (commands.Write block (take count self.old.buffer)) (outcome result self.new.buffer) }
         ensures pages { AddsPages P.Platform self.old self.new platform.old platform.new (commands.Write block (take count self.old.buffer)) result }
+        ensures drew { IfOk (outcome result self.new.buffer) (λ reply. DrewFor (T.drawn tape.old) (commands.Write block (take count self.old.buffer)) reply (T.drawn tape.new)) }
         ensures enough { StaysEnough self.old self.new result }
         ensures keeps { (written : Option (List ℕ))
             → KeepsFrom P.Platform (T.drawn tape.old) (T.drawn tape.new) written written self.old self.new platform.old platform.new result }
@@ -203,7 +208,7 @@ impl Desk {
         requires { Before P.Platform self.old platform.old }
         ensures after { After P.Platform self.old self.new platform.old platform.new (commands.Trim block) result }
         ensures blame { IsBlamed (counts (P.faults platform.old) 0 0 0 0) (counts (P.faults platform.new) 0 0 0 0) result }
-        ensures any { AnswersAny P.tells (P.history platform.old).present (P.history platform.new).present self.old.session (commands.Trim block) (outcome result self.new.buffer) }
+        ensures any { AnswersAny P.tells (world_of P.Platform self.old.session platform.old) (world_of P.Platform self.new.session platform.new) (commands.Trim block) (outcome result self.new.buffer) }
         ensures pages { AddsPages P.Platform self.old self.new platform.old platform.new (commands.Trim block) result }
         ensures enough { StaysEnough self.old self.new result }
         ensures keeps { KeepsStill P.Platform self.old self.new platform.old platform.new result }
@@ -229,8 +234,9 @@ impl Desk {
         ensures after { After P.Platform self.old self.new platform.old platform.new commands.Commit result }
         ensures blame { IsBlamed (counts (P.faults platform.old) (T.faults tape.old) 0 0 (L.faults ledger.old))
             (counts (P.faults platform.new) (T.faults tape.new) 0 0 (L.faults ledger.new)) result }
-        ensures any { AnswersAny P.tells (P.history platform.old).present (P.history platform.new).present self.old.session commands.Commit (outcome result self.new.buffer) }
+        ensures any { AnswersAny P.tells (world_of P.Platform self.old.session platform.old) (world_of P.Platform self.new.session platform.new) commands.Commit (outcome result self.new.buffer) }
         ensures pages { AddsPages P.Platform self.old self.new platform.old platform.new commands.Commit result }
+        ensures drew { IfOk (outcome result self.new.buffer) (λ reply. DrewFor (T.drawn tape.old) commands.Commit reply (T.drawn tape.new)) }
         ensures enough { StaysEnough self.old self.new result }
         ensures keeps { Keeps P.Platform T.Tape L.Sink self.old self.new platform.old platform.new tape.old tape.new ledger.old ledger.new result }
         ensures answered { P.tells → ServesAny P.Platform self.old self.new platform.old platform.new commands.Commit result }
@@ -252,7 +258,7 @@ impl Desk {
         ensures reply { IfOk result (λ reply. CanWrite (said reply self.new.buffer)) }
         ensures short { IfOk result FitsBlock }
         ensures full { IfOk result (λ reply. reply ≡ Reply.Full → ⊥) }
-        ensures any { AnswersAny P.tells (P.history platform.now).present (P.history platform.now).present self.old.session commands.Drop (outcome result self.new.buffer) }
+        ensures any { AnswersAny P.tells (world_of P.Platform self.old.session platform.now) (world_of P.Platform self.new.session platform.now) commands.Drop (outcome result self.new.buffer) }
         ensures stop { IfErr result (λ stop. ⊥) }
         ensures enough { StaysEnough self.old self.new result }
         ensures answered { P.tells → ServesAny P.Platform self.old self.new platform.now platform.now commands.Drop result }
@@ -270,7 +276,7 @@ impl Desk {
         requires { Before P.Platform self.old platform.old }
         ensures after { After P.Platform self.old self.new platform.old platform.new commands.Erase result }
         ensures blame { IsBlamed (counts (P.faults platform.old) 0 0 0 0) (counts (P.faults platform.new) 0 0 0 0) result }
-        ensures any { AnswersAny P.tells (P.history platform.old).present (P.history platform.new).present self.old.session commands.Erase (outcome result self.new.buffer) }
+        ensures any { AnswersAny P.tells (world_of P.Platform self.old.session platform.old) (world_of P.Platform self.new.session platform.new) commands.Erase (outcome result self.new.buffer) }
         ensures pages { AddsPages P.Platform self.old self.new platform.old platform.new commands.Erase result }
         ensures enough { StaysEnough self.old self.new result }
         ensures keeps { KeepsStill P.Platform self.old self.new platform.old platform.new result }
@@ -291,7 +297,7 @@ impl Desk {
         requires { Before P.Platform self.now platform.old }
         ensures after { After P.Platform self.now self.now platform.old platform.new commands.Seize result }
         ensures blame { IsBlamed (counts (P.faults platform.old) 0 0 0 0) (counts (P.faults platform.new) 0 0 0 0) result }
-        ensures any { AnswersAny P.tells (P.history platform.old).present (P.history platform.new).present self.now.session commands.Seize (outcome result self.now.buffer) }
+        ensures any { AnswersAny P.tells (world_of P.Platform self.now.session platform.old) (world_of P.Platform self.now.session platform.new) commands.Seize (outcome result self.now.buffer) }
         ensures head { P.head platform.new ≡ P.head platform.old }
         ensures enough { StaysEnough self.now self.now result }
         ensures keeps { KeepsStill P.Platform self.now self.now platform.old platform.new result }
@@ -320,7 +326,7 @@ impl Desk {
         ensures reply { IfOk result (λ reply. CanWrite (said reply self.now.buffer)) }
         ensures short { IfOk result FitsBlock }
         ensures full { IfOk result (λ reply. reply ≡ Reply.Full → ⊥) }
-        ensures any { AnswersAny P.tells (P.history platform.now).present (P.history platform.now).present self.now.session commands.Stat (outcome result self.now.buffer) }
+        ensures any { AnswersAny P.tells (world_of P.Platform self.now.session platform.now) (world_of P.Platform self.now.session platform.now) commands.Stat (outcome result self.now.buffer) }
         ensures stop { IfErr result (λ stop. ⊥) }
         ensures enough { StaysEnough self.now self.now result }
         ensures answered { P.tells → ServesAny P.Platform self.now self.now platform.now platform.now commands.Stat result }

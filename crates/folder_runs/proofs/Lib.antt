@@ -1,3 +1,4 @@
 pub mod ChainsOver
 pub mod Opened
+pub mod ToldLaws
 pub mod Together

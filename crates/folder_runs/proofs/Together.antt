@@ -44,6 +44,7 @@ use Rattle.folder_restart.proofs.StandingLaws.{stands_opened}
 use Rattle.folder_runs.specs.Chains.{ReachedOver, ReachedFirst, PremisesOver}
 use Rattle.folder_runs.specs.Restarts.{Resumes, GoesOnOver, IsOpenedAfter, ReachNoMoreOver, DisclosesOver, DisclosesRuns}
 use Rattle.folder_runs.proofs.ChainsOver.{over_first, over_second, over_grows, first_grows, reached_first, reached_second, reached_kept}
+use Rattle.folder_runs.proofs.ToldLaws.{told_lacks, told_so}
 use Rattle.folder_runs.proofs.Opened.{handed_first, kept_opened, served_opened, fits_opened, low_opened}
 
 -- ---- answers
@@ -90,10 +91,10 @@ told_answers tells old new status left left_now written written_now told run = r
       (bad.0, bad.1, next_line run.replies run.lines _ _ (λ line of. (of.0, of.1, told_record tells new.history.present of.0 bad.0 told of.2)) bad.2);
   no_key = run.no_key;
   no_entry = run.no_entry;
-  no_memory = run.no_memory;
+  no_memory = λ is. next_line run.replies run.lines _ _ (λ line of. (of.0, of.1, (of.2.0, told_lacks tells of.2.0 new.history.present new.head new.capacity of.0 told of.2.1))) (run.no_memory is);
   cut = run.cut;
   full = run.full;
-  ranges = λ _. run.ranges told;
+  so = λ _. told_so tells new.history (moment old.history) run.lines run.replies told (run.so told);
   looks = λ _. run.looks told;
   answered = λ _. run.answered told;
 }

@@ -13,17 +13,17 @@ use Rattle.byte_arrays.specs.Ranges.{touched_blocks, covered_blocks}
 use Rattle.nbd_terms.specs.Held.{Held, size_of}
 use Rattle.nbd_terms.specs.Leading.{Leads, last_of}
 use Rattle.nbd_terms.specs.Turn.{Answers, IsUnfinished, Serves, Turn}
-use Rattle.nbd_core.specs.Ample.{HasRoom, IsServedOut, blocks_of_range, changed_by, unless_refused}
+use Rattle.nbd_core.specs.Ample.{HasRoom, IsServed, IsServedOut, blocks_of_range, changed_by, unless_refused}
 use Rattle.nbd_core.specs.Exchanges.{Exchange, sent_of, told_of}
 
 -- what a request with a reply does to the pages that are free
-record Spends (cost : ℕ) (entry next : Held) (outcome : Outcome) (Served : Type 0) : Type 0 where
-  done : Served → (outcome ≡ outcomes.Done) ⊎ (outcome ≡ outcomes.NoMemory)
+record Spends (cost : ℕ) (entry next : Held) (kind : RequestKind) (outcome : Outcome) (Served : Type 0) : Type 0 where
+  done : Served → IsServed kind outcome
   blocks : next.device.blocks ≡ entry.device.blocks
   pages : next.pages + 41 * next.updates ≤ entry.pages + 41 * entry.updates + 42 * cost
 
-same_held : (cost : ℕ) (entry next : Held) (outcome : Outcome) (Served : Type 0) → (Served → (outcome ≡ outcomes.Done) ⊎ (outcome ≡ outcomes.NoMemory)) → next ≡ entry → Spends cost entry next outcome Served
-same_held cost entry next outcome Served done same = record {
+same_held : (cost : ℕ) (entry next : Held) (kind : RequestKind) (outcome : Outcome) (Served : Type 0) → (Served → IsServed kind outcome) → next ≡ entry → Spends cost entry next kind outcome Served
+same_held cost entry next kind outcome Served done same = record {
   done = done;
   blocks = ap (λ (h : Held). h.device.blocks) same;
   pages = omega (arith, ap (λ (h : Held). h.pages) same, ap (λ (h : Held). h.updates) same);
@@ -37,9 +37,9 @@ first_few : (blocks : List ℕ) (n : ℕ) → length (take n blocks) ≤ length 
 first_few blocks n = omega (arith, length-take n blocks)
 
 serves_room : (capacity : ℕ) (kind : RequestKind) (entry next : Held) (sent : RequestSent) (outcome : Outcome) (bytes : List ℕ) → entry.pages + 41 * entry.updates + 42 * blocks_of_range kind sent.head.offset sent.head.length ≤ capacity
-    → Serves (capacity - entry.pages) kind entry sent outcome bytes next → Spends (blocks_of_range kind sent.head.offset sent.head.length) entry next outcome (Unit {0})
-serves_room capacity kinds.Read entry next sent outcomes.Done bytes room (is, same) = same_held 0 entry next outcomes.Done (Unit {0}) (λ s. inl refl) same
-serves_room capacity kinds.Read entry next sent outcomes.NoMemory bytes room (is, same) = same_held 0 entry next outcomes.NoMemory (Unit {0}) (λ s. inr refl) same
+    → Serves (capacity - entry.pages) kind entry sent outcome bytes next → Spends (blocks_of_range kind sent.head.offset sent.head.length) entry next kind outcome (Unit {0})
+serves_room capacity kinds.Read entry next sent outcomes.Done bytes room (is, same) = same_held 0 entry next kinds.Read outcomes.Done (Unit {0}) (λ s. inl refl) same
+serves_room capacity kinds.Read entry next sent outcomes.NoMemory bytes room (is, same) = same_held 0 entry next kinds.Read outcomes.NoMemory (Unit {0}) (λ s. inr refl) same
 serves_room capacity kinds.Read entry next sent outcomes.Damaged bytes room serves = absurd serves
 serves_room capacity kinds.Read entry next sent outcomes.Invalid bytes room serves = absurd serves
 serves_room capacity kinds.Read entry next sent outcomes.NoSpace bytes room serves = absurd serves
@@ -61,7 +61,7 @@ serves_room capacity kinds.Trim entry next sent outcomes.NoSpace bytes room (non
 serves_room capacity kinds.Trim entry next sent outcomes.Damaged bytes room (none, serves) = absurd serves
 serves_room capacity kinds.Trim entry next sent outcomes.Invalid bytes room (none, serves) = absurd serves
 serves_room capacity kinds.Flush entry next sent outcomes.Done bytes room (none, (needed, needs, fits, is)) = record {
-  done = λ s. inl refl;
+  done = λ s. refl;
   blocks = ap (λ (h : Held). h.device.blocks) is ∙ committed_blocks entry.session.touched entry.device entry.session;
   pages = omega (arith, ap (λ (h : Held). h.pages) is, ap (λ (h : Held). h.updates) is, needs.most);
 }
@@ -74,8 +74,8 @@ serves_room capacity (kinds.Other number) entry next sent outcome bytes room ser
 
 answers_room : (capacity : ℕ) (refused : Option Outcome) (entry next : Held) (sent : RequestSent) (outcome : Outcome) (bytes : List ℕ)
     → entry.pages + 41 * entry.updates + 42 * unless_refused refused (blocks_of_range sent.head.kind sent.head.offset sent.head.length) ≤ capacity → Answers (capacity - entry.pages) refused entry sent outcome bytes next
-    → Spends (unless_refused refused (blocks_of_range sent.head.kind sent.head.offset sent.head.length)) entry next outcome (refused ≡ None)
-answers_room capacity (Some why) entry next sent outcome bytes room (is, none, same) = same_held 0 entry next outcome (Some why ≡ None) (λ never. absurd cc) same
+    → Spends (unless_refused refused (blocks_of_range sent.head.kind sent.head.offset sent.head.length)) entry next sent.head.kind outcome (refused ≡ None)
+answers_room capacity (Some why) entry next sent outcome bytes room (is, none, same) = same_held 0 entry next sent.head.kind outcome (Some why ≡ None) (λ never. absurd cc) same
 answers_room capacity None entry next sent outcome bytes room answers =
     let spends = serves_room capacity sent.head.kind entry next sent outcome bytes room answers in
     record { done = λ s. spends.done tt; blocks = spends.blocks; pages = spends.pages }

@@ -168,7 +168,7 @@ writes_unread image now device array block start count held bytes stops.BadRoot 
 writes_unread image now device array block start count held bytes (stops.BadRecord addr) at = at
 
 pub adds_one : {S R : Type 0} (P : PlatformGhosts S) (T : TapeGhosts R) (platform platform_now : S) (tape tape_now : R) (result : Result (Unit {0}) DeviceStop) → AddsBlock P T platform platform_now tape tape_now result → AddsOne (P.head platform) (P.head platform_now) result
-adds_one P T platform platform_now tape tape_now (Ok done) adds = adds
+adds_one P T platform platform_now tape tape_now (Ok done) adds = adds.0
 adds_one P T platform platform_now tape tape_now (Err stops.Memory) adds = adds.head
 adds_one P T platform platform_now tape tape_now (Err (stops.BadRecord addr)) adds = adds.head
 adds_one P T platform platform_now tape tape_now (Err stops.Platform) adds = tt

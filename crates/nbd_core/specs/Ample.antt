@@ -38,9 +38,18 @@ changed_in size (exchange ∷ more) = changed_by size exchange.sent.head + chang
 abbrev pub HasRoom : ℕ → ℕ → Held → List Exchange → Type 0
 HasRoom capacity size held exchanges = held.pages + 41 * held.updates + 42 * changed_in size exchanges ≤ capacity
 
--- a request is done that its head doesn't refuse, or no memory was given to it
+-- a flush is done; and a request for blocks, or no memory was given to it. None of another kind has a reply
+abbrev pub IsServed : RequestKind → Outcome → Type 0
+IsServed kinds.Read outcome = (outcome ≡ outcomes.Done) ⊎ (outcome ≡ outcomes.NoMemory)
+IsServed kinds.Write outcome = (outcome ≡ outcomes.Done) ⊎ (outcome ≡ outcomes.NoMemory)
+IsServed kinds.Trim outcome = (outcome ≡ outcomes.Done) ⊎ (outcome ≡ outcomes.NoMemory)
+IsServed kinds.Flush outcome = outcome ≡ outcomes.Done
+IsServed kinds.Disconnect outcome = ⊥
+IsServed (kinds.Other number) outcome = ⊥
+
+-- so is a request that its head doesn't refuse
 abbrev pub IsServedOut : ℕ → Exchange → Type 0
-IsServedOut size exchange = refusal size exchange.sent.head ≡ None → (exchange.reply.outcome ≡ outcomes.Done) ⊎ (exchange.reply.outcome ≡ outcomes.NoMemory)
+IsServedOut size exchange = refusal size exchange.sent.head ≡ None → IsServed exchange.sent.head.kind exchange.reply.outcome
 
 -- so is each, and pages lack for no disconnect
 pub record Completes (size : ℕ) (exchanges : List Exchange) (result : Result (Unit {0}) Halt) : Type 0 where

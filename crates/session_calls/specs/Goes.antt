@@ -1,6 +1,7 @@
 -- What one call of a session says, by its answer.
 use Rattle.std.specs.Prelude.{◌≡◌, ◌≤◌, ◌+◌, ◌*◌, ◌⊎◌, ℕ, List, [], ◌∷◌, Some, Result, Ok, Err, IfErr, OnErr, OnOk}
 use Rattle.sdbt_base.specs.Arrays.{Device, Session as OpenSession, content_of, unmapped, written, mounted}
+use Rattle.sdbt_base.specs.Told.{Drew}
 use Rattle.sdbt_base.specs.declared.tapes.Tape.{Ghosts as TapeGhosts}
 use Rattle.platform.specs.declared.platforms.Platform.{Ghosts as PlatformGhosts}
 use Rattle.platform.specs.Image.{Image}
@@ -51,9 +52,9 @@ WritesBlock image now device array block content (Err stops.Ledger) = ⊥
 WritesBlock image now device array block content (Err stops.BadRoot) = ⊥
 WritesBlock image now device array block content (Err (stops.BadRecord addr)) = ⊥
 
--- a write that was done added one page, and a refused one none, unless the platform failed
+-- a write that was done drew one key and added one page, and a refused one none, unless the platform failed
 abbrev pub AddsBlock : {S R : Type 0} → PlatformGhosts S → TapeGhosts R → S → S → R → R → Result (Unit {0}) DeviceStop → Type 0
-AddsBlock P T platform platform_now tape tape_now (Ok done) = P.head platform_now ≡ P.head platform + 1
+AddsBlock P T platform platform_now tape tape_now (Ok done) = (P.head platform_now ≡ P.head platform + 1) × (key : List ℕ) × Drew (T.drawn tape) key (T.drawn tape_now)
 AddsBlock P T platform platform_now tape tape_now (Err stops.Memory) = AddsNothing P T platform platform_now tape tape_now
 AddsBlock P T platform platform_now tape tape_now (Err stops.Platform) = Unit {0}
 AddsBlock P T platform platform_now tape tape_now (Err stops.Tape) = AddsNothing P T platform platform_now tape tape_now

@@ -1,4 +1,4 @@
-use Rattle.std.proofs.Common.{rules, ◌≡◌, ◌≤◌, inl, inr, length, [], Result, Ok, Err, None, List, ℕ, refl, sym, subst, arith, ◌∙◌}
+use Rattle.std.proofs.Common.{rules, ◌≡◌, ◌≤◌, ◌⊎◌, ℕ, inl, inr, length, [], Result, Ok, Err, None, List, refl, sym, subst, arith, ◌∙◌}
 use Rattle.std.specs.Prelude.{map, string_bytes}
 use Rattle.std.proofs.lemmas.List.{length-map}
 use Rattle.sdbt_base.specs.Told.{Got}
@@ -8,6 +8,7 @@ use Rattle.device_course.specs.States.{IsLater, around}
 use Rattle.device_course.proofs.ProgramLaws.{keeps_ledger, ended_not, ended_look}
 use Rattle.device_cli.specs.Given.{HasBadRecord}
 use Rattle.device_cli.specs.Handed.{handed}
+use Rattle.device_cli.specs.Run.{IsRefusal}
 use Rattle.line_run.specs.Stops.{Ending, status_of}
 use Rattle.line_run.specs.Puts.{damage_line}
 use Rattle.device_cli.specs.Seizing.{IsRefused, ReadsFewFor, Seizes}
@@ -59,7 +60,7 @@ returns-in-Ok-clause-serves g c words =
     let old = handed g.P.Platform g.T.Tape g.I.Source g.O.Sink g.L.Sink c.args.platform.now c.args.tape.now c.args.input.now c.args.output.now c.args.ledger.now in
     let new = handed g.P.Platform g.T.Tape g.I.Source g.O.Sink g.L.Sink c.run.new.platform c.run.new.tape c.run.new.input c.run.new.output c.run.new.ledger in
     let ran = c.in-Ok.ensures.ran in
-    serves_at g.P.Platform.tells _ old new ran.0 (Ok tt) refl refl refl ran.1 tt
+    serves_at g.P.Platform.tells _ old new ran.0 (Ok tt) refl refl refl refl ran.1 tt
 
 pub returns-in-Ok-clause-forgets : goal.returns-in-Ok-clause-forgets
 returns-in-Ok-clause-forgets g c =
@@ -67,7 +68,7 @@ returns-in-Ok-clause-forgets g c =
     let new = around g.P.Platform g.T.Tape g.L.Sink c.run.new.platform c.run.new.tape c.run.new.ledger in
     let was : World = world_of g.P.Platform None c.args.platform.now in
     let ran = c.in-Ok.ensures.ran in
-    let ended = ended_run g.P.Platform.tells old new _ was ran.0 _ (Ok tt) _ _ _ _ refl refl refl refl ran.1 c.in-Ok.ensures.keeps in
+    let ended = ended_run g.P.Platform.tells old new _ was (g.T.Tape.drawn c.args.tape.now) (g.T.Tape.drawn c.run.new.tape) ran.0 _ (Ok tt) _ _ _ _ refl refl refl refl ran.1 c.in-Ok.ensures.keeps in
     forgets g.P.Platform.tells old new _ ended
 
 pub returns-in-Ok-clause-ledger : goal.returns-in-Ok-clause-ledger
@@ -76,7 +77,7 @@ returns-in-Ok-clause-ledger g c =
     let new = around g.P.Platform g.T.Tape g.L.Sink c.run.new.platform c.run.new.tape c.run.new.ledger in
     let was : World = world_of g.P.Platform None c.args.platform.now in
     let ran = c.in-Ok.ensures.ran in
-    let ended = ended_run g.P.Platform.tells old new _ was ran.0 _ (Ok tt) _ _ _ _ refl refl refl refl ran.1 c.in-Ok.ensures.keeps in
+    let ended = ended_run g.P.Platform.tells old new _ was (g.T.Tape.drawn c.args.tape.now) (g.T.Tape.drawn c.run.new.tape) ran.0 _ (Ok tt) _ _ _ _ refl refl refl refl ran.1 c.in-Ok.ensures.keeps in
     keeps_ledger g.P.Platform.tells old new _ _ (λ zero. refl) ended
 
 pub returns-in-Err-clause-serves : goal.returns-in-Err-clause-serves
@@ -84,7 +85,7 @@ returns-in-Err-clause-serves g c words =
     let old = handed g.P.Platform g.T.Tape g.I.Source g.O.Sink g.L.Sink c.args.platform.now c.args.tape.now c.args.input.now c.args.output.now c.args.ledger.now in
     let new = handed g.P.Platform g.T.Tape g.I.Source g.O.Sink g.L.Sink c.run.new.platform c.run.new.tape c.run.new.input c.run.new.output c.run.new.ledger in
     let ran = c.in-Err.ensures.ran in
-    serves_at g.P.Platform.tells _ old new ran.0 (Err c.in-Err.stop) refl refl c.status.ensures ran.1 c.in-Err.ensures.blame.cause
+    serves_at g.P.Platform.tells _ old new ran.0 (Err c.in-Err.stop) refl refl refl c.status.ensures ran.1 c.in-Err.ensures.blame.cause
 
 pub returns-in-Err-clause-forgets : goal.returns-in-Err-clause-forgets
 returns-in-Err-clause-forgets g c =
@@ -92,7 +93,7 @@ returns-in-Err-clause-forgets g c =
     let new = around g.P.Platform g.T.Tape g.L.Sink c.run.new.platform c.run.new.tape c.run.new.ledger in
     let was : World = world_of g.P.Platform None c.args.platform.now in
     let ran = c.in-Err.ensures.ran in
-    let ended = ended_run g.P.Platform.tells old new _ was ran.0 _ (Err c.in-Err.stop) _ _ _ _ refl refl refl refl ran.1 c.in-Err.ensures.keeps in
+    let ended = ended_run g.P.Platform.tells old new _ was (g.T.Tape.drawn c.args.tape.now) (g.T.Tape.drawn c.run.new.tape) ran.0 _ (Err c.in-Err.stop) _ _ _ _ refl refl refl refl ran.1 c.in-Err.ensures.keeps in
     forgets g.P.Platform.tells old new _ ended
 
 pub returns-in-Err-clause-ledger : goal.returns-in-Err-clause-ledger
@@ -101,8 +102,33 @@ returns-in-Err-clause-ledger g c =
     let new = around g.P.Platform g.T.Tape g.L.Sink c.run.new.platform c.run.new.tape c.run.new.ledger in
     let was : World = world_of g.P.Platform None c.args.platform.now in
     let ran = c.in-Err.ensures.ran in
-    let ended = ended_run g.P.Platform.tells old new _ was ran.0 _ (Err c.in-Err.stop) _ _ _ _ refl refl refl refl ran.1 c.in-Err.ensures.keeps in
+    let ended = ended_run g.P.Platform.tells old new _ was (g.T.Tape.drawn c.args.tape.now) (g.T.Tape.drawn c.run.new.tape) ran.0 _ (Err c.in-Err.stop) _ _ _ _ refl refl refl refl ran.1 c.in-Err.ensures.keeps in
     keeps_ledger g.P.Platform.tells old new _ _ (λ zero. absurd (never_zero c.in-Err.stop (sym c.status.ensures ∙ zero))) ended
+
+-- a stop before the first line, over a cell that can't be served
+refusal_status : (stop : Stop) (status : ℕ) → status ≡ status_of stop → IsRefusal stop → (status ≡ 8) ⊎ (status ≡ 4) ⊎ (status ≡ 5)
+refusal_status stops.Sink status is refusal = inr (inl is)
+refusal_status (stops.Device device.Platform) status is refusal = inr (inr is)
+refusal_status (stops.Device device.BadRoot) status is refusal = inl is
+refusal_status (stops.Device device.Tape) status is refusal = absurd refusal
+refusal_status (stops.Device device.Ledger) status is refusal = absurd refusal
+refusal_status (stops.Device (device.BadRecord addr)) status is refusal = absurd refusal
+refusal_status (stops.Device device.Memory) status is refusal = absurd refusal
+refusal_status stops.Source status is refusal = absurd refusal
+refusal_status stops.Limit status is refusal = absurd refusal
+
+pub returns-in-Err-clause-refuses : goal.returns-in-Err-clause-refuses
+returns-in-Err-clause-refuses g c =
+    let eight : c.status.result ≡ 8 → status_of c.in-Err.stop ≡ 8 = λ e. sym c.status.ensures ∙ e in
+    record {
+      bad_root_only = λ told e served. absurd (c.in-Err.ensures.refused_only told (eight e) served);
+      bad_root = λ told unserved words. refusal_status c.in-Err.stop c.status.result c.status.ensures (c.in-Err.ensures.refused told unserved).0;
+      untouched = λ told why.
+          let still = c.run.ensures.untouched told (not_served (λ e. c.in-Err.ensures.refused_only told (eight e)) why) in
+          untouched_of still.undrawn still.untaken still.unput still.pages still.image;
+      said = λ told e. c.in-Err.ensures.said told (eight e);
+      other_words = λ two. absurd (never_two c.in-Err.stop (sym c.status.ensures ∙ two));
+    }
 
 pub returns-in-Ok-clause-exits : goal.returns-in-Ok-clause-exits
 returns-in-Ok-clause-exits g c =
@@ -347,7 +373,7 @@ returns-in-Ok-work-clause-forgets g c =
     let new = around g.P.Platform g.T.Tape g.L.Sink c.work.new.platform c.work.new.tape c.work.new.ledger in
     let was : World = world_of g.P.Platform None c.args.platform.now in
     let worked = c.in-Ok-work.ensures.worked in
-    let ended = ended_work g.P.Platform.tells old new _ c.in-Some-Work.seed c.in-Some-Work.count was worked.0 _ _ _ _ refl refl refl refl (g.met.P.Platform.has_room c.work.new.platform) worked.1 c.in-Ok-work.ensures.keeps in
+    let ended = ended_work g.P.Platform.tells old new _ c.in-Some-Work.seed c.in-Some-Work.count was (g.T.Tape.drawn c.args.tape.now) (g.T.Tape.drawn c.work.new.tape) worked.0 _ _ _ _ refl refl refl refl (g.met.P.Platform.has_room c.work.new.platform) worked.1 c.in-Ok-work.ensures.keeps in
     forgets g.P.Platform.tells old new _ ended
 
 pub returns-in-Ok-work-clause-ledger : goal.returns-in-Ok-work-clause-ledger
@@ -356,7 +382,7 @@ returns-in-Ok-work-clause-ledger g c =
     let new = around g.P.Platform g.T.Tape g.L.Sink c.work.new.platform c.work.new.tape c.work.new.ledger in
     let was : World = world_of g.P.Platform None c.args.platform.now in
     let worked = c.in-Ok-work.ensures.worked in
-    let ended = ended_work g.P.Platform.tells old new _ c.in-Some-Work.seed c.in-Some-Work.count was worked.0 _ _ _ _ refl refl refl refl (g.met.P.Platform.has_room c.work.new.platform) worked.1 c.in-Ok-work.ensures.keeps in
+    let ended = ended_work g.P.Platform.tells old new _ c.in-Some-Work.seed c.in-Some-Work.count was (g.T.Tape.drawn c.args.tape.now) (g.T.Tape.drawn c.work.new.tape) worked.0 _ _ _ _ refl refl refl refl (g.met.P.Platform.has_room c.work.new.platform) worked.1 c.in-Ok-work.ensures.keeps in
     keeps_ledger g.P.Platform.tells old new _ _ (λ zero. refl) ended
 
 pub returns-in-Ok-work-clause-works : goal.returns-in-Ok-work-clause-works
@@ -371,7 +397,7 @@ returns-in-Ok-work-clause-works g c seed count words =
     let now = record new.counts { input = 0 } in
     let part : ArePart before now old.counts new.counts = record { platform = inr (refl, refl); tape = inr (refl, refl); input = inl (refl, refl, refl); output = inr (refl, refl); ledger = inr (refl, refl) } in
     let worked = c.in-Ok-work.ensures.worked in
-    let here = working_of g.P.Platform.tells c.in-Some-Work.seed c.in-Some-Work.count 0 old new worked.0 ending refl refl refl (at_most all c.in-Some-Work.seed c.in-Some-Work.count asked) refl
+    let here = working_of g.P.Platform.tells c.in-Some-Work.seed c.in-Some-Work.count 0 old new worked.0 ending refl refl refl refl (at_most all c.in-Some-Work.seed c.in-Some-Work.count asked) refl
     (cause_wide before now old.counts new.counts ending part c.in-Ok-work.ensures.blame.cause) c.in-Ok-work.ensures.refused worked.1 in
     subst (λ (s : ℕ). Working g.P.Platform.tells s count 0 old new) same.0 (subst (λ (n : ℕ). Working g.P.Platform.tells c.in-Some-Work.seed n 0 old new) same.1 here)
 
@@ -381,7 +407,7 @@ returns-in-Err-work-clause-forgets g c =
     let new = around g.P.Platform g.T.Tape g.L.Sink c.work.new.platform c.work.new.tape c.work.new.ledger in
     let was : World = world_of g.P.Platform None c.args.platform.now in
     let worked = c.in-Err-work.ensures.worked in
-    let ended = ended_work g.P.Platform.tells old new _ c.in-Some-Work.seed c.in-Some-Work.count was worked.0 _ _ _ _ refl refl refl refl (g.met.P.Platform.has_room c.work.new.platform) worked.1 c.in-Err-work.ensures.keeps in
+    let ended = ended_work g.P.Platform.tells old new _ c.in-Some-Work.seed c.in-Some-Work.count was (g.T.Tape.drawn c.args.tape.now) (g.T.Tape.drawn c.work.new.tape) worked.0 _ _ _ _ refl refl refl refl (g.met.P.Platform.has_room c.work.new.platform) worked.1 c.in-Err-work.ensures.keeps in
     forgets g.P.Platform.tells old new _ ended
 
 pub returns-in-Err-work-clause-ledger : goal.returns-in-Err-work-clause-ledger
@@ -390,7 +416,7 @@ returns-in-Err-work-clause-ledger g c =
     let new = around g.P.Platform g.T.Tape g.L.Sink c.work.new.platform c.work.new.tape c.work.new.ledger in
     let was : World = world_of g.P.Platform None c.args.platform.now in
     let worked = c.in-Err-work.ensures.worked in
-    let ended = ended_work g.P.Platform.tells old new _ c.in-Some-Work.seed c.in-Some-Work.count was worked.0 _ _ _ _ refl refl refl refl (g.met.P.Platform.has_room c.work.new.platform) worked.1 c.in-Err-work.ensures.keeps in
+    let ended = ended_work g.P.Platform.tells old new _ c.in-Some-Work.seed c.in-Some-Work.count was (g.T.Tape.drawn c.args.tape.now) (g.T.Tape.drawn c.work.new.tape) worked.0 _ _ _ _ refl refl refl refl (g.met.P.Platform.has_room c.work.new.platform) worked.1 c.in-Err-work.ensures.keeps in
     keeps_ledger g.P.Platform.tells old new _ _ (λ zero. absurd (never_zero c.in-Err-work.stop (sym c.status-in-Err-work.ensures ∙ zero))) ended
 
 pub returns-in-Err-work-clause-works : goal.returns-in-Err-work-clause-works
@@ -405,7 +431,7 @@ returns-in-Err-work-clause-works g c seed count words =
     let now = record new.counts { input = 0 } in
     let part : ArePart before now old.counts new.counts = record { platform = inr (refl, refl); tape = inr (refl, refl); input = inl (refl, refl, refl); output = inr (refl, refl); ledger = inr (refl, refl) } in
     let worked = c.in-Err-work.ensures.worked in
-    let here = working_of g.P.Platform.tells c.in-Some-Work.seed c.in-Some-Work.count c.status-in-Err-work.result old new worked.0 ending refl refl refl (at_most all c.in-Some-Work.seed c.in-Some-Work.count asked) c.status-in-Err-work.ensures
+    let here = working_of g.P.Platform.tells c.in-Some-Work.seed c.in-Some-Work.count c.status-in-Err-work.result old new worked.0 ending refl refl refl refl (at_most all c.in-Some-Work.seed c.in-Some-Work.count asked) c.status-in-Err-work.ensures
     (cause_wide before now old.counts new.counts ending part c.in-Err-work.ensures.blame.cause) c.in-Err-work.ensures.refused worked.1 in
     subst (λ (s : ℕ). Working g.P.Platform.tells s count c.status-in-Err-work.result old new) same.0 (subst (λ (n : ℕ). Working g.P.Platform.tells c.in-Some-Work.seed n c.status-in-Err-work.result old new) same.1 here)
 
@@ -428,7 +454,7 @@ returns-in-Ok-work-clause-exits g c =
     record {
       is = search rules;
       forms = (λ two. absurd (omega (arith, two)), λ other. absurd (other (inr (inr (c.in-Some-Work.seed, c.in-Some-Work.count, asked)))));
-      of_words = work_status g.P.Platform.tells c.in-Some-Work.seed c.in-Some-Work.count _ _ _ _ (map string_bytes c.args.words.now) 0 (Ok tt) c.in-Ok-work.ensures.worked.1 refl asked;
+      of_words = work_status g.P.Platform.tells c.in-Some-Work.seed c.in-Some-Work.count _ _ _ _ _ _ (map string_bytes c.args.words.now) 0 (Ok tt) c.in-Ok-work.ensures.worked.1 refl asked;
       blame = search rules;
       taken = λ no_seizure no_work. absurd (no_work (c.in-Some-Work.seed, c.in-Some-Work.count, asked));
     }
@@ -439,7 +465,7 @@ returns-in-Err-work-clause-exits g c =
     record {
       is = search rules;
       forms = (λ two. absurd (never_two c.in-Err-work.stop (sym c.status-in-Err-work.ensures ∙ two)), λ other. absurd (other (inr (inr (c.in-Some-Work.seed, c.in-Some-Work.count, asked)))));
-      of_words = work_status g.P.Platform.tells c.in-Some-Work.seed c.in-Some-Work.count _ _ _ _ (map string_bytes c.args.words.now) _ (Err c.in-Err-work.stop) c.in-Err-work.ensures.worked.1 c.status-in-Err-work.ensures asked;
+      of_words = work_status g.P.Platform.tells c.in-Some-Work.seed c.in-Some-Work.count _ _ _ _ _ _ (map string_bytes c.args.words.now) _ (Err c.in-Err-work.stop) c.in-Err-work.ensures.worked.1 c.status-in-Err-work.ensures asked;
       blame = search rules;
       taken = λ no_seizure no_work. absurd (no_work (c.in-Some-Work.seed, c.in-Some-Work.count, asked));
     }

@@ -4,7 +4,7 @@ use Rattle.std.proofs.lemmas.Grind.{common_steps}
 use Rattle.std.specs.Prelude.{◌↔◌, Option, IfSome}
 use Rattle.sdbt_base.specs.Told.{Gave, IsAtEnd}
 use Rattle.text_lines.specs.Lines.{rest_of}
-use Rattle.device_cli.specs.World.{World, world_of}
+use Rattle.device_cli.specs.World.{World, world_by}
 use Rattle.device_cli.proofs.Reading.{IsReading, IsReading-start, IsReading-more, IsReading-stop, IsReading-end, IsReading-failed, IsReading-limit}
 use Rattle.std.proofs.Common.{inl, inr, Err}
 use Rattle.sdbt_base.specs.Counts.{counts}
@@ -54,7 +54,7 @@ loop-left-init g c =
       mounted = c.requires.mounted;
       keeps = on_start _ _ _ c.args.desk.now.session _ _;
       quiet = refl;
-      reading = IsReading-start P.tells (world_of P c.args.desk.now.session c.args.platform.now) (g.I.Source.left c.args.input.now)
+      reading = IsReading-start P.tells (world_by P g.T.Tape c.args.desk.now.session c.args.platform.now c.args.tape.now) (g.I.Source.left c.args.input.now)
           (g.O.Sink.written c.args.output.now) c.new-pending.result _ (g.met.P.Platform.has_room c.args.platform.now) c.new-pending.ensures (omega arith);
     }
 
@@ -63,8 +63,8 @@ returns-in_default-clause-ran g c =
     let P = g.P.Platform in
     let left = g.I.Source.left in
     let written = g.O.Sink.written in
-    let old : World = world_of P c.args.desk.now.session c.args.platform.now in
-    let mid : World = world_of P c.loop-left.desk.session c.loop-left.platform in
+    let old : World = world_by P g.T.Tape c.args.desk.now.session c.args.platform.now c.args.tape.now in
+    let mid : World = world_by P g.T.Tape c.loop-left.desk.session c.loop-left.platform c.loop-left.tape in
     let same : left c.take.new.self ≡ left c.loop-left.input = c.in_default.ensures.nothing_taken in
     IsReading-failed P.tells old mid (left c.args.input.now) (left c.take.new.self) (written c.args.output.now) (written c.loop-left.output) c.loop-left.pending c.loop-left.left
     (subst (λ (l : Option (List ℕ)). IsReading P.tells old mid (left c.args.input.now) l (written c.args.output.now) (written c.loop-left.output) c.loop-left.pending c.loop-left.left)
@@ -76,9 +76,9 @@ returns-then-count-eq0-clause-ran g c =
     let P = g.P.Platform in
     let left = g.I.Source.left in
     let written = g.O.Sink.written in
-    let old : World = world_of P c.args.desk.now.session c.args.platform.now in
-    let mid : World = world_of P c.loop-left.desk.session c.loop-left.platform in
-    let new : World = world_of P c.serve_end.new.desk.session c.serve_end.new.platform in
+    let old : World = world_by P g.T.Tape c.args.desk.now.session c.args.platform.now c.args.tape.now in
+    let mid : World = world_by P g.T.Tape c.loop-left.desk.session c.loop-left.platform c.loop-left.tape in
+    let new : World = world_by P g.T.Tape c.serve_end.new.desk.session c.serve_end.new.platform c.serve_end.new.tape in
     let into : List ℕ = c.take.new.into in
     let same : left c.loop-left.input ≡ left c.take.new.self = none_given (left c.loop-left.input) (left c.take.new.self) into c.in-Ok.count c.if-count-eq0.true c.in-Ok.ensures.taken in
     let reading = subst (λ (l : Option (List ℕ)). IsReading P.tells old mid (left c.args.input.now) l (written c.args.output.now) (written c.loop-left.output) c.loop-left.pending c.loop-left.left)
@@ -93,9 +93,9 @@ returns-in-Err-clause-ran g c =
     let P = g.P.Platform in
     let left = g.I.Source.left in
     let written = g.O.Sink.written in
-    let old : World = world_of P c.args.desk.now.session c.args.platform.now in
-    let mid : World = world_of P c.loop-left.desk.session c.loop-left.platform in
-    let new : World = world_of P c.serve_piece.new.desk.session c.serve_piece.new.platform in
+    let old : World = world_by P g.T.Tape c.args.desk.now.session c.args.platform.now c.args.tape.now in
+    let mid : World = world_by P g.T.Tape c.loop-left.desk.session c.loop-left.platform c.loop-left.tape in
+    let new : World = world_by P g.T.Tape c.serve_piece.new.desk.session c.serve_piece.new.platform c.serve_piece.new.tape in
     let reading = c.loop-left.invariant.reading in
     let took = taken_of c.take.new.into (drop c.min-room.result c.loop-left.piece) c.in-Ok.count c.loop-left.left (left c.loop-left.input) (left c.take.new.self)
     (omega (arith, c.in-Ok.ensures.bound, c.take.auto.into)) (grind (arith, common_steps, c.take.auto.into, c.min-room.ensures)) (grind (arith, common_steps, c.take.auto.into, c.min-room.ensures)) c.in-Ok.ensures.taken in
@@ -108,9 +108,9 @@ loop-left-preserved g c =
     let P = g.P.Platform in
     let left = g.I.Source.left in
     let written = g.O.Sink.written in
-    let old : World = world_of P c.args.desk.now.session c.args.platform.now in
-    let mid : World = world_of P c.loop-left.desk.session c.loop-left.platform in
-    let new : World = world_of P c.serve_piece.new.desk.session c.serve_piece.new.platform in
+    let old : World = world_by P g.T.Tape c.args.desk.now.session c.args.platform.now c.args.tape.now in
+    let mid : World = world_by P g.T.Tape c.loop-left.desk.session c.loop-left.platform c.loop-left.tape in
+    let new : World = world_by P g.T.Tape c.serve_piece.new.desk.session c.serve_piece.new.platform c.serve_piece.new.tape in
     let reading = c.loop-left.invariant.reading in
     let took = taken_of c.take.new.into (drop c.min-room.result c.loop-left.piece) c.in-Ok.count c.loop-left.left (left c.loop-left.input) (left c.take.new.self)
     (omega (arith, c.in-Ok.ensures.bound, c.take.auto.into)) (grind (arith, common_steps, c.take.auto.into, c.min-room.ensures)) (grind (arith, common_steps, c.take.auto.into, c.min-room.ensures)) c.in-Ok.ensures.taken in
@@ -133,8 +133,8 @@ loop-left-preserved g c =
 pub returns-clause-ran : goal.returns-clause-ran
 returns-clause-ran g c =
     let P = g.P.Platform in
-    let old : World = world_of P c.args.desk.now.session c.args.platform.now in
-    let mid : World = world_of P c.loop-left.desk.session c.loop-left.platform in
+    let old : World = world_by P g.T.Tape c.args.desk.now.session c.args.platform.now c.args.tape.now in
+    let mid : World = world_by P g.T.Tape c.loop-left.desk.session c.loop-left.platform c.loop-left.tape in
     IsReading-limit P.tells old mid (g.I.Source.left c.args.input.now) (g.I.Source.left c.loop-left.input) (g.O.Sink.written c.args.output.now) (g.O.Sink.written c.loop-left.output)
     c.loop-left.pending c.loop-left.left c.loop-left.invariant.reading (let none = c.loop-left-test.false in omega arith)
 

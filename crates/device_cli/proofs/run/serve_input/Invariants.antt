@@ -3,7 +3,7 @@ use Rattle.std.specs.Prelude.{IfSome}
 use Rattle.device_cli.specs.Desk.{IsReady, HasRoom}
 use Rattle.session_calls.specs.Damage.{IsMounted}
 use Rattle.sdbt_base.specs.Counts.{counts}
-use Rattle.device_cli.specs.World.{world_of}
+use Rattle.device_cli.specs.World.{world_by}
 use Rattle.device_course.specs.States.{IsListed}
 use Rattle.device_course.specs.Keys.{KeepsOn}
 use Rattle.device_cli.proofs.Reading.{IsReading}
@@ -22,7 +22,7 @@ invariant-loop-left g l =
       mounted : P.tells → IfSome l.desk.session (IsMounted (P.history l.platform).present);
       keeps : KeepsOn P.tells (T.drawn l.fn.tape) (T.drawn l.tape) (L.written l.fn.ledger) (L.written l.ledger) l.fn.desk.session (P.history l.fn.platform) (P.history l.platform) (Unit {0}) (IsListed l.desk.session (P.history l.platform).present);
       quiet : counts (P.faults l.platform) (T.faults l.tape) (I.faults l.input) (O.faults l.output) (L.faults l.ledger) ≡ counts (P.faults l.fn.platform) (T.faults l.fn.tape) (I.faults l.fn.input) (O.faults l.fn.output) (L.faults l.fn.ledger);
-      reading : IsReading P.tells (world_of P l.fn.desk.session l.fn.platform) (world_of P l.desk.session l.platform)
+      reading : IsReading P.tells (world_by P g.T.Tape l.fn.desk.session l.fn.platform l.fn.tape) (world_by P g.T.Tape l.desk.session l.platform l.tape)
           (I.left l.fn.input) (I.left l.input) (O.written l.fn.output) (O.written l.output) l.pending l.left;
     }
 

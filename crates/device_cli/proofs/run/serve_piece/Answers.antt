@@ -1,5 +1,5 @@
 use Rattle.std.proofs.Common.{ℕ, List, Err, ◌++◌, ◌∙◌, refl}
-use Rattle.device_cli.specs.World.{World, world_of}
+use Rattle.device_cli.specs.World.{World, world_by}
 use Rattle.device_cli.proofs.Serving.{HandledBy, handling}
 use Rattle.line_run.proofs.LineLaws.{IsServing-start, IsServing-line, IsServing-stop, IsServing-end}
 use Rattle.device_cli.proofs.BlameLaws.{blamed_then, fell_not}
@@ -17,7 +17,7 @@ loop-front-init g c =
       keeps = on_start _ _ _ c.args.desk.now.session _ _;
       stands = λ told entry at. (entry, at);
       quiet = refl;
-      serving = λ rest pending. IsServing-start _ (HandledBy P.tells) (handling P.tells) (world_of P c.args.desk.now.session c.args.platform.now)
+      serving = λ rest pending. IsServing-start _ (HandledBy P.tells) (handling P.tells) (world_by P g.T.Tape c.args.desk.now.session c.args.platform.now c.args.tape.now)
           (g.O.Sink.written c.args.output.now) c.args.pending.now rest c.args.piece.now (g.met.P.Platform.has_room c.args.platform.now) pending;
     }
 
@@ -25,9 +25,9 @@ pub loop-front-preserved : goal.loop-front-preserved
 loop-front-preserved g c =
     let P = g.P.Platform in
     let written = g.O.Sink.written in
-    let old : World = world_of P c.args.desk.now.session c.args.platform.now in
-    let mid : World = world_of P c.loop-front.desk.session c.loop-front.platform in
-    let new : World = world_of P c.answer.new.desk.session c.answer.new.platform in
+    let old : World = world_by P g.T.Tape c.args.desk.now.session c.args.platform.now c.args.tape.now in
+    let mid : World = world_by P g.T.Tape c.loop-front.desk.session c.loop-front.platform c.loop-front.tape in
+    let new : World = world_by P g.T.Tape c.answer.new.desk.session c.answer.new.platform c.answer.new.tape in
     record {
       ready = c.in_default-answer.ensures.after.ready;
       room = c.in_default-answer.ensures.after.room;
@@ -52,9 +52,9 @@ pub returns-in-Err-clause-handled : goal.returns-in-Err-clause-handled
 returns-in-Err-clause-handled g c rest pending =
     let P = g.P.Platform in
     let written = g.O.Sink.written in
-    let old : World = world_of P c.args.desk.now.session c.args.platform.now in
-    let mid : World = world_of P c.loop-front.desk.session c.loop-front.platform in
-    let new : World = world_of P c.answer.new.desk.session c.answer.new.platform in
+    let old : World = world_by P g.T.Tape c.args.desk.now.session c.args.platform.now c.args.tape.now in
+    let mid : World = world_by P g.T.Tape c.loop-front.desk.session c.loop-front.platform c.loop-front.tape in
+    let new : World = world_by P g.T.Tape c.answer.new.desk.session c.answer.new.platform c.answer.new.tape in
     let so_far = c.loop-front.invariant.serving rest pending in
     let line : List ℕ = so_far.line ++ c.in-Some.front.now in
     let kept = c.complete-line.ensures so_far.line so_far.unfinished.is_pending in
@@ -66,7 +66,7 @@ pub returns-clause-pending : goal.returns-clause-pending
 returns-clause-pending g c rest pending =
     let P = g.P.Platform in
     let so_far = c.loop-front.invariant.serving rest pending in
-    let end = IsServing-end (HandledBy P.tells) (world_of P c.args.desk.now.session c.args.platform.now) (world_of P c.loop-front.desk.session c.loop-front.platform)
+    let end = IsServing-end (HandledBy P.tells) (world_by P g.T.Tape c.args.desk.now.session c.args.platform.now c.args.tape.now) (world_by P g.T.Tape c.loop-front.desk.session c.loop-front.platform c.loop-front.tape)
     (g.O.Sink.written c.args.output.now) (g.O.Sink.written c.loop-front.output) (rest ++ c.args.piece.now) c.loop-front.pending c.loop-front.rest.now
     so_far c.in_default.ensures.none in
     rw end.1 (record { is_pending = c.push.ensures so_far.line so_far.unfinished.is_pending; feedless = end.2 })
@@ -75,7 +75,7 @@ pub returns-clause-handled : goal.returns-clause-handled
 returns-clause-handled g c rest pending =
     let P = g.P.Platform in
     let so_far = c.loop-front.invariant.serving rest pending in
-    (IsServing-end (HandledBy P.tells) (world_of P c.args.desk.now.session c.args.platform.now) (world_of P c.loop-front.desk.session c.loop-front.platform)
+    (IsServing-end (HandledBy P.tells) (world_by P g.T.Tape c.args.desk.now.session c.args.platform.now c.args.tape.now) (world_by P g.T.Tape c.loop-front.desk.session c.loop-front.platform c.loop-front.tape)
     (g.O.Sink.written c.args.output.now) (g.O.Sink.written c.loop-front.output) (rest ++ c.args.piece.now) c.loop-front.pending c.loop-front.rest.now
     so_far c.in_default.ensures.none).0
 

@@ -4,7 +4,7 @@ use Rattle.device_cli.specs.Desk.{IsReady, HasRoom}
 use Rattle.session_calls.specs.Damage.{IsMounted}
 use Rattle.sdbt_base.specs.Counts.{counts}
 use Rattle.line_run.specs.Pending.{IsUnfinished}
-use Rattle.device_cli.specs.World.{world_of}
+use Rattle.device_cli.specs.World.{world_by}
 use Rattle.sdbt_base.specs.Arrays.{State}
 use Rattle.device_course.specs.States.{IsListed, IsAt}
 use Rattle.device_course.specs.Keys.{KeepsOn}
@@ -26,7 +26,7 @@ invariant-loop-front g l =
       stands : P.tells → (entry : State) → IsAt (P.history l.fn.platform).present l.fn.desk.session entry → (now : State) × IsAt (P.history l.platform).present l.desk.session now;
       quiet : counts (P.faults l.platform) (T.faults l.tape) 0 (O.faults l.output) (L.faults l.ledger) ≡ counts (P.faults l.fn.platform) (T.faults l.fn.tape) 0 (O.faults l.fn.output) (L.faults l.fn.ledger);
       serving : (rest : List ℕ) → IsUnfinished l.fn.pending rest
-          → IsServing (HandledBy P.tells) (world_of P l.fn.desk.session l.fn.platform) (world_of P l.desk.session l.platform)
+          → IsServing (HandledBy P.tells) (world_by P g.T.Tape l.fn.desk.session l.fn.platform l.fn.tape) (world_by P g.T.Tape l.desk.session l.platform l.tape)
           (O.written l.fn.output) (O.written l.output) (rest ++ l.fn.piece) l.pending l.rest;
     }
 

@@ -3,7 +3,7 @@ use Rattle.device_course.proofs.KeysLaws.{on_start, on_done}
 use Rattle.device_cli.specs.Ran.{Ran}
 use Rattle.line_run.specs.Puts.{damage_line}
 use Rattle.device_cli.specs.Working.{script_of}
-use Rattle.device_cli.specs.World.{World, world_of}
+use Rattle.device_cli.specs.World.{World, world_by}
 use Rattle.device_cli.proofs.WorkLaws.{idle, told_replies}
 use Rattle.device_cli.proofs.working.work.Goals as goal
 
@@ -23,8 +23,8 @@ pub returns-in-Ok-run-clause-worked : goal.returns-in-Ok-run-clause-worked
 returns-in-Ok-run-clause-worked g c =
     let P = g.P.Platform in
     let ran = c.in-Ok-run.ensures.ran in
-    let old : World = world_of P None c.args.platform.now in
-    let new : World = world_of P ran.0 c.run.new.platform in
+    let old : World = world_by P g.T.Tape None c.args.platform.now c.args.tape.now in
+    let new : World = world_by P g.T.Tape ran.0 c.run.new.platform c.run.new.tape in
     let script : List ℕ = script_of c.args.seed c.args.count in
     let told : List ℕ = c.run.new.output.written in
     let left : Option (List ℕ) = Some c.run.new.input in

@@ -45,7 +45,7 @@ returns-in-Err-clause-goes g c = record {
 }
 
 pub returns-in-Ok-clause-adds : goal.returns-in-Ok-clause-adds
-returns-in-Ok-clause-adds g c = c.in-Ok.ensures.adds.0
+returns-in-Ok-clause-adds g c = (c.in-Ok.ensures.adds.0, c.in-Ok.ensures.adds.1.key, c.in-Ok.ensures.adds.1.drew)
 
 pub returns-in-Err-clause-adds : goal.returns-in-Err-clause-adds
 returns-in-Err-clause-adds g c = write_added g.P.Platform g.T.Tape _ _ _ _ (places_of c.write.new.self.grove) c.args.block c.in-Err.refusal _ c.stop_of_write.ensures c.in-Err.ensures.adds

@@ -1,7 +1,11 @@
-use Rattle.std.proofs.Common.{◌≡◌, Some, Err, refl, sym, ◌∙◌, ap}
+use Rattle.std.proofs.Common.{◌≡◌, [], Option, Some, Err, refl, sym, ◌∙◌, ap, subst}
+use Rattle.std.specs.Prelude.{IfSome}
+use Rattle.device_session.specs.Open.{IsOpen}
+use Rattle.device_session.specs.Sessions.{Session}
 use Rattle.std.proofs.lemmas.Result.{err_from_is_err_and}
 use Rattle.device_course.proofs.KeysLaws.{listed_none, on_done, on_start}
 use Rattle.script_lang.specs.Commands.{Commit}
+use Rattle.page_store.proofs.KeepingLaws.{drew_none}
 use Rattle.device_cli.proofs.CallLaws.{commit_stops, halts_commit, on_held, serves_number, serves_short}
 use Rattle.device_cli.proofs.ServedLaws.{gives_unmounted_commit}
 use Rattle.device_cli.proofs.ServingLaws.{serves_unmounted}
@@ -16,6 +20,9 @@ returns-in_default-clause-answered g c told entry rep =
 
 pub returns-in_default-clause-keeps : goal.returns-in_default-clause-keeps
 returns-in_default-clause-keeps g c = on_done _ _ _ _ _ c.args.self.now.session _ _ _ _ _ _ (on_start _ _ _ c.args.self.now.session _ (Unit {0})) (λ going. tt) (λ keys h. listed_none _ c.take.new.self _ keys c.take.ensures.after h)
+
+pub returns-in_default-clause-any : goal.returns-in_default-clause-any
+returns-in_default-clause-any g c = sym c.take.ensures.value ∙ c.in_default.is
 
 -- ---- an answer
 
@@ -52,4 +59,21 @@ returns-in_err-done-clause-answered g c told entry rep =
     c.in_err-done.ensures.answers (c.in_err-done.ensures.leads told) rep)
 
 pub returns-in_err-done-clause-any : goal.returns-in_err-done-clause-any
-returns-in_err-done-clause-any g c = rw (stopped g c) (commit_stops g.P.Platform g.T.Tape _ _ _ _ c.in-Some.session (g.P.Platform.history c.commit_session.new.platform).present c.in_err-done.field-0.0 c.in_err-done.ensures.answers)
+returns-in_err-done-clause-any g c =
+    let is : c.args.self.now.session ≡ Some c.in-Some.session = sym c.take.ensures.value ∙ c.in-Some.is in
+    rw (stopped g c) (commit_stops g.P.Platform g.T.Tape _ _ _ _ c.args.self.now.session c.take.new.self c.in-Some.session c.in_err-done.field-0.0 is
+    (subst (λ (s : Option Session). IfSome s (λ session. IsOpen session (g.P.Platform.head c.args.platform.now))) is c.requires.ready) c.in_err-done.ensures.goes.capacity c.requires.mounted c.in_err-done.ensures.answers)
+
+-- ---- what it draws
+
+pub returns-in_default-clause-drew : goal.returns-in_default-clause-drew
+returns-in_default-clause-drew g c = ([], refl, drew_none _ _ refl)
+
+pub returns-in-Committed-clause-drew : goal.returns-in-Committed-clause-drew
+returns-in-Committed-clause-drew g c = (c.in_ok-done.ensures.goes.keeps.keys.grew, tt, c.in_ok-done.ensures.goes.keeps.keys.drew)
+
+pub returns-in-Full-clause-drew : goal.returns-in-Full-clause-drew
+returns-in-Full-clause-drew g c = ([], refl, drew_none _ _ (ap g.T.Tape.drawn (rw c.in-Full.is at c.in_ok-done.ensures.answers).same.2))
+
+pub returns-in_err-done-clause-drew : goal.returns-in_err-done-clause-drew
+returns-in_err-done-clause-drew g c = rw (stopped g c) tt

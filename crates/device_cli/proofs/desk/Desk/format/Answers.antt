@@ -1,5 +1,5 @@
 use Rattle.std.proofs.lemmas.Grind.{common_steps}
-use Rattle.std.proofs.Common.{List, ◌≡◌, ◌≢◌, ◌-◌, ◌<◌, ℕ, true, false, None, Ok, Err, inl, inr, refl, sym, ap, subst, rules, arith, []}
+use Rattle.std.proofs.Common.{List, ◌≡◌, ◌≢◌, ◌-◌, ◌<◌, ℕ, true, false, None, Ok, Err, inl, inr, refl, sym, ◌∙◌, ap, subst, rules, arith, []}
 use Rattle.std.specs.Prelude.{Result, IfOk, IfErr, IsOk, ◌⊎◌}
 use Rattle.sdbt_base.specs.Counts.{Counts}
 use Rattle.sdbt_base.specs.Arrays.{State}
@@ -17,6 +17,7 @@ use Rattle.script_lang.specs.Commands.{Format}
 use Rattle.device_cli.proofs.ServedLaws.{halts_still, gives_format_range}
 use Rattle.device_cli.proofs.ServingLaws.{KeepsCell, serves_formatted, serves_format_full, serves_not_empty, serves_refused, halts_format}
 use Rattle.sdbt_base.specs.declared.tapes.Tape.{Ghosts as TapeGhosts}
+use Rattle.platform.specs.Image.{Image}
 use Rattle.platform.specs.declared.platforms.Platform.{Ghosts as PlatformGhosts}
 use Rattle.device_core.specs.Publishing.{IsFormatCause}
 use Rattle.device_core.specs.declared.refusals.FormatRefusal.{FormatRefusal}
@@ -26,6 +27,9 @@ use Rattle.device_course.proofs.KeysLaws.{on_look, on_call, sound_of, listed_ima
 use Rattle.device_cli.proofs.CellLaws.{ready_later}
 use Rattle.device_cli.proofs.Choices.{on_ok}
 use Rattle.device_cli.specs.World.{needed_of}
+use Rattle.page_store.proofs.KeepingLaws.{drew_none}
+use Rattle.device_cli.proofs.DrawingLaws.{refused_drew}
+use Rattle.device_cli.proofs.ReplyLaws.{refused_any}
 use Rattle.device_cli.proofs.EnoughLaws.{enough_refused, pages_refused}
 use Rattle.device_cli.proofs.desk.Desk.format.Goals as goal
 
@@ -165,3 +169,32 @@ returns-in-Ok-clause-after g c = record {
   added = search rules;
   full = search rules;
 }
+
+pub returns-then-not-is_in_limits-clause-any : goal.returns-then-not-is_in_limits-clause-any
+returns-then-not-is_in_limits-clause-any g c =
+    let P = g.P.Platform in
+    let past : in_limits c.args.blocks c.args.order ≡ false = grind (arith, common_steps, c.is_in_limits.ensures.limits, c.if-not-is_in_limits.true) in
+    refused_any P.tells (world_of P c.args.self.now.session c.args.platform.now) (world_of P c.args.self.now.session c.refuse_format.new.platform) c.args.blocks c.args.order c.refuse_format.result c.args.self.now.buffer
+    c.refuse_format.ensures.either c.refuse_format.ensures.cause.0 past
+
+pub returns-in-Err-Memory-clause-any : goal.returns-in-Err-Memory-clause-any
+returns-in-Err-Memory-clause-any g c =
+    let cause = rw c.in-Err-Memory.field-0-is at c.in-Err-Memory.ensures.cause in (
+      grind (arith, common_steps, c.is_in_limits.ensures.limits, c.if-not-is_in_limits.false),
+      omega (arith, g.met.P.Platform.has_room c.args.platform.now, cause.1, cause.2.0.head, c.format.ensures.grows.0.capacity),
+      λ told. ap (λ (image : Image). image.cell) (cause.2.0.image told) ∙ cause.0 told,
+    )
+
+-- ---- what it draws
+
+pub returns-in-Ok-clause-drew : goal.returns-in-Ok-clause-drew
+returns-in-Ok-clause-drew g c = (c.format.ensures.discloses.keys.grew, tt, c.format.ensures.discloses.keys.drew)
+
+pub returns-in-Err-NotEmpty-clause-drew : goal.returns-in-Err-NotEmpty-clause-drew
+returns-in-Err-NotEmpty-clause-drew g c = ([], refl, drew_none _ _ (rw c.in-Err-NotEmpty.field-0-is at c.in-Err-NotEmpty.ensures.cause).1.0.drawn)
+
+pub returns-in-Err-Full-clause-drew : goal.returns-in-Err-Full-clause-drew
+returns-in-Err-Full-clause-drew g c = ([], refl, drew_none _ _ (rw c.in-Err-Full.field-0-is at c.in-Err-Full.ensures.cause).2.0.drawn)
+
+pub returns-then-not-is_in_limits-clause-drew : goal.returns-then-not-is_in_limits-clause-drew
+returns-then-not-is_in_limits-clause-drew g c = refused_drew (g.T.Tape.drawn c.args.tape.now) c.args.blocks c.args.order c.refuse_format.result c.args.self.now.buffer c.refuse_format.ensures.either

@@ -38,3 +38,6 @@ returns-then-is_none-clause-looks g c told before warm look = (omega arith, λ d
 
 pub returns-clause-looks : goal.returns-clause-looks
 returns-clause-looks g c told before warm look = (omega arith, λ done. subst (λ (session : Option Session). IsWarmFor session None) (sym c.close.ensures) tt)
+
+pub returns-then-is_none-clause-any : goal.returns-then-is_none-clause-any
+returns-then-is_none-clause-any g c = grind (arith, common_steps, c.is_none.ensures, c.if-is_none.true)

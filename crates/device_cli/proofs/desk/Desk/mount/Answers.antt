@@ -86,4 +86,8 @@ returns-in_err-session-clause-keeps g c = λ drawn written.
     rw (stopped g c) (on_held _ _ _ _ _ c.args.self.now.session None _ _ _ _ _ _ none (c.in_err-session.ensures.keeps drawn written) (λ never. absurd cc) (λ keys h. tt))
 
 pub returns-in_err-session-clause-any : goal.returns-in_err-session-clause-any
-returns-in_err-session-clause-any g c = rw (stopped g c) (mount_stops g.P.Platform.tells (g.P.Platform.history c.mount_session.new.platform).present _ _ c.in_err-session.field-0.0 c.in_err-session.ensures.stops)
+returns-in_err-session-clause-any g c =
+    let P = g.P.Platform in
+    let none : c.args.self.now.session ≡ None = grind (arith, common_steps, c.is_some.ensures, c.if-is_some.false) in
+    rw (stopped g c) (mount_stops P.tells c.args.self.now.session (P.history c.args.platform.now).present (P.head c.args.platform.now) (world_of P c.args.self.now.session c.mount_session.new.platform) c.in_err-session.field-0.0 none
+    c.in_err-session.ensures.looks.image c.in_err-session.ensures.looks.head c.in_err-session.ensures.stops)

@@ -15,9 +15,10 @@ use Rattle.device_cli.specs.Pages.{updates_after}
 use Rattle.device_cli.specs.Parts.{added_by}
 use Rattle.device_cli.specs.Replied.{Serves}
 use Rattle.device_cli.specs.World.{AreEnough, World, is_full, needed_of, world_of}
-use Rattle.device_cli.proofs.CallLaws.{after_stopped, halts_led, if_held, mounted_held, no_draw, no_root, on_held, past_device, past_held, room_held, read_sound, read_stops, serves_led, within_device}
+use Rattle.device_cli.proofs.CallLaws.{after_stopped, halts_led, mounted_held, no_draw, no_root, on_held, past_device, room_held, read_sound, read_stops, serves_led, within_device}
 use Rattle.device_cli.proofs.EnoughLaws.{enough_less}
 use Rattle.device_cli.proofs.LookLaws.{has_room, read_cost, warm_after}
+use Rattle.device_cli.proofs.ReplyLaws.{held_has}
 use Rattle.device_cli.proofs.ServedLaws.{gives_unmounted_read, gives_content, gives_read_range}
 use Rattle.device_cli.proofs.ServingLaws.{keeps_same, serves_unmounted}
 use Rattle.device_cli.proofs.desk.Desk.read.Given.{Over}
@@ -32,6 +33,9 @@ returns-in_default-clause-answered g c told entry rep =
 
 pub returns-in_default-clause-keeps : goal.returns-in_default-clause-keeps
 returns-in_default-clause-keeps g c = λ drawn written. on_start _ drawn written c.args.self.now.session _ _
+
+pub returns-in_default-clause-any : goal.returns-in_default-clause-any
+returns-in_default-clause-any g c = grind (arith, common_steps, c.in_default.is)
 
 -- ---- a block past the device's
 
@@ -97,11 +101,11 @@ pub returns-clause-any : goal.returns-clause-any
 returns-clause-any g c =
     let image = (g.P.Platform.history c.args.platform.now).present in
     subst (λ (r : Reply). MayReply g.P.Platform.tells image c.args.self.now.session (Read c.args.block) r) (sym c.reply_with_content.ensures.value)
-    (λ told. if_held c.args.self.now.session c.in-Some.session (IsLookedUp image c.args.block (trimmed c.read_block.new.out)) c.in-Some.is
-    (c.read_block.new.out, c.in_ok-read_block.ensures.any (told, mounted_held _ c.in-Some.session _ c.in-Some.is (c.requires.mounted told)), refl))
+    (held_has c.args.self.now.session c.in-Some.session (λ (s : Session). g.P.Platform.tells → IsLookedUp image c.args.block (trimmed c.read_block.new.out) s) c.in-Some.is
+    (λ told. (c.read_block.new.out, c.in_ok-read_block.ensures.any (told, mounted_held _ c.in-Some.session _ c.in-Some.is (c.requires.mounted told)), refl)))
 
 pub returns-then-block-blocks-clause-any : goal.returns-then-block-blocks-clause-any
-returns-then-block-blocks-clause-any g c = past_held c.args.self.now.session c.in-Some.session c.args.block c.in-Some.is (omega (arith, c.if-block-blocks.true, c.blocks-2.ensures))
+returns-then-block-blocks-clause-any g c = held_has c.args.self.now.session c.in-Some.session (λ (s : Session). blocks_of s ≤ c.args.block) c.in-Some.is (omega (arith, c.if-block-blocks.true, c.blocks-2.ensures))
 
 -- ---- a stop
 
@@ -120,7 +124,7 @@ returns-in_err-read_block-clause-blame g c =
 
 pub returns-in_err-read_block-clause-any : goal.returns-in_err-read_block-clause-any
 returns-in_err-read_block-clause-any g c =
-    rw (stopped g c) (read_stops g.P.Platform.tells _ (g.P.Platform.history c.args.platform.now).present _ c.in-Some.session c.args.block c.read_block.new.out c.in_err-read_block.field-0.0
+    rw (stopped g c) (read_stops g.P.Platform.tells _ c.args.self.now.session (g.P.Platform.history c.args.platform.now).present (world_of g.P.Platform (Some c.read_block.new.session) c.read_block.new.platform) c.in-Some.session c.args.block c.read_block.new.out c.in_err-read_block.field-0.0
     (λ told. (told, mounted_held _ c.in-Some.session _ c.in-Some.is (c.requires.mounted told))) c.in_err-read_block.ensures.any)
 
 pub returns-in_err-read_block-clause-keeps : goal.returns-in_err-read_block-clause-keeps

@@ -3,6 +3,7 @@ use Rattle.platform.specs.Image.{Image}
 use Rattle.platform.specs.History.{History, Steps, CellStays, moment}
 use Rattle.platform.proofs.Moments.{During-step}
 use Rattle.device_terms.specs.Served.{IsServedCell}
+use Rattle.page_store.specs.Roots.{IsBadCell}
 use Rattle.seizure.specs.Opened.{count_of_kind}
 use Rattle.seizure.specs.Report.{Begins}
 use Rattle.script_lang.specs.Replies.{said}
@@ -16,6 +17,7 @@ use Rattle.device_cli.proofs.ServingLaws.{serves_seized}
 use Rattle.device_cli.proofs.SeizingLaws.{saw_seized}
 use Rattle.device_cli.proofs.SeizeWordLaws.{not_bad}
 use Rattle.device_course.proofs.KeysLaws.{on_look, listed_image}
+use Rattle.device_cli.specs.Causes.{MayReply}
 use Rattle.device_cli.specs.Replied.{Serves}
 use Rattle.device_cli.specs.World.{AreEnough}
 use Rattle.device_cli.specs.Pages.{updates_after}
@@ -94,3 +96,16 @@ returns-in-Err-Memory-clause-keeps g c = λ drawn written. on_look _ drawn writt
 pub returns-in-Ok-clause-enough : goal.returns-in-Ok-clause-enough
 returns-in-Ok-clause-enough g c updates enough =
     subst (λ (r : Given). AreEnough c.args.self.now.session (updates_after (said r c.args.self.now.buffer) updates)) (sym c.reply_with_counts.ensures) enough
+
+pub returns-in-Ok-clause-any : goal.returns-in-Ok-clause-any
+returns-in-Ok-clause-any g c =
+    let P = g.P.Platform in
+    subst (λ (r : Given). MayReply P.tells (P.history c.args.platform.now).present c.args.self.now.session commands.Seize (said r c.args.self.now.buffer)) (sym c.reply_with_counts.ensures) tt
+
+pub returns-in-Err-Memory-clause-any : goal.returns-in-Err-Memory-clause-any
+returns-in-Err-Memory-clause-any g c told bad =
+    let P = g.P.Platform in
+    let before = (P.history c.args.platform.now).present in
+    not_bad before.cell (P.head c.args.platform.now) (subst (λ (n : ℕ). IsServedCell before.cell n) (g.met.P.Platform.counts_pages told c.args.platform.now) (c.requires.cell told))
+    (subst (λ (image : Image). IsBadCell (P.head c.args.platform.now) image.cell) (c.seize.ensures.looks.image told)
+    (subst (λ (n : ℕ). IsBadCell n (P.history c.seize.new.platform).present.cell) c.seize.ensures.looks.head bad))

@@ -1,6 +1,6 @@
 use Rattle.std.specs.Prelude.{IfOk}
 use Rattle.device_cli.specs.Parts.{added_by}
-use Rattle.std.proofs.Common.{◌≡◌, ◌+◌, sym, subst, take}
+use Rattle.std.proofs.Common.{◌≡◌, ◌+◌, refl, sym, subst, take}
 use Rattle.device_cli.specs.World.{World, needed_of, world_of}
 use Rattle.device_cli.specs.Replied.{Serves, outcome}
 use Rattle.script_lang.specs.Commands.{asked}
@@ -8,6 +8,8 @@ use Rattle.script_lang.specs.declared.commands.Command.{Command as Parsed}
 use Rattle.device_cli.proofs.SeizingLaws.{saw_of}
 use Rattle.script_lang.specs.Commands as commands
 use Rattle.device_course.proofs.KeysLaws.{on_start, on_done, listed_none}
+use Rattle.device_cli.specs.Drawing.{Spends}
+use Rattle.device_cli.proofs.DrawingLaws.{uncalled}
 use Rattle.device_cli.proofs.Choices.{on_ok}
 use Rattle.device_cli.proofs.desk.Desk.serve.Goals as goal
 
@@ -121,3 +123,70 @@ returns-in-Stat-clause-seen g c told entry rep =
     let P = g.P.Platform in
     let here : World = world_of P c.args.self.now.session c.args.platform.now in
     saw_of here here entry commands.Stat (outcome c.stat.result c.args.self.now.buffer) (λ e. cc) (c.stat.ensures.answered told entry rep)
+
+pub returns-in-Mount-clause-still : goal.returns-in-Mount-clause-still
+returns-in-Mount-clause-still g c =
+    let drawn = g.T.Tape.drawn c.args.tape.now in
+    let buffer = c.args.self.now.buffer in
+    subst (λ (command : Parsed). Spends c.args.tape.now c.args.tape.now c.args.ledger.now c.args.ledger.now drawn drawn (asked command buffer) (outcome c.mount.result c.mount.new.self.buffer)) (sym c.in-Mount.is)
+    (uncalled c.args.tape.now c.args.ledger.now drawn commands.Mount (outcome c.mount.result c.mount.new.self.buffer) (λ draws. draws) (λ puts. puts))
+
+pub returns-in-Read-clause-still : goal.returns-in-Read-clause-still
+returns-in-Read-clause-still g c =
+    let drawn = g.T.Tape.drawn c.args.tape.now in
+    let buffer = c.args.self.now.buffer in
+    subst (λ (command : Parsed). Spends c.args.tape.now c.args.tape.now c.args.ledger.now c.args.ledger.now drawn drawn (asked command buffer) (outcome c.read.result c.read.new.self.buffer)) (sym c.in-Read.is)
+    (uncalled c.args.tape.now c.args.ledger.now drawn (commands.Read c.in-Read.block) (outcome c.read.result c.read.new.self.buffer) (λ draws. draws) (λ puts. puts))
+
+pub returns-in-Trim-clause-still : goal.returns-in-Trim-clause-still
+returns-in-Trim-clause-still g c =
+    let drawn = g.T.Tape.drawn c.args.tape.now in
+    let buffer = c.args.self.now.buffer in
+    subst (λ (command : Parsed). Spends c.args.tape.now c.args.tape.now c.args.ledger.now c.args.ledger.now drawn drawn (asked command buffer) (outcome c.trim.result c.trim.new.self.buffer)) (sym c.in-Trim.is)
+    (uncalled c.args.tape.now c.args.ledger.now drawn (commands.Trim c.in-Trim.block) (outcome c.trim.result c.trim.new.self.buffer) (λ draws. draws) (λ puts. puts))
+
+pub returns-in-Drop-clause-still : goal.returns-in-Drop-clause-still
+returns-in-Drop-clause-still g c =
+    let drawn = g.T.Tape.drawn c.args.tape.now in
+    let buffer = c.args.self.now.buffer in
+    subst (λ (command : Parsed). Spends c.args.tape.now c.args.tape.now c.args.ledger.now c.args.ledger.now drawn drawn (asked command buffer) (outcome c.give_up.result c.give_up.new.self.buffer)) (sym c.in-Drop.is)
+    (uncalled c.args.tape.now c.args.ledger.now drawn commands.Drop (outcome c.give_up.result c.give_up.new.self.buffer) (λ draws. draws) (λ puts. puts))
+
+pub returns-in-Erase-clause-still : goal.returns-in-Erase-clause-still
+returns-in-Erase-clause-still g c =
+    let drawn = g.T.Tape.drawn c.args.tape.now in
+    let buffer = c.args.self.now.buffer in
+    subst (λ (command : Parsed). Spends c.args.tape.now c.args.tape.now c.args.ledger.now c.args.ledger.now drawn drawn (asked command buffer) (outcome c.erase.result c.erase.new.self.buffer)) (sym c.in-Erase.is)
+    (uncalled c.args.tape.now c.args.ledger.now drawn commands.Erase (outcome c.erase.result c.erase.new.self.buffer) (λ draws. draws) (λ puts. puts))
+
+pub returns-in-Stat-clause-still : goal.returns-in-Stat-clause-still
+returns-in-Stat-clause-still g c =
+    let drawn = g.T.Tape.drawn c.args.tape.now in
+    let buffer = c.args.self.now.buffer in
+    subst (λ (command : Parsed). Spends c.args.tape.now c.args.tape.now c.args.ledger.now c.args.ledger.now drawn drawn (asked command buffer) (outcome c.stat.result c.args.self.now.buffer)) (sym c.in-Stat.is)
+    (uncalled c.args.tape.now c.args.ledger.now drawn commands.Stat (outcome c.stat.result c.args.self.now.buffer) (λ draws. draws) (λ puts. puts))
+
+pub returns-in-Seize-clause-still : goal.returns-in-Seize-clause-still
+returns-in-Seize-clause-still g c =
+    let drawn = g.T.Tape.drawn c.args.tape.now in
+    let buffer = c.args.self.now.buffer in
+    subst (λ (command : Parsed). Spends c.args.tape.now c.args.tape.now c.args.ledger.now c.args.ledger.now drawn drawn (asked command buffer) (outcome c.seize.result c.args.self.now.buffer)) (sym c.in-Seize.is)
+    (uncalled c.args.tape.now c.args.ledger.now drawn commands.Seize (outcome c.seize.result c.args.self.now.buffer) (λ draws. draws) (λ puts. puts))
+
+pub returns-in-Format-clause-still : goal.returns-in-Format-clause-still
+returns-in-Format-clause-still g c =
+    let buffer = c.args.self.now.buffer in
+    subst (λ (command : Parsed). Spends c.args.tape.now c.format.new.tape c.args.ledger.now c.format.new.ledger (g.T.Tape.drawn c.args.tape.now) (g.T.Tape.drawn c.format.new.tape) (asked command buffer) (outcome c.format.result c.format.new.self.buffer)) (sym c.in-Format.is)
+    (record { undrawn = λ none. absurd (none tt); unput = λ none. absurd (none tt); drew = c.format.ensures.drew })
+
+pub returns-in-Write-clause-still : goal.returns-in-Write-clause-still
+returns-in-Write-clause-still g c =
+    let buffer = c.args.self.now.buffer in
+    subst (λ (command : Parsed). Spends c.args.tape.now c.write.new.tape c.args.ledger.now c.args.ledger.now (g.T.Tape.drawn c.args.tape.now) (g.T.Tape.drawn c.write.new.tape) (asked command buffer) (outcome c.write.result c.write.new.self.buffer)) (sym c.in-Write.is)
+    (record { undrawn = λ none. absurd (none tt); unput = λ puts. refl; drew = c.write.ensures.drew })
+
+pub returns-in-Commit-clause-still : goal.returns-in-Commit-clause-still
+returns-in-Commit-clause-still g c =
+    let buffer = c.args.self.now.buffer in
+    subst (λ (command : Parsed). Spends c.args.tape.now c.commit.new.tape c.args.ledger.now c.commit.new.ledger (g.T.Tape.drawn c.args.tape.now) (g.T.Tape.drawn c.commit.new.tape) (asked command buffer) (outcome c.commit.result c.commit.new.self.buffer)) (sym c.in-Commit.is)
+    (record { undrawn = λ none. absurd (none tt); unput = λ none. absurd (none tt); drew = c.commit.ensures.drew })

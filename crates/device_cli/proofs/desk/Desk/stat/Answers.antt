@@ -24,3 +24,6 @@ returns-in-Some-clause-looks g c told before warm look = (omega arith, λ done. 
 
 pub returns-in-None-clause-looks : goal.returns-in-None-clause-looks
 returns-in-None-clause-looks g c told before warm look = (omega arith, λ done. warm_less c.args.self.now.session before warm)
+
+pub returns-in-None-clause-any : goal.returns-in-None-clause-any
+returns-in-None-clause-any g c = c.in-None.is

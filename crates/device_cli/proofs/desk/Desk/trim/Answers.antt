@@ -1,14 +1,17 @@
-use Rattle.std.proofs.Common.{◌≡◌, ◌<◌, ◌≤◌, None, Some, Err, refl, ◌∙◌, ap, rules, arith}
+use Rattle.std.proofs.Common.{◌≡◌, ◌<◌, ◌≤◌, ◌⊎◌, false, None, Some, Err, refl, ◌∙◌, ap, rules, arith}
 use Rattle.std.proofs.lemmas.Result.{err_from_is_err_and}
 use Rattle.std.proofs.lemmas.Grind.{common_steps}
 use Rattle.sdbt_base.specs.Arrays.{unmapped}
 use Rattle.device_course.proofs.KeysLaws.{on_start}
+use Rattle.device_session.specs.Damage.{IsFound}
 use Rattle.device_session.specs.Open.{blocks_of}
+use Rattle.device_session.specs.Sessions.{Session}
 use Rattle.script_lang.specs.Commands.{Trim}
 use Rattle.script_lang.specs.Replies as replies
 use Rattle.device_cli.specs.World.{World, is_full, world_of}
-use Rattle.device_cli.proofs.CallLaws.{after_stopped, halts_led, if_held, mounted_held, no_draw, no_root, on_held, past_device, past_held, room_held, serves_led, trim_sound, trim_stops, within_device}
+use Rattle.device_cli.proofs.CallLaws.{after_stopped, halts_led, mounted_has, mounted_held, no_draw, no_root, on_held, past_device, room_held, serves_led, trim_sound, trim_stops, within_device}
 use Rattle.device_cli.proofs.EnoughLaws.{enough_more}
+use Rattle.device_cli.proofs.ReplyLaws.{held_has}
 use Rattle.device_cli.proofs.ServedLaws.{gives_unmounted_trim, gives_trimmed, gives_trim_range}
 use Rattle.device_cli.proofs.ServingLaws.{keeps_same, serves_unmounted}
 use Rattle.device_cli.proofs.desk.Desk.trim.Given.{Over}
@@ -23,6 +26,9 @@ returns-in_default-clause-answered g c told entry rep =
 
 pub returns-in_default-clause-keeps : goal.returns-in_default-clause-keeps
 returns-in_default-clause-keeps g c = λ drawn written. on_start _ drawn written c.args.self.now.session _ _
+
+pub returns-in_default-clause-any : goal.returns-in_default-clause-any
+returns-in_default-clause-any g c = grind (arith, common_steps, c.in_default.is)
 
 -- ---- a block past the device's
 
@@ -75,10 +81,14 @@ returns-clause-answered g c told entry rep =
     ((c.in_ok-trim_block.ensures.goes (no_draw None)).along.cell told) rep
 
 pub returns-clause-any : goal.returns-clause-any
-returns-clause-any g c told = if_held c.args.self.now.session c.in-Some.session _ c.in-Some.is (c.in_ok-trim_block.ensures.any (told, mounted_held _ c.in-Some.session _ c.in-Some.is (c.requires.mounted told)))
+returns-clause-any g c =
+    let P = g.P.Platform in
+    let pages = (P.history c.args.platform.now).present.readable in
+    held_has c.args.self.now.session c.in-Some.session (λ (s : Session). P.tells → IsFound false pages s c.args.block ⊎ (1 ≤ s.mapped)) c.in-Some.is
+    (λ told. c.in_ok-trim_block.ensures.any (told, mounted_held _ c.in-Some.session _ c.in-Some.is (c.requires.mounted told)))
 
 pub returns-then-block-blocks-clause-any : goal.returns-then-block-blocks-clause-any
-returns-then-block-blocks-clause-any g c = past_held c.args.self.now.session c.in-Some.session c.args.block c.in-Some.is (omega (arith, c.if-block-blocks.true, c.blocks-2.ensures))
+returns-then-block-blocks-clause-any g c = held_has c.args.self.now.session c.in-Some.session (λ (s : Session). blocks_of s ≤ c.args.block) c.in-Some.is (omega (arith, c.if-block-blocks.true, c.blocks-2.ensures))
 
 -- ---- a stop
 
@@ -97,8 +107,12 @@ returns-in_err-trim_block-clause-blame g c =
 
 pub returns-in_err-trim_block-clause-any : goal.returns-in_err-trim_block-clause-any
 returns-in_err-trim_block-clause-any g c =
-    rw (stopped g c) (trim_stops g.P.Platform.tells _ (g.P.Platform.history c.args.platform.now).present _ c.in-Some.session c.args.block c.in_err-trim_block.field-0.0
-    (λ told. (told, mounted_held _ c.in-Some.session _ c.in-Some.is (c.requires.mounted told))) c.in_err-trim_block.ensures.any)
+    let P = g.P.Platform in
+    let within : c.args.block < blocks_of c.in-Some.session = omega (arith, c.if-block-blocks.false, c.blocks-2.ensures) in
+    rw (stopped g c) (trim_stops P.tells _ c.args.self.now.session (P.history c.args.platform.now).present (world_of P (Some c.trim_block.new.session) c.trim_block.new.platform) c.in-Some.session c.args.block c.in_err-trim_block.field-0.0
+    (λ told. (told, mounted_held _ c.in-Some.session _ c.in-Some.is (c.requires.mounted told)))
+    (mounted_has P.tells c.args.self.now.session c.in-Some.session (P.history c.args.platform.now) (P.history c.trim_block.new.platform) (λ (s : Session). c.args.block < blocks_of s) c.in-Some.is
+    (c.in_err-trim_block.ensures.goes (no_draw None)).along.cell c.requires.mounted within) c.in_err-trim_block.ensures.any)
 
 pub returns-in_err-trim_block-clause-keeps : goal.returns-in_err-trim_block-clause-keeps
 returns-in_err-trim_block-clause-keeps g c = λ drawn written.

@@ -1,14 +1,18 @@
-use Rattle.std.proofs.Common.{◌≡◌, ◌<◌, ◌≤◌, List, ℕ, None, Some, Err, refl, take, ◌∙◌, ap, rules, arith}
+use Rattle.std.proofs.Common.{◌≡◌, ◌<◌, ◌≤◌, ◌⊎◌, true, List, [], ◌∷◌, ℕ, None, Some, Err, refl, take, ◌∙◌, ap, rules, arith}
 use Rattle.std.proofs.lemmas.Grind.{common_steps}
 use Rattle.std.proofs.lemmas.Result.{err_from_is_err_and}
 use Rattle.sdbt_base.specs.Arrays.{written}
 use Rattle.device_course.proofs.KeysLaws.{on_start}
+use Rattle.device_session.specs.Damage.{HasRoom, IsFound}
 use Rattle.device_session.specs.Open.{blocks_of}
+use Rattle.device_session.specs.Sessions.{Session}
 use Rattle.script_lang.specs.Commands.{Write}
 use Rattle.script_lang.specs.Replies as replies
 use Rattle.device_cli.specs.World.{World, is_full, world_of}
-use Rattle.device_cli.proofs.CallLaws.{after_stopped, halts_led, if_held, mounted_held, no_root, on_held, past_device, past_held, room_held, serves_led, within_device, write_added, write_sound, write_stops}
+use Rattle.device_cli.proofs.CallLaws.{after_stopped, halts_led, mounted_has, mounted_held, no_root, on_held, past_device, room_held, serves_led, within_device, write_added, write_kept, write_sound, write_stops}
 use Rattle.device_cli.proofs.EnoughLaws.{enough_more}
+use Rattle.page_store.proofs.KeepingLaws.{drew_none}
+use Rattle.device_cli.proofs.ReplyLaws.{held_has}
 use Rattle.device_cli.proofs.ServedLaws.{gives_unmounted_write, gives_write_full, gives_write_range, gives_written, is_full_false, is_full_true}
 use Rattle.device_cli.proofs.ServingLaws.{keeps_same, serves_unmounted}
 use Rattle.device_cli.proofs.desk.Desk.write.Given.{Over}
@@ -24,6 +28,9 @@ returns-in_default-clause-answered g c told entry rep =
 
 pub returns-in_default-clause-keeps : goal.returns-in_default-clause-keeps
 returns-in_default-clause-keeps g c = λ ledger. on_start _ _ ledger c.args.self.now.session _ _
+
+pub returns-in_default-clause-any : goal.returns-in_default-clause-any
+returns-in_default-clause-any g c = grind (arith, common_steps, c.in_default.is)
 
 -- ---- a block past the device's
 
@@ -94,10 +101,14 @@ returns-clause-answered g c told entry rep =
     (c.in_ok-write_block.ensures.goes.along.cell told) rep
 
 pub returns-clause-any : goal.returns-clause-any
-returns-clause-any g c told = if_held c.args.self.now.session c.in-Some.session _ c.in-Some.is (c.in_ok-write_block.ensures.any (told, mounted_held _ c.in-Some.session _ c.in-Some.is (c.requires.before.mounted told)))
+returns-clause-any g c =
+    let P = g.P.Platform in
+    let pages = (P.history c.args.platform.now).present.readable in
+    held_has c.args.self.now.session c.in-Some.session (λ (s : Session). P.tells → IsFound true pages s c.args.block ⊎ HasRoom s) c.in-Some.is
+    (λ told. c.in_ok-write_block.ensures.any (told, mounted_held _ c.in-Some.session _ c.in-Some.is (c.requires.before.mounted told)))
 
 pub returns-then-block-blocks-clause-any : goal.returns-then-block-blocks-clause-any
-returns-then-block-blocks-clause-any g c = past_held c.args.self.now.session c.in-Some.session c.args.block c.in-Some.is (omega (arith, c.if-block-blocks.true, c.blocks-2.ensures))
+returns-then-block-blocks-clause-any g c = held_has c.args.self.now.session c.in-Some.session (λ (s : Session). blocks_of s ≤ c.args.block) c.in-Some.is (omega (arith, c.if-block-blocks.true, c.blocks-2.ensures))
 
 -- ---- a stop
 
@@ -118,8 +129,16 @@ returns-in_err-write_block-clause-blame g c =
 
 pub returns-in_err-write_block-clause-any : goal.returns-in_err-write_block-clause-any
 returns-in_err-write_block-clause-any g c =
-    rw (stopped g c) (write_stops g.P.Platform.tells _ (g.P.Platform.history c.args.platform.now).present _ c.in-Some.session c.args.block (take c.args.count c.args.self.now.buffer) c.in_err-write_block.field-0.0
-    (λ told. (told, mounted_held _ c.in-Some.session _ c.in-Some.is (c.requires.before.mounted told))) c.in_err-write_block.ensures.any)
+    let P = g.P.Platform in
+    let along = c.in_err-write_block.ensures.goes.along in
+    let within : c.args.block < blocks_of c.in-Some.session = omega (arith, c.if-block-blocks.false, c.blocks-2.ensures) in
+    let free : P.head c.args.platform.now < P.capacity c.args.platform.now = omega (arith, g.met.P.Platform.has_room c.args.platform.now, c.if-head-capacity.false, c.head.ensures.value, c.capacity.ensures.value) in
+    rw (stopped g c) (write_stops P.tells _ c.args.self.now.session (P.history c.args.platform.now).present (world_of P (Some c.write_block.new.session) c.write_block.new.platform) c.in-Some.session c.args.block (take c.args.count c.args.self.now.buffer) c.in_err-write_block.field-0.0
+    (λ told. (told, mounted_held _ c.in-Some.session _ c.in-Some.is (c.requires.before.mounted told)))
+    (λ e. (
+      omega (arith, write_kept P g.T.Tape _ _ _ _ c.in_err-write_block.field-0.0 c.in_err-write_block.ensures.adds e, along.capacity, free),
+      mounted_has P.tells c.args.self.now.session c.in-Some.session (P.history c.args.platform.now) (P.history c.write_block.new.platform) (λ (s : Session). c.args.block < blocks_of s) c.in-Some.is along.cell c.requires.before.mounted within,
+    )) c.in_err-write_block.ensures.any)
 
 pub returns-in_err-write_block-clause-keeps : goal.returns-in_err-write_block-clause-keeps
 returns-in_err-write_block-clause-keeps g c = λ ledger.
@@ -133,3 +152,23 @@ returns-in_err-write_block-clause-answered g c told entry rep =
     rw (stopped g c) (halts_led old new c.in-Some.session entry (Write c.args.block bytes) c.in_err-write_block.field-0.0 c.in-Some.is (c.requires.before.cell told)
     (λ d t at. write_sound _ c.write_block.new.session d t c.args.block bytes c.in_err-write_block.field-0.0 (c.in_err-write_block.ensures.leads told d t at))
     (c.in_err-write_block.ensures.goes.along.cell told) rep)
+
+-- ---- what it draws and adds
+
+pub returns-in_default-clause-drew : goal.returns-in_default-clause-drew
+returns-in_default-clause-drew g c = ([], refl, drew_none _ _ refl)
+
+pub returns-then-block-blocks-clause-drew : goal.returns-then-block-blocks-clause-drew
+returns-then-block-blocks-clause-drew g c = ([], refl, drew_none _ _ refl)
+
+pub returns-then-head-capacity-clause-drew : goal.returns-then-head-capacity-clause-drew
+returns-then-head-capacity-clause-drew g c = ([], refl, drew_none _ _ refl)
+
+pub returns-clause-drew : goal.returns-clause-drew
+returns-clause-drew g c = (c.in_ok-write_block.ensures.adds.1 ∷ [], refl, c.in_ok-write_block.ensures.adds.2)
+
+pub returns-clause-pages : goal.returns-clause-pages
+returns-clause-pages g c = c.in_ok-write_block.ensures.adds.0
+
+pub returns-in_err-write_block-clause-drew : goal.returns-in_err-write_block-clause-drew
+returns-in_err-write_block-clause-drew g c = rw (stopped g c) tt

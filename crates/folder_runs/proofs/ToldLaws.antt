@@ -1,0 +1,102 @@
+-- What a run says of its replies and of want of memory, where it is told.
+use Rattle.std.proofs.Common.{◌≡◌, ◌⊎◌, ℕ, List, [], ◌∷◌, Option, None, Some, inl, inr}
+use Rattle.platform.specs.Image.{Image}
+use Rattle.platform.specs.History.{History, image_at}
+use Rattle.device_session.specs.Open.{blocks_of, is_touched}
+use Rattle.device_session.specs.Sessions.{Session}
+use Rattle.device_session.specs.Damage.{HasRoom, IsFound}
+use Rattle.std.specs.Prelude.{◌<◌, ◌≤◌, true, false}
+use Rattle.script_lang.specs.Grammar.{IsBad}
+use Rattle.script_lang.specs.Commands.{Command}
+use Rattle.script_lang.specs.Commands as commands
+use Rattle.script_lang.specs.Replies.{Reply}
+use Rattle.script_lang.specs.Replies as given
+use Rattle.device_cli.specs.Causes.{AreSo, CanBeDone, HasContent, IsLookedUp, IsOf, LacksMemory, MayReply, OnHeld, OnMounted, WasSo}
+
+-- ---- replies
+
+told_held : (tells : Type 0) (held : Option Session) (P : Session → Type 0) → tells → OnHeld held (λ session. tells → P session) → OnHeld held (λ session. Unit {0} → P session)
+told_held tells None P told h = absurd h
+told_held tells (Some session) P told h = λ _. h told
+
+told_content : (tells : Type 0) (image : Image) (held : Option Session) (command : Command) (bytes : List ℕ) → tells → HasContent tells image held command bytes → HasContent (Unit {0}) image held command bytes
+told_content tells image held (commands.Read block) bytes told h = told_held tells held (λ (s : Session). IsLookedUp image block bytes s) told h
+told_content tells image held (commands.Format blocks order) bytes told h = absurd h
+told_content tells image held commands.Mount bytes told h = absurd h
+told_content tells image held (commands.Write block content) bytes told h = absurd h
+told_content tells image held (commands.Trim block) bytes told h = absurd h
+told_content tells image held commands.Commit bytes told h = absurd h
+told_content tells image held commands.Drop bytes told h = absurd h
+told_content tells image held commands.Erase bytes told h = absurd h
+told_content tells image held commands.Stat bytes told h = absurd h
+told_content tells image held commands.Seize bytes told h = absurd h
+
+told_done : (tells : Type 0) (image : Image) (held : Option Session) (command : Command) → tells → CanBeDone tells image held command → CanBeDone (Unit {0}) image held command
+told_done tells image held (commands.Write block content) told h = told_held tells held (λ (s : Session). IsFound true image.readable s block ⊎ HasRoom s) told h
+told_done tells image held (commands.Trim block) told h = told_held tells held (λ (s : Session). IsFound false image.readable s block ⊎ (1 ≤ s.mapped)) told h
+told_done tells image held (commands.Format blocks order) told h = absurd h
+told_done tells image held commands.Mount told h = absurd h
+told_done tells image held (commands.Read block) told h = absurd h
+told_done tells image held commands.Commit told h = absurd h
+told_done tells image held commands.Drop told h = absurd h
+told_done tells image held commands.Erase told h = absurd h
+told_done tells image held commands.Stat told h = absurd h
+told_done tells image held commands.Seize told h = absurd h
+
+told_reply : (tells : Type 0) (image : Image) (held : Option Session) (command : Command) (reply : Reply) → tells → MayReply tells image held command reply → MayReply (Unit {0}) image held command reply
+told_reply tells image held command (given.Content bytes) told h = told_content tells image held command bytes told h
+told_reply tells image held command given.Done told h = told_done tells image held command told h
+told_reply tells image held command given.Range told h = h
+told_reply tells image held command given.Unmounted told h = h
+told_reply tells image held command given.Formatted told h = h
+told_reply tells image held command (given.Mounted number) told h = h
+told_reply tells image held command (given.Committed number) told h = h
+told_reply tells image held command given.Dropped told h = h
+told_reply tells image held command given.Erased told h = h
+told_reply tells image held command (given.Stat mapped number) told h = h
+told_reply tells image held command (given.Seized pages nodes blocks) told h = h
+told_reply tells image held command given.Bad told h = h
+told_reply tells image held command given.AlreadyMounted told h = h
+told_reply tells image held command given.NotEmpty told h = h
+told_reply tells image held command given.NoDevice told h = h
+told_reply tells image held command given.Full told h = h
+
+told_line : (tells : Type 0) (history : History) (from : ℕ) (line : List ℕ) (reply : Reply) → tells → (IsBad line × (reply ≡ given.Bad)) ⊎ IsOf (λ command. WasSo tells history from command reply) line
+    → (IsBad line × (reply ≡ given.Bad)) ⊎ IsOf (λ command. WasSo (Unit {0}) history from command reply) line
+told_line tells history from line reply told (inl bad) = inl bad
+told_line tells history from line reply told (inr (command, spells, so)) = inr (
+  command,
+  spells,
+  record {
+    at = so.at;
+    later = so.later;
+    within = so.within;
+    held = so.held;
+    in_range = so.in_range;
+    mounted = so.mounted;
+    may = told_reply tells (image_at history so.at) so.held command reply told so.may;
+  },
+)
+
+pub told_so : (tells : Type 0) (history : History) (from : ℕ) (lines : List (List ℕ)) (replies : List Reply) → tells → AreSo tells history from lines replies → AreSo (Unit {0}) history from lines replies
+told_so tells history from lines [] told h = tt
+told_so tells history from [] (reply ∷ replies) told h = absurd h
+told_so tells history from (line ∷ lines) (reply ∷ replies) told (first, rest) = (told_line tells history from line reply told first, told_so tells history from lines replies told rest)
+
+-- ---- want of memory
+
+told_mounted : (tells : Type 0) (image : Image) (held : Option Session) (P : Session → Type 0) → tells → OnMounted tells image held P → OnMounted (Unit {0}) image held P
+told_mounted tells image None P told h = absurd h
+told_mounted tells image (Some session) P told h = (λ _. h.0 told, h.1)
+
+pub told_lacks : (tells : Type 0) (held : Option Session) (image : Image) (head capacity : ℕ) (command : Command) → tells → LacksMemory tells held image head capacity command → LacksMemory (Unit {0}) held image head capacity command
+told_lacks tells held image head capacity (commands.Format blocks order) told h = (h.0, h.1, λ _. h.2 told)
+told_lacks tells held image head capacity commands.Mount told h = (h.0, λ _. h.1 told)
+told_lacks tells held image head capacity (commands.Write block content) told h = (h.0, told_mounted tells image held (λ (s : Session). block < blocks_of s) told h.1)
+told_lacks tells held image head capacity (commands.Trim block) told h = told_mounted tells image held (λ (s : Session). block < blocks_of s) told h
+told_lacks tells held image head capacity commands.Commit told h = (h.0, told_mounted tells image held (λ (s : Session). is_touched s ≡ true) told h.1)
+told_lacks tells held image head capacity commands.Seize told h = λ _ bad. h told bad
+told_lacks tells held image head capacity (commands.Read block) told h = absurd h
+told_lacks tells held image head capacity commands.Drop told h = absurd h
+told_lacks tells held image head capacity commands.Erase told h = absurd h
+told_lacks tells held image head capacity commands.Stat told h = absurd h
