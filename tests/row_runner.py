@@ -38,10 +38,10 @@ def run_row(text, step=4096):
     return ran.stdout.decode(errors="replace"), fault
 
 
-def served(text, words, script):
-    """Adds a run with these words and this script to a row."""
+def served(text, words, script, kind="run"):
+    """Adds a run with these words and this input to a row."""
     lines = "".join(f"> {line}\n" if line else ">\n" for line in script.splitlines())
-    return f"{text}{' '.join(['run', *words])}\n{lines}"
+    return f"{text}{' '.join([kind, *words])}\n{lines}"
 
 
 def ends(text):

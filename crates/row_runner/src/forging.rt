@@ -1,5 +1,5 @@
 //! Pages and root records that a row makes or changes.
-use crate::lines::{LineFault, byte, number, word};
+use row_lines::{LineFault, byte, number, word};
 use sdbt_base::{FreshKey, RECORD, ROOT};
 use seal_record::seal;
 use std::str::SplitWhitespace;

@@ -1,4 +1,4 @@
-//! Runs the worked rows: reads a row on standard input, does what its lines say through the top call over objects in memory,
+//! Runs the worked rows: reads a row on standard input, does what its lines say through the top calls over objects in memory,
 //! and writes the row again with what came out.
 //!
 //! A line that begins with `<` or `=` is what an earlier run wrote, and is read over; so a row that is as it should be is
@@ -8,7 +8,6 @@
 
 mod forging;
 mod keys;
-mod lines;
 mod reaching;
 mod row;
 mod serving;

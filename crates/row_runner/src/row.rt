@@ -1,15 +1,15 @@
 //! A row, line by line.
 use crate::keys::Keys;
-use crate::lines::{LineFault, end, number, word};
-use crate::serving::Ran;
+use crate::serving::{Ran, Server};
 use crate::showing::{show, write_end};
 use crate::state::Scene;
 use key_tape::SeedTape;
+use row_lines::{Client, LineFault, end, number, word, write_told};
 use sdbt_base::{Line, Memory};
 use std::alloc::Global;
 use std::str::SplitWhitespace;
 
-/// A row that is being followed: the text that is written of it, the objects of its runs, and the run whose script is being read.
+/// A row that is being followed: the text that is written of it, the objects of its runs, and the run whose input is being read.
 #[derive(Drop)]
 pub(crate) struct Row {
     alloc: Global,
@@ -21,11 +21,18 @@ pub(crate) struct Row {
     is_whole: bool,
 }
 
-/// The words of a run, and its script so far.
+/// The words of a run, and its input so far.
 #[derive(Drop)]
 struct Run {
     words: Vec<String>,
-    script: Line,
+    input: Given,
+}
+
+/// What a run gets as its input.
+#[derive(Drop)]
+enum Given {
+    Script(Line),
+    Client(Client),
 }
 
 impl Row {
@@ -67,7 +74,7 @@ impl Row {
         }
         if let Some(text) = line.strip_prefix('>') {
             self.write("", line.as_bytes())?;
-            return self.read_script(text);
+            return self.read_input(text);
         }
         self.finish()?;
         self.write("", line.as_bytes())?;
@@ -78,17 +85,26 @@ impl Row {
         }
     }
 
-    /// Serves the run whose script has been read, and writes how it ended.
+    /// Serves the run whose input has been read, and writes how it ended.
     fn finish(&mut self) -> Result<(), Memory> {
         let Some(run) = self.run.take() else {
             return Ok(());
         };
-        let ran = self.scene.run(&run.words, run.script.bytes(), self.step)?;
-        self.write_output(&ran)?;
+        let (server, input) = match &run.input {
+            Given::Script(script) => (Server::Script, script.bytes()),
+            Given::Client(client) => (Server::Nbd, client.said()),
+        };
+        let ran = self.scene.run(server, &run.words, input, self.step)?;
+        match &run.input {
+            Given::Script(_) => self.write_output(&ran)?,
+            Given::Client(client) => {
+                write_told(self.alloc, client, ran.output.bytes(), &mut self.text)?;
+            }
+        }
         write_end(self.alloc, &self.scene, &ran, &mut self.text)
     }
 
-    /// Writes what a run put: a last line without a line feed behind another mark.
+    /// Writes what a script's run put: a last line without a line feed behind another mark.
     fn write_output(&mut self, ran: &Ran) -> Result<(), Memory> {
         for part in ran.output.bytes().split_inclusive(|byte| *byte == b'\n') {
             match part.strip_suffix(b"\n") {
@@ -112,25 +128,20 @@ impl Row {
         self.write("= ", b"no line of a row")
     }
 
-    /// A line of a script: behind `> ` the line; behind `>~ ` text without a line feed; behind `>* COUNT ` text that many times.
-    fn read_script(&mut self, text: &str) -> Result<(), Memory> {
+    /// A line of the input of a run.
+    fn read_input(&mut self, text: &str) -> Result<(), Memory> {
         let Some(run) = &mut self.run else {
             return self.refuse();
         };
-        let script = &mut run.script;
-        if let Some(part) = text.strip_prefix("~ ") {
-            return script.append(part.as_bytes());
+        let read = match &mut run.input {
+            Given::Script(script) => read_script(script, text),
+            Given::Client(client) => read_client(client, text),
+        };
+        match read {
+            Ok(()) => Ok(()),
+            Err(LineFault::Memory) => Err(Memory),
+            Err(LineFault::Unknown) => self.refuse(),
         }
-        if let Some(part) = text.strip_prefix("* ") {
-            let (count, part) = part.split_once(' ').unwrap_or((part, ""));
-            let count: u32 = count.parse().unwrap_or(0);
-            for _ in 0..count {
-                script.append(part.as_bytes())?;
-            }
-            return Ok(());
-        }
-        script.append(text.strip_prefix(' ').unwrap_or(text).as_bytes())?;
-        script.append(b"\n")
     }
 
     /// Does what a line says.
@@ -144,6 +155,8 @@ impl Row {
             Ok(())
         } else if first == "run" {
             self.begin_run(words)
+        } else if first == "nbd" {
+            self.begin_client(words)
         } else if first == "medium" {
             self.scene.begin(words)
         } else if first == "fail" {
@@ -192,7 +205,23 @@ impl Row {
                 all.push(String::from_str(self.alloc, self.meant_by(word))?)?;
             }
         }
-        self.run = Some(Run { words: all, script });
+        self.run = Some(Run {
+            words: all,
+            input: Given::Script(script),
+        });
+        Ok(())
+    }
+
+    /// `nbd WORD..`: a run with these words that serves a client of NBD.
+    fn begin_client(&mut self, words: &mut SplitWhitespace<'_>) -> Result<(), LineFault> {
+        let mut all = Vec::new(self.alloc);
+        for word in words {
+            all.push(String::from_str(self.alloc, self.meant_by(word))?)?;
+        }
+        self.run = Some(Run {
+            words: all,
+            input: Given::Client(Client::new(self.alloc)?),
+        });
         Ok(())
     }
 
@@ -214,6 +243,42 @@ impl Row {
             None => word,
         }
     }
+}
+
+/// A line of a script: behind `> ` the line; behind `>~ ` text without a line feed; behind `>* COUNT ` text that many times.
+fn read_script(script: &mut Line, text: &str) -> Result<(), LineFault> {
+    if let Some(part) = text.strip_prefix("~ ") {
+        script.append(part.as_bytes())?;
+        return Ok(());
+    }
+    let Some(part) = text.strip_prefix("* ") else {
+        script.append(text.strip_prefix(' ').unwrap_or(text).as_bytes())?;
+        script.append(b"\n")?;
+        return Ok(());
+    };
+    let (count, part) = counted(part);
+    for _ in 0..count {
+        script.append(part.as_bytes())?;
+    }
+    Ok(())
+}
+
+/// A line of what a client of NBD says: behind `>* COUNT ` what it says that many times.
+fn read_client(client: &mut Client, text: &str) -> Result<(), LineFault> {
+    let Some(part) = text.strip_prefix("* ") else {
+        return client.say(text);
+    };
+    let (count, part) = counted(part);
+    for _ in 0..count {
+        client.say(part)?;
+    }
+    Ok(())
+}
+
+/// A count, and the text behind it.
+fn counted(text: &str) -> (u32, &str) {
+    let (count, part) = text.split_once(' ').unwrap_or((text, ""));
+    (count.parse().unwrap_or(0), part)
 }
 
 /// The keys that words say: `rising`, or `seed` and a number.

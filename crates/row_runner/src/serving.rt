@@ -1,9 +1,19 @@
-//! One run of the top call, over objects in memory.
+//! One run of a top call, over objects in memory.
 use crate::keys::{Keys, rising};
 use device_cli::run_main;
+use nbd_core::run_nbd;
 use platform::{Failure, MemPlatform, Platform};
 use sdbt_base::{Line, MemSink, MemSource, Memory, Tape};
 use std::alloc::Global;
+
+/// Which top call serves a run.
+#[derive(Clone, Copy)]
+pub(crate) enum Server {
+    /// That of scripts and other words.
+    Script,
+    /// That of a client of NBD.
+    Nbd,
+}
 
 /// What fails in the next run: calls of the platform, and by their numbers from 1 takes, draws, and puts to the output and to the
 /// ledger, each put with how many bytes it still writes.
@@ -38,27 +48,28 @@ pub(crate) struct Ran {
     pub(crate) starved: u64,
 }
 
-/// Hands words and a script, of which so many bytes come a take, to the top call.
+/// Hands words and an input, of which so many bytes come a take, to a top call.
 pub(crate) fn serve(
     alloc: Global,
     platform: &mut MemPlatform,
     keys: &mut Keys,
     faults: &Faults,
+    server: Server,
     words: &[String],
-    script: &[u8],
+    input: &[u8],
     step: usize,
 ) -> Result<Ran, Memory> {
     platform.set_failures(&faults.calls)?;
-    let mut input = MemSource::new(alloc, script, step.max(1), &faults.takes)?;
+    let mut input = MemSource::new(alloc, input, step.max(1), &faults.takes)?;
     let mut output = MemSink::new(alloc, &faults.puts)?;
     let mut ledger = MemSink::new(alloc, &faults.entries)?;
     let ends = (&mut input, &mut output, &mut ledger);
     let status = match keys {
         Keys::Rising => {
             let mut tape = rising(alloc, platform.head(), &faults.draws)?;
-            status_of(alloc, words, platform, &mut tape, ends)
+            status_of(alloc, server, words, platform, &mut tape, ends)
         }
-        Keys::Seeded(tape) => status_of(alloc, words, platform, tape, ends),
+        Keys::Seeded(tape) => status_of(alloc, server, words, platform, tape, ends),
     };
     platform.set_failures(&[])?;
     let sinks = output.starved().saturating_add(ledger.starved());
@@ -70,15 +81,19 @@ pub(crate) fn serve(
     })
 }
 
-/// Hands all to the top call. Its contract is not said again here, so that no proof above carries it along.
+/// Hands all to a top call. Its contract is not said again here, so that no proof above carries it along.
 fn status_of<T: Tape>(
     alloc: Global,
+    server: Server,
     words: &[String],
     platform: &mut MemPlatform,
     tape: &mut T,
     (input, output, ledger): (&mut MemSource, &mut MemSink, &mut MemSink),
 ) -> u8 {
-    run_main(alloc, words, platform, tape, input, output, ledger)
+    match server {
+        Server::Script => run_main(alloc, words, platform, tape, input, output, ledger),
+        Server::Nbd => run_nbd(alloc, words, platform, tape, input, output, ledger),
+    }
 }
 
 /// These bytes.

@@ -1,11 +1,11 @@
 //! What a row shows of the objects of its runs.
-use crate::lines::{LineFault, end, number, word};
 use crate::reaching::{openers, reached_from, tree_of};
 use crate::serving::Ran;
 use crate::state::Scene;
 use key_tape::SeedTape;
 use platform::Platform;
 use root_codec::decode_root;
+use row_lines::{LineFault, end, number, word};
 use sdbt_base::{Key, Line, Memory, RECORD, Tape};
 use std::alloc::Global;
 use std::str::SplitWhitespace;

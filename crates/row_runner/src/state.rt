@@ -1,10 +1,10 @@
 //! The objects in memory that the runs of a row share.
 use crate::forging::{change, page_of, root_of};
 use crate::keys::Keys;
-use crate::lines::{LineFault, end, number, word};
-use crate::serving::{Faults, Ran, serve};
+use crate::serving::{Faults, Ran, Server, serve};
 use medium_trace::Pages;
 use platform::{CallKind, Failure, MemPlatform, Platform};
+use row_lines::{LineFault, end, number, word};
 use sdbt_base::{Line, MAX_PAGES, Memory, RECORD, ROOT};
 use std::alloc::Global;
 use std::mem::replace;
@@ -58,11 +58,12 @@ impl Scene {
         Ok(())
     }
 
-    /// Serves a script or another word; the ledger's entries come behind those that were there.
+    /// Serves an input; the ledger's entries come behind those that were there.
     pub(crate) fn run(
         &mut self,
+        server: Server,
         words: &[String],
-        script: &[u8],
+        input: &[u8],
         step: usize,
     ) -> Result<Ran, Memory> {
         self.reads = self.platform.reads();
@@ -73,8 +74,9 @@ impl Scene {
             &mut self.platform,
             &mut self.keys,
             &faults,
+            server,
             words,
-            script,
+            input,
             step,
         )?;
         self.ledger.append(ran.entries.bytes())?;

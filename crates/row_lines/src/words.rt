@@ -5,7 +5,7 @@ use std::str::SplitWhitespace;
 
 /// Why a line of a row can't be done.
 #[derive(Clone, Copy, Debug, PartialEq, Eq)]
-pub(crate) enum LineFault {
+pub enum LineFault {
     /// It is none of a row's lines.
     Unknown,
     /// No memory was given.
@@ -37,22 +37,22 @@ impl<T: Drop> From<AllocFailed<T>> for LineFault {
 }
 
 /// The next word.
-pub(crate) fn word<'a>(words: &mut SplitWhitespace<'a>) -> Result<&'a str, LineFault> {
+pub fn word<'a>(words: &mut SplitWhitespace<'a>) -> Result<&'a str, LineFault> {
     words.next().ok_or(LineFault::Unknown)
 }
 
 /// The next word, which is a number.
-pub(crate) fn number(words: &mut SplitWhitespace<'_>) -> Result<u64, LineFault> {
+pub fn number(words: &mut SplitWhitespace<'_>) -> Result<u64, LineFault> {
     word(words)?.parse().ok().ok_or(LineFault::Unknown)
 }
 
 /// The next word, which is a byte.
-pub(crate) fn byte(words: &mut SplitWhitespace<'_>) -> Result<u8, LineFault> {
+pub fn byte(words: &mut SplitWhitespace<'_>) -> Result<u8, LineFault> {
     word(words)?.parse().ok().ok_or(LineFault::Unknown)
 }
 
 /// There are no more words.
-pub(crate) fn end(words: &mut SplitWhitespace<'_>) -> Result<(), LineFault> {
+pub fn end(words: &mut SplitWhitespace<'_>) -> Result<(), LineFault> {
     match words.next() {
         Some(_) => Err(LineFault::Unknown),
         None => Ok(()),
