@@ -49,6 +49,15 @@ impl Table {
         self.volumes.as_slice()
     }
 
+    /// The same table once more.
+    pub fn duplicate(&self) -> Table
+        ensures { result ≡ self.now }
+    {
+        let mut volumes = ArrayVec::new();
+        let _ = volumes.try_extend_from_slice(self.volumes());
+        Table { volumes }
+    }
+
     /// The place of the volume of this name in the table, and the volume.
     pub fn find(&self, name: &Name) -> Option<(usize, Volume)>
         ensures found { IfSome result (λ it. (slice_get self.now it.0 ≡ Some it.1) × (it.1.name ≡ name.now)) }

@@ -1,0 +1,4 @@
+pub mod CarryLaws
+pub mod CallLaws
+pub mod TurnLaws
+pub mod DeskLaws

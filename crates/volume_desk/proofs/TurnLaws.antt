@@ -1,0 +1,267 @@
+-- What a line makes of a session's array and its table, and of the device below them.
+use Rattle.std.proofs.Common.{◌≡◌, ◌≤◌, ◌∷◌, ◌∙◌, ℕ, Bool, List, [], Option, None, Some, Result, Ok, Err, inl, inr, refl, sym, ap, subst, arith}
+use Rattle.sdbt_base.specs.Arrays.{Device, closed, committed, committed_if}
+use Rattle.sdbt_base.specs.declared.sinks.Sink.{Ghosts as SinkGhosts}
+use Rattle.sdbt_base.specs.declared.tapes.Tape.{Ghosts as TapeGhosts}
+use Rattle.platform.specs.Image.{Image}
+use Rattle.platform.specs.History.{CellStays, During, History}
+use Rattle.platform.specs.declared.platforms.Platform.{Ghosts as PlatformGhosts}
+use Rattle.platform.proofs.Moments.{During-now, LeavesOnly-now}
+use Rattle.page_store.specs.Stands.{Stands}
+use Rattle.page_store.proofs.StandsLaws.{stands_during}
+use Rattle.device_terms.specs.Served.{IsServedImage}
+use Rattle.device_terms.proofs.ServedLaws.{serves_still}
+use Rattle.device_course.specs.Marks.{Leaves}
+use Rattle.device_course.specs.States.{IsAt, Outside, around}
+use Rattle.device_course.proofs.MadeLaws.{made_none, made_one, made_same, made_stopped, made_then, shut}
+use Rattle.device_session.specs.Open.{IsOpen, blocks_of, needed_by}
+use Rattle.device_session.specs.declared.refusals.CommitReply.{CommitReply}
+use Rattle.device_session.specs.declared.refusals.CommitReply.TheVariants as replies
+use Rattle.device_session.specs.Sessions.{Session}
+use Rattle.device_session.proofs.CountLaws.{needs_none, needs_some}
+use Rattle.line_run.specs.Stops.{IsSound}
+use Rattle.nbd_terms.specs.Held.{Held, after_commit, Needs, state_of}
+use Rattle.nbd_terms.specs.Leading.{last_of, marks_of}
+use Rattle.session_calls.specs.Commits.{AnswersReply, CommitLeads, ReplyLeads, StopsAt as CommitStops}
+use Rattle.session_calls.specs.declared.stops.DeviceStop.{DeviceStop}
+use Rattle.session_calls.specs.declared.stops.DeviceStop.TheVariants as device
+use Rattle.volume_table.specs.declared.volume.Volume.{Volume}
+use Rattle.volume_table.specs.Names.{IsName}
+use Rattle.volume_lines.specs.Grammar.{Spells}
+use Rattle.volume_lines.specs.Lines.{Line, Commit, Destroy, asked}
+use Rattle.volume_lines.specs.declared.lines.Line.{Line as Parsed}
+use Rattle.volume_lines.specs.declared.lines.Line.TheVariants as parsed
+use Rattle.volume_desk.specs.declared.serving.Answered.{Answered}
+use Rattle.volume_lines.specs.Replies as told
+use Rattle.volume_lines.specs.Replies.{Reply, said}
+use Rattle.volume_lines.specs.declared.replies.Reply.{Reply as Given}
+use Rattle.volume_terms.specs.Turn.{CommitsAs, Destroys, IsShort, Serves}
+use Rattle.volume_terms.specs.Volumes.{changed}
+use Rattle.volume_terms.proofs.KeepingLaws.{committed_tabled}
+use Rattle.volume_desk.specs.Turns.{Changed, IsHeld, IsOfBlocks, MadeBetween, Served, ServesAs, Stopped, StopsAt, TakenOut, TakesOut, TurnsTo, commit_reply, destroy_reply, device_of}
+
+-- ---- the device
+
+-- stayed while the cell did
+pub made_kept : (old new : History) (there : Device) → Stands old.present (Some there) → IsServedImage old.present → CellStays old new → MadeBetween old new there [] there
+made_kept old new there stands served stays =
+    let during : During old new (Leaves (Some there)) = stands_during old new (Some there) stands stays in
+    made_none old new None (closed (Some there)) (closed (Some there)) stands during refl
+    (shut new.present (Some there) (LeavesOnly-now new (λ left. Stands left (Some there)) (During-now old new (Leaves (Some there)) during)) (During-now old new IsServedImage (serves_still old new stays served)))
+
+-- and a mark may tell of it again
+pub made_again : (old new : History) (there : Device) → MadeBetween old new there [] there → MadeBetween old new there (Some there ∷ []) there
+made_again old new there m = record {
+  passes = record {
+    extends = m.passes.extends;
+    mark = λ i. 0;
+    rises = λ i j le. omega arith;
+    within = λ i. omega arith;
+    each = m.passes.each;
+  };
+  last = refl;
+  exits = m.exits;
+}
+
+-- ---- the array is as it was
+
+pub held_still : (image image_now : Image) (head head_now : ℕ) (session now : Session) (table : List Volume) (entry : Held) → IsHeld image head session table entry → IsAt image_now (Some now) (state_of entry)
+    → head_now ≡ head → needed_by now ≤ needed_by session → IsHeld image_now head_now now table entry
+held_still image image_now head head_now session now table entry held at same needs =
+    record { at = at; pages = held.pages ∙ sym same; needs = omega (arith, held.needs, needs); tabled = held.tabled }
+
+-- ---- calls that leave the device
+
+pub changed_served : (old new : Outside) (session now : Session) (table table_now : List Volume) (entry : Held) (it : Line) (reply : Reply) → IsHeld old.history.present old.head session table entry → CellStays old.history new.history
+    → Changed new.history.present new.head table_now now entry (λ told next. Serves old.capacity table entry it told next) reply → Served old new table table_now now entry it reply
+changed_served old new session now table table_now entry it reply held stays changed =
+    let kept = made_again old.history new.history entry.device (made_kept old.history new.history entry.device held.at.there.device held.at.served stays) in
+    record {
+      next = changed.next;
+      held = changed.held;
+      serves = changed.does;
+      made = subst (λ (d : Device). MadeBetween old.history new.history entry.device (Some d ∷ []) d) (sym changed.same) kept;
+    }
+
+-- ---- a commit
+
+pub needs_of : (session : Session) (image : Image) (head : ℕ) (table : List Volume) (entry : Held) → IsOpen session head → IsHeld image head session table entry → Needs entry (needed_by session)
+needs_of session image head table entry there_open held = record {
+  none = λ idle. needs_none session head there_open (held.at.there.session.1 ∙ idle);
+  some = λ touched. needs_some session head there_open (held.at.there.session.1 ∙ touched);
+  most = held.needs;
+}
+
+-- what was answered: the state behind it, or that it is short
+pub data Committing (capacity : ℕ) (old new : Outside) (table : List Volume) (now : Session) (entry : Held) (reply : CommitReply) : Type 0 where
+  Done : (number : ℕ) (next : Held) → reply ≡ replies.Committed number → IsHeld new.history.present new.head now table next → CommitsAs capacity entry number next
+      → MadeBetween old.history new.history entry.device (Some next.device ∷ []) next.device → Committing capacity old new table now entry reply
+  Refused : (needed free : ℕ) → reply ≡ replies.Full needed free → IsHeld new.history.present new.head now table entry → IsShort capacity entry entry
+      → MadeBetween old.history new.history entry.device (Some entry.device ∷ []) entry.device → Committing capacity old new table now entry reply
+
+pub committed_to : {S R W : Type 0} (P : PlatformGhosts S) (T : TapeGhosts R) (L : SinkGhosts W) (platform platform_now : S) (tape tape_now : R) (ledger ledger_now : W) (session now : Session) (reply : CommitReply) (table : List Volume) (entry : Held)
+    → IsOpen session (P.head platform) → IsHeld (P.history platform).present (P.head platform) session table entry → AnswersReply P platform platform_now tape tape_now ledger ledger_now session now reply
+    → ReplyLeads (P.history platform) (P.history platform_now) now entry.device entry.session reply
+    → Committing (P.capacity platform) (around P T L platform tape ledger) (around P T L platform_now tape_now ledger_now) table now entry reply
+committed_to P T L platform platform_now tape tape_now ledger ledger_now session now (replies.Committed number) table entry there_open held answers led =
+    let needed : ℕ = needed_by session in
+    let next : Held = after_commit entry needed in
+    Done number next refl (record { at = led.0; pages = omega (arith, held.pages, answers.adds); needs = omega (arith, answers.needs); tabled = committed_tabled entry needed table held.tabled })
+    (needed, needs_of session (P.history platform).present (P.head platform) table entry there_open held, omega (arith, answers.room, held.pages), refl, led.1)
+    (made_one (P.history platform) (P.history platform_now) None (closed (Some entry.device)) (closed (Some next.device)) (Some next.device) held.at.there.device led.2
+    (shut (P.history platform_now).present (Some next.device) led.0.there.device led.0.served))
+committed_to P T L platform platform_now tape tape_now ledger ledger_now session now (replies.Full needed free) table entry there_open held answers led =
+    let head : P.head platform_now ≡ P.head platform = ap P.head answers.same.1 in
+    let wants : needed_by now ≡ needed_by session = ap (λ (s : Session). needed_by s) answers.same.0 in
+    Refused needed free refl (record { at = led.0; pages = held.pages ∙ sym head; needs = omega (arith, held.needs, wants); tabled = held.tabled })
+    (needed_by session, needs_of session (P.history platform).present (P.head platform) table entry there_open held, omega (arith, answers.short, answers.is_needed, answers.is_free, held.pages), refl)
+    (made_same (P.history platform) (P.history platform_now) None (closed (Some entry.device)) (closed (Some entry.device)) held.at.there.device led.1
+    (shut (P.history platform_now).present (Some entry.device) led.0.there.device led.0.served))
+
+-- a commit that stopped: the device stayed, or, where the platform failed, it may be the next one
+pub commit_halted : {S R W : Type 0} (P : PlatformGhosts S) (T : TapeGhosts R) (L : SinkGhosts W) (platform platform_now : S) (tape tape_now : R) (ledger ledger_now : W) (session : Session) (stop : DeviceStop) (table : List Volume) (entry : Held)
+    (Is : List Held → DeviceStop → Type 0) → (Is [] device.Platform × Is [] device.Tape × Is [] device.Ledger × Is [] device.Memory) → ((number : ℕ) (next : Held) → CommitsAs (P.capacity platform) entry number next → Is (next ∷ []) device.Platform)
+    → IsOpen session (P.head platform) → IsHeld (P.history platform).present (P.head platform) session table entry → CommitStops P T platform platform_now tape tape_now session stop
+    → IsServedImage (P.history platform_now).present → CommitLeads (P.history platform) (P.history platform_now) entry.device entry.session (Err stop)
+    → (ahead : List Held) × Is ahead stop × MadeBetween (P.history platform) (P.history platform_now) entry.device (marks_of device_of ahead) (last_of entry ahead).device
+commit_halted P T L platform platform_now tape tape_now ledger ledger_now session stop table entry Is nothing_ahead one_ahead there_open held stops_at served led = by stop led
+  where
+    before : History
+    before = P.history platform
+
+    now : History
+    now = P.history platform_now
+
+    stands : Stands before.present (Some entry.device)
+    stands = held.at.there.device
+
+    none : During before now (Leaves (Some entry.device)) → MadeBetween before now entry.device [] entry.device
+    none during = made_none before now None (closed (Some entry.device)) (closed (Some entry.device)) stands during refl
+        (shut now.present (Some entry.device) (LeavesOnly-now now (λ left. Stands left (Some entry.device)) (During-now before now (Leaves (Some entry.device)) during)) served)
+
+    next : Held
+    next = after_commit entry (needed_by session)
+
+    made_next : committed entry.device entry.session ≡ next.device
+    made_next = sym (ap (λ (t : Bool). committed_if t entry.device entry.session) (sym held.at.there.session.1 ∙ stops_at.touched))
+
+    by : (s : DeviceStop) → CommitLeads before now entry.device entry.session (Err s) → (ahead : List Held) × Is ahead s × MadeBetween before now entry.device (marks_of device_of ahead) (last_of entry ahead).device
+    by device.Platform turns = elim (made_stopped before now (closed (Some entry.device)) (Some (committed entry.device entry.session)) stands served turns) [
+      | inl nothing ↦ ([], nothing_ahead.0, nothing)
+      | inr one ↦ (
+        next ∷ [],
+        one_ahead next.device.number next (needed_by session, needs_of session before.present (P.head platform) table entry there_open held, omega (arith, stops_at.room, held.pages), refl, refl),
+        subst (λ (d : Device). MadeBetween before now entry.device (Some d ∷ []) d) made_next one,
+      )
+    ]
+    by device.Tape during = ([], nothing_ahead.1, none during)
+    by device.Ledger during = ([], nothing_ahead.2, none during)
+    by device.Memory during = ([], nothing_ahead.3, none during)
+    by device.BadRoot led = absurd led
+    by (device.BadRecord addr) led = absurd led
+
+pub commit_served : (old new : Outside) (table : List Volume) (now : Session) (entry : Held) (reply : CommitReply) (given : Given) (buffer : List ℕ) → given ≡ commit_reply reply
+    → Committing old.capacity old new table now entry reply → Served old new table table now entry Commit (said given buffer)
+commit_served old new table now entry reply given buffer is (Done number next same held commits made) =
+    let answer : said given buffer ≡ told.Committed number = ap (λ (r : Given). said r buffer) (is ∙ ap commit_reply same) in
+    subst (λ (r : Reply). Served old new table table now entry Commit r) (sym answer) (record { next = next; held = held; serves = commits; made = made })
+commit_served old new table now entry reply given buffer is (Refused needed free same held short made) =
+    let answer : said given buffer ≡ told.Full = ap (λ (r : Given). said r buffer) (is ∙ ap commit_reply same) in
+    subst (λ (r : Reply). Served old new table table now entry Commit r) (sym answer) (record { next = entry; held = held; serves = short; made = made })
+
+-- ---- a destroy
+
+pub made_since : (first second third : History) (entry last : Device) (marks : List (Option Device)) → MadeBetween first second entry [] entry → MadeBetween second third entry marks last → MadeBetween first third entry marks last
+made_since first second third entry last marks one two = made_then first second third None None (closed (Some entry)) (closed (Some entry)) (closed (Some last)) [] marks one two
+
+pub destroy_served : (old mid new : Outside) (table left : List Volume) (taken_on now : Session) (entry : Held) (name : List ℕ) (reply : CommitReply) (given : Given) (buffer : List ℕ) → given ≡ destroy_reply reply → mid.capacity ≡ old.capacity
+    → (taken : TakenOut mid.history.present mid.head old.capacity table left taken_on entry name) → MadeBetween old.history mid.history entry.device [] entry.device
+    → Committing mid.capacity mid new left now (changed entry left taken.v) reply → Served old new table left now entry (Destroy name) (said given buffer)
+destroy_served old mid new table left taken_on now entry name reply given buffer is same_capacity taken kept (Done number next same held commits made) =
+    let answer : said given buffer ≡ told.Destroyed number = ap (λ (r : Given). said r buffer) (is ∙ ap destroy_reply same) in
+    subst (λ (r : Reply). Served old new table left now entry (Destroy name) r) (sym answer) (record {
+      next = next;
+      held = held;
+      serves = (taken.v, left, taken.same, taken.taken, taken.free, subst (λ (n : ℕ). CommitsAs n (changed entry left taken.v) number next) same_capacity commits);
+      made = made_since old.history mid.history new.history entry.device next.device (Some next.device ∷ []) kept made;
+    })
+destroy_served old mid new table left taken_on now entry name reply given buffer is same_capacity taken kept (Refused needed free same held short made) =
+    let answer : said given buffer ≡ told.Uncommitted = ap (λ (r : Given). said r buffer) (is ∙ ap destroy_reply same) in
+    subst (λ (r : Reply). Served old new table left now entry (Destroy name) r) (sym answer) (record {
+      next = changed entry left taken.v;
+      held = held;
+      serves = (taken.v, left, taken.same, taken.taken, taken.free, subst (λ (n : ℕ). IsShort n (changed entry left taken.v) (changed entry left taken.v)) same_capacity short);
+      made = made_since old.history mid.history new.history entry.device entry.device (Some entry.device ∷ []) kept made;
+    })
+
+-- ---- a stop before a commit
+
+pub stops_none : (capacity : ℕ) (table : List Volume) (entry : Held) (it : Line) (stop : DeviceStop) → IsSound stop → StopsAt capacity table entry it [] stop
+stops_none capacity table entry it device.Platform sound = inl refl
+stops_none capacity table entry it device.Tape sound = refl
+stops_none capacity table entry it device.Ledger sound = refl
+stops_none capacity table entry it device.Memory sound = refl
+stops_none capacity table entry it device.BadRoot sound = absurd sound
+stops_none capacity table entry it (device.BadRecord addr) sound = absurd sound
+
+pub stopped_kept : (old new : Outside) (session : Session) (table : List Volume) (entry : Held) (it : Line) (stop : DeviceStop) → IsHeld old.history.present old.head session table entry → CellStays old.history new.history → IsSound stop
+    → Stopped old new table entry it stop
+stopped_kept old new session table entry it stop held stays sound =
+    record { ahead = []; is = stops_none old.capacity table entry it stop sound; made = made_kept old.history new.history entry.device held.at.there.device held.at.served stays }
+
+pub blocks_held : (image : Image) (head : ℕ) (session : Session) (table : List Volume) (entry : Held) → IsHeld image head session table entry → blocks_of session ≡ entry.device.blocks
+blocks_held image head session table entry held = held.at.there.session.0.stands.blocks
+
+-- ---- a volume that is taken out
+
+pub takes_some : (image : Image) (head capacity : ℕ) (table left : List Volume) (now : Session) (entry : Held) (name buffer : List ℕ) (refused : Option Given) (reply : Given) → refused ≡ Some reply
+    → TakesOut image head capacity table left now entry name buffer (Ok refused) → Changed image head left now entry (λ given next. Destroys capacity table entry name given next) (said reply buffer)
+takes_some image head capacity table left now entry name buffer refused reply is takes = subst (λ (r : Option Given). TakesOut image head capacity table left now entry name buffer (Ok r)) is takes
+
+pub takes_none : (image : Image) (head capacity : ℕ) (table left : List Volume) (now : Session) (entry : Held) (name buffer : List ℕ) (refused : Option Given) → refused ≡ None
+    → TakesOut image head capacity table left now entry name buffer (Ok refused) → TakenOut image head capacity table left now entry name
+takes_none image head capacity table left now entry name buffer refused is takes = subst (λ (r : Option Given). TakesOut image head capacity table left now entry name buffer (Ok r)) is takes
+
+-- a commit behind it that stopped: the states ahead of the one behind the trims
+pub destroy_stopped : {S R W : Type 0} (P : PlatformGhosts S) (T : TapeGhosts R) (L : SinkGhosts W) (platform mid platform_now : S) (tape tape_then tape_now : R) (ledger ledger_now : W) (session : Session) (stop : DeviceStop) (table left : List Volume) (entry : Held) (name : List ℕ)
+    → P.capacity mid ≡ P.capacity platform → (taken : TakenOut (P.history mid).present (P.head mid) (P.capacity platform) table left session entry name) → MadeBetween (P.history platform) (P.history mid) entry.device [] entry.device
+    → IsOpen session (P.head mid) → CommitStops P T mid platform_now tape_then tape_now session stop → IsServedImage (P.history platform_now).present
+    → CommitLeads (P.history mid) (P.history platform_now) entry.device (changed entry left taken.v).session (Err stop)
+    → Stopped (around P T L platform tape ledger) (around P T L platform_now tape_now ledger_now) table entry (Destroy name) stop
+destroy_stopped P T L platform mid platform_now tape tape_then tape_now ledger ledger_now session stop table left entry name same taken kept there_open stops_at served led =
+    let on : Held = changed entry left taken.v in
+    let stopped = commit_halted P T L mid platform_now tape_then tape_now ledger ledger_now session stop left on (λ ahead s. StopsAt (P.capacity platform) table entry (Destroy name) ahead s × ((d : Device) → (last_of entry ahead).device ≡ (last_of on ahead).device))
+    ((inl refl, λ d. refl), (refl, λ d. refl), (refl, λ d. refl), (refl, λ d. refl))
+    (λ number next is. (inr (told.Destroyed number, next, refl, (taken.v, left, taken.same, taken.taken, taken.free, subst (λ (n : ℕ). CommitsAs n on number next) same is)), λ d. refl))
+    there_open taken.held stops_at served led in
+    record {
+      ahead = stopped.0;
+      is = stopped.1.0;
+      made = subst (λ (d : Device). MadeBetween (P.history platform) (P.history platform_now) entry.device (marks_of device_of stopped.0) d) (sym (stopped.1.1 entry.device))
+          (made_since (P.history platform) (P.history mid) (P.history platform_now) entry.device (last_of on stopped.0).device (marks_of device_of stopped.0) kept stopped.2);
+    }
+
+-- ---- a line
+
+-- the line is that which was read
+pub turns_as : (image : Image) (head capacity : ℕ) (table table_now : List Volume) (now : Session) (entry : Held) (line it : Parsed) (before buffer : List ℕ) (result : Result Given DeviceStop) → line ≡ it
+    → TurnsTo image head table_now now entry (λ reply next. Serves capacity table entry (asked it before) reply next) buffer result
+    → TurnsTo image head table_now now entry (λ reply next. Serves capacity table entry (asked line before) reply next) buffer result
+turns_as image head capacity table table_now now entry line it before buffer result is turns =
+    subst (λ (l : Parsed). TurnsTo image head table_now now entry (λ reply next. Serves capacity table entry (asked l before) reply next) buffer result) (sym is) turns
+
+pub serves_as : (old new : Outside) (table table_now : List Volume) (buffer before : List ℕ) (entry : Held) (line it : Parsed) (result : Result Answered DeviceStop) → line ≡ it
+    → ServesAs old new table table_now buffer entry (asked it before) result → ServesAs old new table table_now buffer entry (asked line before) result
+serves_as old new table table_now buffer before entry line it result is serves = subst (λ (l : Parsed). ServesAs old new table table_now buffer entry (asked l before) result) (sym is) serves
+
+pub name_of_create : (line : Parsed) (name : List ℕ) (count : ℕ) (buffer : List ℕ) → line ≡ parsed.Create name count → ((text : List ℕ) × Spells text (asked line buffer)) → IsName name
+name_of_create line name count buffer is (text, spelled) =
+    let said_so : Spells text (asked (parsed.Create name count) buffer) = subst (λ (l : Parsed). Spells text (asked l buffer)) is spelled in said_so.1
+
+pub of_blocks : (line : Parsed) → ((name : List ℕ) → line ≡ parsed.Destroy name → ⊥) → (line ≡ parsed.Commit → ⊥) → IsOfBlocks line
+of_blocks (parsed.Create name count) destroy commit = tt
+of_blocks (parsed.Read name block) destroy commit = tt
+of_blocks (parsed.Write name block count) destroy commit = tt
+of_blocks (parsed.Trim name block) destroy commit = tt
+of_blocks (parsed.Destroy name) destroy commit = absurd (destroy name refl)
+of_blocks parsed.Commit destroy commit = absurd (commit refl)

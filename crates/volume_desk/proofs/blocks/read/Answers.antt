@@ -1,0 +1,44 @@
+use Rattle.std.proofs.Common.{Ok, Err, ap, refl, subst, sym, ◌∙◌, arith}
+use Rattle.sdbt_base.specs.Arrays.{content_of}
+use Rattle.script_lang.specs.Arrays.{trimmed}
+use Rattle.volume_lines.specs.Replies.{Reply}
+use Rattle.volume_terms.specs.Turn.{OnBlock, Reads}
+use Rattle.volume_desk.proofs.CallLaws.{calls_of, calls_stopped, no_draw}
+use Rattle.volume_desk.proofs.DeskLaws.{calls_done, calls_none, changed_none, no_block, read_damage, read_sound}
+use Rattle.volume_desk.proofs.TurnLaws.{held_still}
+use Rattle.volume_desk.proofs.blocks.read.Goals as goal
+
+pub returns-in-Err-clause-calls : goal.returns-in-Err-clause-calls
+returns-in-Err-clause-calls g c drawn = calls_none g.P.Platform 0 _ drawn _ _ c.requires.open
+
+pub returns-in-Err-clause-turns : goal.returns-in-Err-clause-turns
+returns-in-Err-clause-turns g c told entry held =
+    changed_none _ _ _ _ entry _ _ held (no_block c.args.table.now entry c.args.name.now c.args.block Reads c.in-Err.reply _ c.in-Err.ensures.none)
+
+pub returns-in-Ok-read_block-clause-calls : goal.returns-in-Ok-read_block-clause-calls
+returns-in-Ok-read_block-clause-calls g c drawn =
+    calls_done g.P.Platform 0 0 _ _ drawn drawn _ _ tt _ (omega arith) (calls_of g.P.Platform 0 _ _ drawn drawn _ _ (Ok tt) (c.in-Ok-read_block.ensures.goes drawn))
+
+pub returns-in-Ok-read_block-clause-turns : goal.returns-in-Ok-read_block-clause-turns
+returns-in-Ok-read_block-clause-turns g c told entry held =
+    let is = c.in-Ok.ensures.found in
+    let led = c.in-Ok-read_block.ensures.leads told entry.device entry.session held.at in
+    let along = (c.in-Ok-read_block.ensures.goes no_draw).along in
+    record {
+      next = entry;
+      held = held_still _ _ _ _ _ _ _ entry held led.0 (omega (arith, along.adds, along.rises)) (omega (arith, along.needs));
+      does = subst (λ (r : Reply). OnBlock c.args.table.now entry c.args.name.now c.args.block Reads r entry) (sym c.reply_with_content.ensures.value)
+          (is.v, is.named, is.below, (ap trimmed (led.1 ∙ ap (content_of entry.session.contents) is.is), refl));
+      same = refl;
+    }
+
+pub returns-in-Err-read_block-clause-calls : goal.returns-in-Err-read_block-clause-calls
+returns-in-Err-read_block-clause-calls g c drawn =
+    calls_stopped g.P.Platform 0 0 _ _ drawn drawn _ _ c.in-Err-read_block.stop (omega arith) (calls_of g.P.Platform 0 _ _ drawn drawn _ _ (Err c.in-Err-read_block.stop) (c.in-Err-read_block.ensures.goes drawn))
+
+pub returns-in-Err-read_block-clause-turns : goal.returns-in-Err-read_block-clause-turns
+returns-in-Err-read_block-clause-turns g c told entry held =
+    read_sound (g.P.Platform.history c.read_block.new.platform).present c.read_block.new.session entry.device entry.session c.in-Ok.at c.read_block.new.out c.in-Err-read_block.stop (c.in-Err-read_block.ensures.leads told entry.device entry.session held.at)
+
+pub returns-in-Err-read_block-clause-damage : goal.returns-in-Err-read_block-clause-damage
+returns-in-Err-read_block-clause-damage g c told mounted = read_damage _ (g.P.Platform.history c.args.platform.now).present (g.P.Platform.history c.read_block.new.platform).present c.args.session.now c.in-Ok.at c.read_block.new.out c.in-Err-read_block.stop c.in-Err-read_block.ensures.any (told, mounted)

@@ -1,0 +1,40 @@
+use Rattle.std.proofs.Common.{ℕ, Ok, Err, ap, refl, arith}
+use Rattle.volume_terms.specs.Turn.{Trims}
+use Rattle.volume_terms.proofs.KeepingLaws.{trimmed_at}
+use Rattle.volume_desk.proofs.CallLaws.{calls_of, calls_stopped, no_draw}
+use Rattle.volume_desk.proofs.DeskLaws.{calls_done, calls_none, changed_none, held_trimmed, no_block, trim_damage, trim_sound}
+use Rattle.volume_desk.proofs.blocks.trim.Goals as goal
+
+pub returns-in-Err-clause-calls : goal.returns-in-Err-clause-calls
+returns-in-Err-clause-calls g c drawn = calls_none g.P.Platform 1 _ drawn _ _ c.requires.open
+
+pub returns-in-Err-clause-turns : goal.returns-in-Err-clause-turns
+returns-in-Err-clause-turns g c told entry buffer held =
+    changed_none _ _ _ _ entry _ _ held (no_block c.args.table.now entry c.args.name.now c.args.block Trims c.in-Err.reply buffer c.in-Err.ensures.none)
+
+pub returns-in-Ok-trim_block-clause-calls : goal.returns-in-Ok-trim_block-clause-calls
+returns-in-Ok-trim_block-clause-calls g c drawn =
+    calls_done g.P.Platform 1 1 _ _ drawn drawn _ _ tt _ (omega arith) (calls_of g.P.Platform 1 _ _ drawn drawn _ _ (Ok tt) (c.in-Ok-trim_block.ensures.goes drawn))
+
+pub returns-in-Ok-trim_block-clause-turns : goal.returns-in-Ok-trim_block-clause-turns
+returns-in-Ok-trim_block-clause-turns g c told entry buffer held =
+    let is = c.in-Ok.ensures.found in
+    let led = c.in-Ok-trim_block.ensures.leads told entry.device entry.session held.at in
+    let along = (c.in-Ok-trim_block.ensures.goes no_draw).along in
+    record {
+      next = trimmed_at entry c.in-Ok.at;
+      held = held_trimmed _ _ _ _ _ _ _ entry c.args.name.now c.args.block c.in-Ok.at is held led c.in-Ok-trim_block.ensures.head along.needs;
+      does = (is.v, is.named, is.below, ap (λ (at : ℕ). trimmed_at entry at) is.is);
+      same = refl;
+    }
+
+pub returns-in-Err-trim_block-clause-calls : goal.returns-in-Err-trim_block-clause-calls
+returns-in-Err-trim_block-clause-calls g c drawn =
+    calls_stopped g.P.Platform 1 1 _ _ drawn drawn _ _ c.in-Err-trim_block.stop (omega arith) (calls_of g.P.Platform 1 _ _ drawn drawn _ _ (Err c.in-Err-trim_block.stop) (c.in-Err-trim_block.ensures.goes drawn))
+
+pub returns-in-Err-trim_block-clause-turns : goal.returns-in-Err-trim_block-clause-turns
+returns-in-Err-trim_block-clause-turns g c told entry buffer held =
+    trim_sound (g.P.Platform.history c.trim_block.new.platform).present c.trim_block.new.session entry.device entry.session c.in-Ok.at c.in-Err-trim_block.stop (c.in-Err-trim_block.ensures.leads told entry.device entry.session held.at)
+
+pub returns-in-Err-trim_block-clause-damage : goal.returns-in-Err-trim_block-clause-damage
+returns-in-Err-trim_block-clause-damage g c told mounted = trim_damage _ (g.P.Platform.history c.args.platform.now).present (g.P.Platform.history c.trim_block.new.platform).present c.args.session.now c.in-Ok.at c.in-Err-trim_block.stop c.in-Err-trim_block.ensures.any (told, mounted)

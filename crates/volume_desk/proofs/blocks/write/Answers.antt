@@ -1,0 +1,51 @@
+use Rattle.std.proofs.Common.{◌≡◌, ◌≢◌, ℕ, Ok, Err, ap, refl, arith}
+use Rattle.session_calls.specs.Along.{drawn_by}
+use Rattle.volume_terms.specs.Turn.{Writes}
+use Rattle.volume_terms.proofs.KeepingLaws.{wrote}
+use Rattle.volume_desk.proofs.CallLaws.{calls_of, calls_stopped}
+use Rattle.volume_desk.proofs.DeskLaws.{calls_done, calls_none, changed_none, held_wrote, no_block, write_damage, write_sound}
+use Rattle.volume_desk.proofs.blocks.write.Goals as goal
+
+pub returns-in-Err-clause-calls : goal.returns-in-Err-clause-calls
+returns-in-Err-clause-calls g c = calls_none g.P.Platform 1 _ (drawn_by g.T.Tape c.args.tape.now) _ _ c.requires.open
+
+pub returns-in-Err-clause-turns : goal.returns-in-Err-clause-turns
+returns-in-Err-clause-turns g c told entry buffer held =
+    changed_none _ _ _ _ entry _ _ held (no_block c.args.table.now entry c.args.name.now c.args.block (Writes (g.P.Platform.capacity c.args.platform.now) c.args.content.now) c.in-Err.reply buffer c.in-Err.ensures.none)
+
+pub returns-then-head-capacity-clause-calls : goal.returns-then-head-capacity-clause-calls
+returns-then-head-capacity-clause-calls g c = calls_none g.P.Platform 1 _ (drawn_by g.T.Tape c.args.tape.now) _ _ c.requires.open
+
+pub returns-then-head-capacity-clause-turns : goal.returns-then-head-capacity-clause-turns
+returns-then-head-capacity-clause-turns g c told entry buffer held =
+    let is = c.in-Ok.ensures.found in
+    let full : entry.pages ≡ g.P.Platform.capacity c.args.platform.now = omega (arith, held.pages, c.if-head-capacity.true, c.head.ensures, c.capacity.ensures) in
+    changed_none _ _ _ _ entry _ _ held (is.v, is.named, is.below, (full, refl))
+
+pub returns-in-Ok-write_block-clause-calls : goal.returns-in-Ok-write_block-clause-calls
+returns-in-Ok-write_block-clause-calls g c =
+    calls_done g.P.Platform 1 1 _ _ _ _ _ _ tt _ (omega arith) (calls_of g.P.Platform 1 _ _ _ _ _ _ (Ok tt) c.in-Ok-write_block.ensures.goes)
+
+pub returns-in-Ok-write_block-clause-turns : goal.returns-in-Ok-write_block-clause-turns
+returns-in-Ok-write_block-clause-turns g c told entry buffer held =
+    let is = c.in-Ok.ensures.found in
+    let led = c.in-Ok-write_block.ensures.leads told entry.device entry.session held.at in
+    let along = c.in-Ok-write_block.ensures.goes.along in
+    let free : entry.pages ≢ g.P.Platform.capacity c.args.platform.now = λ full. omega (arith, held.pages, full, c.if-head-capacity.false, c.head.ensures, c.capacity.ensures) in
+    record {
+      next = wrote entry c.in-Ok.at c.args.content.now;
+      held = held_wrote _ _ _ _ _ _ _ entry c.args.name.now c.args.block c.in-Ok.at c.args.content.now is held led c.in-Ok-write_block.ensures.adds along.needs;
+      does = (is.v, is.named, is.below, (free, ap (λ (at : ℕ). wrote entry at c.args.content.now) is.is));
+      same = refl;
+    }
+
+pub returns-in-Err-write_block-clause-calls : goal.returns-in-Err-write_block-clause-calls
+returns-in-Err-write_block-clause-calls g c =
+    calls_stopped g.P.Platform 1 1 _ _ _ _ _ _ c.in-Err-write_block.stop (omega arith) (calls_of g.P.Platform 1 _ _ _ _ _ _ (Err c.in-Err-write_block.stop) c.in-Err-write_block.ensures.goes)
+
+pub returns-in-Err-write_block-clause-turns : goal.returns-in-Err-write_block-clause-turns
+returns-in-Err-write_block-clause-turns g c told entry buffer held =
+    write_sound (g.P.Platform.history c.write_block.new.platform).present c.write_block.new.session entry.device entry.session c.in-Ok.at c.args.content.now c.in-Err-write_block.stop (c.in-Err-write_block.ensures.leads told entry.device entry.session held.at)
+
+pub returns-in-Err-write_block-clause-damage : goal.returns-in-Err-write_block-clause-damage
+returns-in-Err-write_block-clause-damage g c told mounted = write_damage _ (g.P.Platform.history c.args.platform.now).present (g.P.Platform.history c.write_block.new.platform).present c.args.session.now c.in-Ok.at c.in-Err-write_block.stop c.in-Err-write_block.ensures.any (told, mounted)

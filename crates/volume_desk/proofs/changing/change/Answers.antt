@@ -1,0 +1,38 @@
+use Rattle.std.proofs.Common.{Err, ◌+◌, ℕ, List, subst, ◌∙◌, arith}
+use Rattle.sdbt_base.specs.Arrays.{written}
+use Rattle.byte_arrays.specs.Ranges.{blocks_from}
+use Rattle.nbd_terms.specs.Held.{trim_all}
+use Rattle.session_calls.specs.Along.{drawn_by}
+use Rattle.volume_desk.specs.Calling.{ChangesTo}
+use Rattle.volume_desk.proofs.CallLaws.{calls_of, calls_stopped, calls_then, platform_quiet, tape_quiet}
+use Rattle.volume_desk.proofs.DeskLaws.{on_ok, write_damage, write_sound}
+use Rattle.volume_desk.proofs.changing.change.Goals as goal
+
+pub returns-in-Ok-clause-calls : goal.returns-in-Ok-clause-calls
+returns-in-Ok-clause-calls g c =
+    let P = g.P.Platform in
+    let one = c.in-Ok.ensures.goes in
+    calls_then P 1 c.args.volume.now.count _ _ _ (drawn_by g.T.Tape c.args.tape.now) (drawn_by g.T.Tape c.write_block.new.tape) (drawn_by g.T.Tape c.write_block.new.tape) _ _ _ c.trim_range.result
+    one.along (platform_quiet _ _ one.quiet) (tape_quiet _ _ one.quiet) (c.trim_range.ensures.calls (drawn_by g.T.Tape c.write_block.new.tape))
+
+pub returns-in-Ok-clause-head : goal.returns-in-Ok-clause-head
+returns-in-Ok-clause-head g c = on_ok c.trim_range.result _ (c.trim_range.ensures.head ∙ c.in-Ok.ensures.adds)
+
+pub returns-in-Ok-clause-leads : goal.returns-in-Ok-clause-leads
+returns-in-Ok-clause-leads g c told device array at =
+    subst (λ (bytes : List ℕ). ChangesTo (g.P.Platform.history c.trim_range.new.platform).present c.trim_range.new.session device (trim_all (written array 0 bytes) (blocks_from c.args.volume.now.start c.args.volume.now.count)) c.trim_range.result)
+    c.encode.ensures (c.trim_range.ensures.leads told device _ (c.in-Ok.ensures.leads told device array at))
+
+pub returns-in-Ok-clause-damage : goal.returns-in-Ok-clause-damage
+returns-in-Ok-clause-damage g c told mounted = c.trim_range.ensures.damage told (c.in-Ok.ensures.goes.along.mounted told mounted)
+
+pub returns-in-Err-clause-calls : goal.returns-in-Err-clause-calls
+returns-in-Err-clause-calls g c =
+    calls_stopped g.P.Platform 1 (1 + c.args.volume.now.count) _ _ (drawn_by g.T.Tape c.args.tape.now) (drawn_by g.T.Tape c.write_block.new.tape) _ _ c.in-Err.stop (omega arith)
+    (calls_of g.P.Platform 1 _ _ _ _ _ _ (Err c.in-Err.stop) c.in-Err.ensures.goes)
+
+pub returns-in-Err-clause-leads : goal.returns-in-Err-clause-leads
+returns-in-Err-clause-leads g c told device array at = write_sound (g.P.Platform.history c.write_block.new.platform).present c.write_block.new.session device array 0 c.encode.new.out c.in-Err.stop (c.in-Err.ensures.leads told device array at)
+
+pub returns-in-Err-clause-damage : goal.returns-in-Err-clause-damage
+returns-in-Err-clause-damage g c told mounted = write_damage _ (g.P.Platform.history c.args.platform.now).present (g.P.Platform.history c.write_block.new.platform).present c.args.session.now 0 c.in-Err.stop c.in-Err.ensures.any (told, mounted)

@@ -1,0 +1,76 @@
+use Rattle.std.proofs.Common.{Err, ◌≡◌, ◌+◌, ℕ, Some, ap, refl, subst, sym, ◌∙◌, arith}
+use Rattle.sdbt_base.specs.Arrays.{Session as OpenSession, mounted}
+use Rattle.sdbt_base.specs.Counts.{counts}
+use Rattle.byte_arrays.specs.Ranges.{blocks_from}
+use Rattle.device_course.specs.States.{IsAt}
+use Rattle.nbd_terms.specs.Held.{trim_all}
+use Rattle.nbd_terms.proofs.WritingLaws.{trim_more}
+use Rattle.session_calls.specs.Along.{Along}
+use Rattle.session_calls.proofs.AlongLaws.{along_start, along_then}
+use Rattle.volume_desk.proofs.CallLaws.{calls_of, calls_stopped, calls_then, no_draw, platform_quiet}
+use Rattle.volume_desk.proofs.DeskLaws.{trim_damage, trim_sound}
+use Rattle.volume_desk.proofs.changing.trim_range.Goals as goal
+
+pub loop-i-init : goal.loop-i-init
+loop-i-init g c = record {
+  along = λ drawn. along_start g.P.Platform _ drawn _ c.requires.open;
+  trims = λ told device array at. at;
+  head = refl;
+  quiet = refl;
+}
+
+pub loop-i-preserved : goal.loop-i-preserved
+loop-i-preserved g c =
+    let P = g.P.Platform in
+    let so_far = c.loop-i.invariant in
+    let first : ℕ = c.args.volume.now.start in
+    record {
+      along = λ drawn. along_then P c.loop-i.i 1 _ _ _ drawn drawn drawn _ _ _ (so_far.along drawn) (c.in-Ok.ensures.goes drawn).along;
+      trims = λ told device array at.
+          subst (λ (a : OpenSession). IsAt (P.history c.trim_block.new.platform).present (Some c.trim_block.new.session) (mounted device a)) (sym (trim_more array first c.loop-i.i))
+          (c.in-Ok.ensures.leads told device (trim_all array (blocks_from first c.loop-i.i)) (so_far.trims told device array at));
+      head = c.in-Ok.ensures.head ∙ so_far.head;
+      quiet = platform_quiet _ _ (c.in-Ok.ensures.goes no_draw).quiet ∙ so_far.quiet;
+    }
+
+pub trim_block-requires-clause-open : goal.trim_block-requires-clause-open
+trim_block-requires-clause-open g c = (c.loop-i.invariant.along no_draw).is_open
+
+pub trim_block-requires-clause-within : goal.trim_block-requires-clause-within
+trim_block-requires-clause-within g c = omega (arith, c.requires.inside.within, c.loop-i-test.true, (c.loop-i.invariant.along no_draw).blocks)
+
+pub returns-in-Err-clause-calls : goal.returns-in-Err-clause-calls
+returns-in-Err-clause-calls g c drawn =
+    let P = g.P.Platform in
+    let so_far = c.loop-i.invariant in
+    calls_stopped P (c.loop-i.i + 1) c.args.volume.now.count _ _ drawn drawn _ _ c.in-Err.stop (omega (arith, c.loop-i-test.true))
+    (calls_then P c.loop-i.i 1 _ _ _ drawn drawn drawn _ _ _ (Err c.in-Err.stop) (so_far.along drawn) so_far.quiet refl (calls_of P 1 _ _ drawn drawn _ _ (Err c.in-Err.stop) (c.in-Err.ensures.goes drawn)))
+
+pub returns-in-Err-clause-head : goal.returns-in-Err-clause-head
+returns-in-Err-clause-head g c = c.in-Err.ensures.head ∙ c.loop-i.invariant.head
+
+pub returns-in-Err-clause-leads : goal.returns-in-Err-clause-leads
+returns-in-Err-clause-leads g c told device array at = trim_sound (g.P.Platform.history c.trim_block.new.platform).present c.trim_block.new.session device (trim_all array (blocks_from c.args.volume.now.start c.loop-i.i)) (c.args.volume.now.start + c.loop-i.i) c.in-Err.stop (c.in-Err.ensures.leads told device _ (c.loop-i.invariant.trims told device array at))
+
+pub returns-in-Err-clause-damage : goal.returns-in-Err-clause-damage
+returns-in-Err-clause-damage g c told mounted = trim_damage _ (g.P.Platform.history c.loop-i.platform).present (g.P.Platform.history c.trim_block.new.platform).present c.loop-i.session (c.args.volume.now.start + c.loop-i.i) c.in-Err.stop c.in-Err.ensures.any (told, (c.loop-i.invariant.along no_draw).mounted told mounted)
+
+pub returns-clause-calls : goal.returns-clause-calls
+returns-clause-calls g c drawn =
+    let so_far = c.loop-i.invariant in
+    let all : c.loop-i.i ≡ c.args.volume.now.count = omega (arith, c.loop-i-test.false, c.loop-i.auto.i-end) in
+    record {
+      along = subst (λ (n : ℕ). Along g.P.Platform n c.args.platform.now c.loop-i.platform drawn drawn c.args.session.now c.loop-i.session) all (so_far.along drawn);
+      stops = tt;
+      quiet = ap (λ (n : ℕ). counts n drawn.faults 0 0 0) so_far.quiet;
+      cause = tt;
+    }
+
+pub returns-clause-leads : goal.returns-clause-leads
+returns-clause-leads g c told device array at =
+    let all : c.loop-i.i ≡ c.args.volume.now.count = omega (arith, c.loop-i-test.false, c.loop-i.auto.i-end) in
+    subst (λ (n : ℕ). IsAt (g.P.Platform.history c.loop-i.platform).present (Some c.loop-i.session) (mounted device (trim_all array (blocks_from c.args.volume.now.start n)))) all
+    (c.loop-i.invariant.trims told device array at)
+
+pub returns-clause-head : goal.returns-clause-head
+returns-clause-head g c = c.loop-i.invariant.head

@@ -1,0 +1,29 @@
+use Rattle.std.proofs.Common.{inl, inr, refl}
+use Rattle.platform.proofs.Moments.{During-now}
+use Rattle.device_terms.specs.Served.{IsServedImage}
+use Rattle.volume_lines.specs.Lines.{Commit}
+use Rattle.volume_lines.specs.Replies.{Committed}
+use Rattle.volume_desk.specs.Turns.{StopsAt}
+use Rattle.volume_desk.proofs.CarryLaws.{carries_committed, carries_going, carries_stopped}
+use Rattle.volume_desk.proofs.TurnLaws.{commit_halted, commit_served, committed_to}
+use Rattle.volume_desk.proofs.committing.commit.Goals as goal
+
+pub returns-in-Ok-clause-carries : goal.returns-in-Ok-clause-carries
+returns-in-Ok-clause-carries g c =
+    carries_going _ _ _ _ _ _ _ (λ going. tt) (carries_committed g.P.Platform g.T.Tape g.L.Sink _ _ _ _ _ _ _ c.in-Ok.done c.in-Ok.ensures.goes c.in-Ok.ensures.leads)
+
+pub returns-in-Err-clause-carries : goal.returns-in-Err-clause-carries
+returns-in-Err-clause-carries g c =
+    carries_going _ _ _ _ _ _ _ (λ going. cc) (carries_stopped g.P.Platform g.T.Tape g.L.Sink _ _ _ _ _ _ _ c.in-Err.stop c.in-Err.ensures.goes c.in-Err.ensures.leads)
+
+pub returns-in-Ok-clause-serves : goal.returns-in-Ok-clause-serves
+returns-in-Ok-clause-serves g c told entry table buffer held =
+    commit_served _ _ table c.in-Ok.done.session entry c.in-Ok.done.reply c.reply_to_commit.result buffer c.reply_to_commit.ensures
+    (committed_to g.P.Platform g.T.Tape g.L.Sink _ _ _ _ _ _ _ _ c.in-Ok.done.reply table entry c.requires.ready.is_open held c.in-Ok.ensures.answers (c.in-Ok.ensures.leads told entry.device entry.session held.at))
+
+pub returns-in-Err-clause-serves : goal.returns-in-Err-clause-serves
+returns-in-Err-clause-serves g c told entry table buffer held =
+    let stopped = commit_halted g.P.Platform g.T.Tape g.L.Sink _ _ _ _ c.args.ledger.now c.commit_session.new.ledger _ c.in-Err.stop table entry (λ ahead stop. StopsAt (g.P.Platform.capacity c.args.platform.now) table entry Commit ahead stop)
+    (inl refl, refl, refl, refl) (λ number next is. inr (Committed number, next, refl, is)) c.requires.ready.is_open held c.in-Err.ensures.answers
+    (During-now _ _ IsServedImage (c.in-Err.ensures.goes.keeps.serves told held.at.served)) (c.in-Err.ensures.leads told entry.device entry.session held.at) in
+    record { ahead = stopped.0; is = stopped.1; made = stopped.2 }

@@ -1,0 +1,58 @@
+use Rattle.std.proofs.Common.{◌+◌}
+use Rattle.platform.proofs.Moments.{During-now}
+use Rattle.device_terms.specs.Served.{IsServedImage}
+use Rattle.device_course.specs.States.{around}
+use Rattle.device_session.specs.Open.{blocks_of}
+use Rattle.volume_lines.specs.Lines.{Destroy}
+use Rattle.volume_terms.specs.Volumes.{changed}
+use Rattle.volume_desk.proofs.CarryLaws.{carries_along, carries_committed, carries_end, carries_going, carries_stopped, carries_then}
+use Rattle.volume_desk.proofs.TurnLaws.{changed_served, committed_to, destroy_served, destroy_stopped, made_kept, stopped_kept, takes_none, takes_some}
+use Rattle.volume_desk.proofs.committing.destroy.Goals as goal
+
+pub returns-in-Some-clause-carries : goal.returns-in-Some-clause-carries
+returns-in-Some-clause-carries g c =
+    carries_going _ _ _ _ _ _ _ (λ going. tt)
+    (carries_along g.P.Platform g.T.Tape g.L.Sink (1 + blocks_of c.args.first) c.args.platform.now c.take_out.new.platform c.args.tape.now c.take_out.new.tape c.args.ledger.now _ _ c.requires.ready c.take_out.ensures.calls.along)
+
+pub returns-in-Some-clause-serves : goal.returns-in-Some-clause-serves
+returns-in-Some-clause-serves g c told entry buffer held =
+    changed_served _ _ c.args.first _ _ _ entry (Destroy c.args.name.now) _ held (c.take_out.ensures.calls.along.cell told)
+    (takes_some _ _ _ _ _ _ entry c.args.name.now buffer c.in-Ok.refused c.in-Some.reply c.in-Some.is (c.in-Ok.ensures.turns told entry buffer held))
+
+pub returns-in-Err-clause-carries : goal.returns-in-Err-clause-carries
+returns-in-Err-clause-carries g c =
+    carries_end _ _ _ _ _ _ _ (λ going. tt)
+    (carries_along g.P.Platform g.T.Tape g.L.Sink (1 + blocks_of c.args.first) c.args.platform.now c.take_out.new.platform c.args.tape.now c.take_out.new.tape c.args.ledger.now _ _ c.requires.ready c.take_out.ensures.calls.along)
+
+pub returns-in-Err-clause-serves : goal.returns-in-Err-clause-serves
+returns-in-Err-clause-serves g c told entry buffer held =
+    stopped_kept _ _ c.args.first _ entry (Destroy c.args.name.now) c.in-Err.stop held (c.take_out.ensures.calls.along.cell told) (c.in-Err.ensures.turns told entry buffer held)
+
+pub returns-in-Ok-commit_session-clause-carries : goal.returns-in-Ok-commit_session-clause-carries
+returns-in-Ok-commit_session-clause-carries g c =
+    let one = carries_along g.P.Platform g.T.Tape g.L.Sink (1 + blocks_of c.args.first) c.args.platform.now c.take_out.new.platform c.args.tape.now c.take_out.new.tape c.args.ledger.now _ _ c.requires.ready c.take_out.ensures.calls.along in
+    carries_then _ _ _ _ _ _ _ _ _ tt one
+    (carries_going _ _ _ _ _ _ _ (λ going. tt) (carries_committed g.P.Platform g.T.Tape g.L.Sink _ _ _ _ _ _ _ c.in-Ok-commit_session.done c.in-Ok-commit_session.ensures.goes c.in-Ok-commit_session.ensures.leads))
+
+pub returns-in-Ok-commit_session-clause-serves : goal.returns-in-Ok-commit_session-clause-serves
+returns-in-Ok-commit_session-clause-serves g c told entry buffer held =
+    let along = c.take_out.ensures.calls.along in
+    let kept = made_kept _ _ entry.device held.at.there.device held.at.served (along.cell told) in
+    let taken = takes_none _ _ _ _ _ _ entry c.args.name.now buffer c.in-Ok.refused c.in_default.is (c.in-Ok.ensures.turns told entry buffer held) in
+    destroy_served _ (around g.P.Platform g.T.Tape g.L.Sink c.take_out.new.platform c.take_out.new.tape c.args.ledger.now) _ _ _ _ _ entry c.args.name.now c.in-Ok-commit_session.done.reply c.reply_to_destroy.result buffer c.reply_to_destroy.ensures along.capacity taken kept
+    (committed_to g.P.Platform g.T.Tape g.L.Sink _ _ _ _ _ _ _ _ c.in-Ok-commit_session.done.reply _ (changed entry c.take_out.new.table taken.v) along.is_open taken.held c.in-Ok-commit_session.ensures.answers
+    (c.in-Ok-commit_session.ensures.leads told entry.device (changed entry c.take_out.new.table taken.v).session taken.held.at))
+
+pub returns-in-Err-commit_session-clause-carries : goal.returns-in-Err-commit_session-clause-carries
+returns-in-Err-commit_session-clause-carries g c =
+    let one = carries_along g.P.Platform g.T.Tape g.L.Sink (1 + blocks_of c.args.first) c.args.platform.now c.take_out.new.platform c.args.tape.now c.take_out.new.tape c.args.ledger.now _ _ c.requires.ready c.take_out.ensures.calls.along in
+    carries_then _ _ _ _ _ _ _ _ _ tt one
+    (carries_going _ _ _ _ _ _ _ (λ going. cc) (carries_stopped g.P.Platform g.T.Tape g.L.Sink _ _ _ _ _ _ _ c.in-Err-commit_session.stop c.in-Err-commit_session.ensures.goes c.in-Err-commit_session.ensures.leads))
+
+pub returns-in-Err-commit_session-clause-serves : goal.returns-in-Err-commit_session-clause-serves
+returns-in-Err-commit_session-clause-serves g c told entry buffer held =
+    let along = c.take_out.ensures.calls.along in
+    let kept = made_kept _ _ entry.device held.at.there.device held.at.served (along.cell told) in
+    let taken = takes_none _ _ _ _ _ _ entry c.args.name.now buffer c.in-Ok.refused c.in_default.is (c.in-Ok.ensures.turns told entry buffer held) in
+    destroy_stopped g.P.Platform g.T.Tape g.L.Sink _ _ _ _ _ _ _ _ _ c.in-Err-commit_session.stop _ _ entry c.args.name.now along.capacity taken kept along.is_open c.in-Err-commit_session.ensures.answers
+    (During-now _ _ IsServedImage (c.in-Err-commit_session.ensures.goes.keeps.serves told taken.held.at.served)) (c.in-Err-commit_session.ensures.leads told entry.device (changed entry c.take_out.new.table taken.v).session taken.held.at)

@@ -1,0 +1,66 @@
+use Rattle.std.proofs.Common.{◌≡◌, ◌≢◌, ◌+◌, refl, arith}
+use Rattle.std.proofs.lemmas.Option.{slice_get_within}
+use Rattle.device_session.specs.Open.{blocks_of}
+use Rattle.session_calls.specs.Along.{drawn_by}
+use Rattle.volume_terms.proofs.TableLaws.{inside_of}
+use Rattle.volume_desk.proofs.CallLaws.{calls_stopped}
+use Rattle.volume_desk.proofs.DeskLaws.{calls_done, calls_none, changed_none, held_changed, named_at}
+use Rattle.volume_desk.proofs.committing.take_out.Goals as goal
+
+pub returns-in_default-clause-calls : goal.returns-in_default-clause-calls
+returns-in_default-clause-calls g c = calls_none g.P.Platform _ _ (drawn_by g.T.Tape c.args.tape.now) _ _ c.requires.open
+
+pub returns-in_default-clause-turns : goal.returns-in_default-clause-turns
+returns-in_default-clause-turns g c told entry buffer held = changed_none _ _ _ _ entry _ _ held (c.in_default.ensures.none, refl)
+
+pub returns-then-head-capacity-clause-calls : goal.returns-then-head-capacity-clause-calls
+returns-then-head-capacity-clause-calls g c = calls_none g.P.Platform _ _ (drawn_by g.T.Tape c.args.tape.now) _ _ c.requires.open
+
+pub returns-then-head-capacity-clause-turns : goal.returns-then-head-capacity-clause-turns
+returns-then-head-capacity-clause-turns g c told entry buffer held =
+    let found = c.in-Some.ensures.found in
+    let full : entry.pages ≡ g.P.Platform.capacity c.args.platform.now = omega (arith, held.pages, c.if-head-capacity.true, c.head.ensures, c.capacity.ensures) in
+    changed_none _ _ _ _ entry _ _ held (c.in-Some.volume, named_at c.args.table.now c.args.name.now c.in-Some.at c.in-Some.volume found.0 found.1, full, refl)
+
+pub remove-requires : goal.remove-requires
+remove-requires g c = slice_get_within c.args.table.now c.in-Some.at c.in-Some.volume c.in-Some.ensures.found.0
+
+pub change-requires-clause-inside : goal.change-requires-clause-inside
+change-requires-clause-inside g c =
+    let found = c.in-Some.ensures.found in
+    inside_of (blocks_of c.args.session.now) c.args.table.now c.in-Some.volume c.requires.table (named_at c.args.table.now c.args.name.now c.in-Some.at c.in-Some.volume found.0 found.1).0
+
+pub returns-in-Ok-clause-calls : goal.returns-in-Ok-clause-calls
+returns-in-Ok-clause-calls g c =
+    let found = c.in-Some.ensures.found in
+    let inside = inside_of (blocks_of c.args.session.now) c.args.table.now c.in-Some.volume c.requires.table (named_at c.args.table.now c.args.name.now c.in-Some.at c.in-Some.volume found.0 found.1).0 in
+    calls_done g.P.Platform (1 + c.in-Some.volume.count) (1 + blocks_of c.args.session.now) _ _ _ _ _ _ tt _ (omega (arith, inside.within)) c.in-Ok.ensures.calls
+
+pub returns-in-Ok-clause-table : goal.returns-in-Ok-clause-table
+returns-in-Ok-clause-table g c = c.remove.ensures.table (blocks_of c.args.session.now) c.requires.table
+
+pub returns-in-Ok-clause-turns : goal.returns-in-Ok-clause-turns
+returns-in-Ok-clause-turns g c told entry buffer held =
+    let found = c.in-Some.ensures.found in
+    let inside = inside_of entry.device.blocks c.args.table.now c.in-Some.volume held.tabled.is (named_at c.args.table.now c.args.name.now c.in-Some.at c.in-Some.volume found.0 found.1).0 in
+    let free : entry.pages ≢ g.P.Platform.capacity c.args.platform.now = λ full. omega (arith, held.pages, full, c.if-head-capacity.false, c.head.ensures, c.capacity.ensures) in
+    let led = c.in-Ok.ensures.leads told entry.device entry.session held.at in
+    record {
+      v = c.in-Some.volume;
+      same = found.1;
+      taken = (c.in-Some.at, found.0, c.remove.ensures.removed);
+      free = free;
+      held = held_changed _ _ _ _ _ _ c.args.table.now c.remove.new.self entry c.in-Some.volume held led c.in-Ok.ensures.head c.in-Ok.ensures.calls.along.needs (c.remove.ensures.table entry.device.blocks held.tabled.is) inside.start;
+    }
+
+pub returns-in-Err-clause-calls : goal.returns-in-Err-clause-calls
+returns-in-Err-clause-calls g c =
+    let found = c.in-Some.ensures.found in
+    let inside = inside_of (blocks_of c.args.session.now) c.args.table.now c.in-Some.volume c.requires.table (named_at c.args.table.now c.args.name.now c.in-Some.at c.in-Some.volume found.0 found.1).0 in
+    calls_stopped g.P.Platform (1 + c.in-Some.volume.count) (1 + blocks_of c.args.session.now) _ _ _ _ _ _ c.in-Err.stop (omega (arith, inside.within)) c.in-Err.ensures.calls
+
+pub returns-in-Err-clause-table : goal.returns-in-Err-clause-table
+returns-in-Err-clause-table g c = c.remove.ensures.table (blocks_of c.args.session.now) c.requires.table
+
+pub returns-in-Err-clause-turns : goal.returns-in-Err-clause-turns
+returns-in-Err-clause-turns g c told entry buffer held = c.in-Err.ensures.leads told entry.device entry.session held.at

@@ -1,0 +1,68 @@
+use Rattle.std.proofs.Common.{◌≡◌, ◌≢◌, ℕ, refl, sym, subst, ◌∙◌, arith}
+use Rattle.std.proofs.lemmas.Bool.{false≢true}
+use Rattle.session_calls.specs.Along.{drawn_by}
+use Rattle.volume_terms.specs.Volumes.{IsCount, changed}
+use Rattle.volume_desk.proofs.DeskLaws.{calls_none, changed_none, held_changed, is_new, no_room, out_of_range}
+use Rattle.volume_desk.proofs.TurnLaws.{blocks_held}
+use Rattle.volume_desk.proofs.creating.create.Goals as goal
+
+pub returns-then-has_volume-clause-calls : goal.returns-then-has_volume-clause-calls
+returns-then-has_volume-clause-calls g c = calls_none g.P.Platform _ _ (drawn_by g.T.Tape c.args.tape.now) _ _ c.requires.open
+
+pub returns-then-has_volume-clause-turns : goal.returns-then-has_volume-clause-turns
+returns-then-has_volume-clause-turns g c told entry buffer held =
+    let v = c.has_volume.ensures.there c.if-has_volume.true in changed_none _ _ _ _ entry _ _ held (v.0, v.1, refl)
+
+pub returns-in_default-clause-calls : goal.returns-in_default-clause-calls
+returns-in_default-clause-calls g c = calls_none g.P.Platform _ _ (drawn_by g.T.Tape c.args.tape.now) _ _ c.requires.open
+
+pub returns-then-not-is_count-clause-calls : goal.returns-then-not-is_count-clause-calls
+returns-then-not-is_count-clause-calls g c = calls_none g.P.Platform _ _ (drawn_by g.T.Tape c.args.tape.now) _ _ c.requires.open
+
+pub returns-then-not-is_count-clause-turns : goal.returns-then-not-is_count-clause-turns
+returns-then-not-is_count-clause-turns g c told entry buffer held =
+    let blocks = c.blocks-2.ensures ∙ blocks_held _ _ _ _ _ held in
+    changed_none _ _ _ _ entry _ _ held (c.if-has_volume.ensures.lacks refl, out_of_range entry.device.blocks c.args.count (λ fits. absurd (false≢true (c.if-not-is_count.ensures.1 (subst (λ (b : ℕ). IsCount b c.args.count) (sym blocks) fits)))), refl)
+
+pub returns-in_default-clause-turns : goal.returns-in_default-clause-turns
+returns-in_default-clause-turns g c told entry buffer held =
+    let there = blocks_held _ _ _ _ _ held in
+    let fits = subst (λ (b : ℕ). IsCount b c.args.count) (c.blocks-2.ensures ∙ there) (c.if-not-is_count.ensures.0 refl) in
+    changed_none _ _ _ _ entry _ _ held (
+      c.if-has_volume.ensures.lacks refl,
+      fits,
+      no_room entry.device.blocks c.blocks-3.result c.args.count c.args.table.now c.duplicate-next.result (c.blocks-3.ensures ∙ there) c.duplicate-next.ensures c.in_default.ensures.none,
+      refl,
+    )
+
+pub returns-then-head-capacity-clause-calls : goal.returns-then-head-capacity-clause-calls
+returns-then-head-capacity-clause-calls g c = calls_none g.P.Platform _ _ (drawn_by g.T.Tape c.args.tape.now) _ _ c.requires.open
+
+pub returns-then-head-capacity-clause-turns : goal.returns-then-head-capacity-clause-turns
+returns-then-head-capacity-clause-turns g c told entry buffer held =
+    let there = blocks_held _ _ _ _ _ held in
+    let fits = subst (λ (b : ℕ). IsCount b c.args.count) (c.blocks-2.ensures ∙ there) (c.if-not-is_count.ensures.0 refl) in
+    let placed = c.in-Some.ensures.placed in
+    let new = is_new entry.device.blocks c.blocks-3.result c.args.count c.args.table.now c.duplicate-next.result c.put.new.self c.args.name.now c.in-Some.volume (c.blocks-3.ensures ∙ there) c.duplicate-next.ensures placed.0 placed.1 placed.2
+    c.in-Some.ensures.inserted c.in-Some.ensures.table in
+    let full : entry.pages ≡ g.P.Platform.capacity c.args.platform.now = omega (arith, held.pages, c.if-head-capacity.true, c.head.ensures, c.capacity.ensures) in
+    changed_none _ _ _ _ entry _ _ held (c.if-has_volume.ensures.lacks refl, fits, c.in-Some.volume, c.put.new.self, new, full, refl)
+
+pub returns-in-Ok-clause-turns : goal.returns-in-Ok-clause-turns
+returns-in-Ok-clause-turns g c told entry buffer held =
+    let there = blocks_held _ _ _ _ _ held in
+    let fits = subst (λ (b : ℕ). IsCount b c.args.count) (c.blocks-2.ensures ∙ there) (c.if-not-is_count.ensures.0 refl) in
+    let placed = c.in-Some.ensures.placed in
+    let new = is_new entry.device.blocks c.blocks-3.result c.args.count c.args.table.now c.duplicate-next.result c.put.new.self c.args.name.now c.in-Some.volume (c.blocks-3.ensures ∙ there) c.duplicate-next.ensures placed.0 placed.1 placed.2
+    c.in-Some.ensures.inserted c.in-Some.ensures.table in
+    let free : entry.pages ≢ g.P.Platform.capacity c.args.platform.now = λ full. omega (arith, held.pages, full, c.if-head-capacity.false, c.head.ensures, c.capacity.ensures) in
+    let led = c.in-Ok.ensures.leads told entry.device entry.session held.at in
+    record {
+      next = changed entry c.put.new.self c.in-Some.volume;
+      held = held_changed _ _ _ _ _ _ c.args.table.now c.put.new.self entry c.in-Some.volume held led c.in-Ok.ensures.head c.in-Ok.ensures.calls.along.needs new.is new.start.fits.least;
+      does = (c.if-has_volume.ensures.lacks refl, fits, c.in-Some.volume, c.put.new.self, new, free, refl);
+      same = refl;
+    }
+
+pub returns-in-Err-clause-turns : goal.returns-in-Err-clause-turns
+returns-in-Err-clause-turns g c told entry buffer held = c.in-Err.ensures.leads told entry.device entry.session held.at
