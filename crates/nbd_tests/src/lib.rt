@@ -1,7 +1,5 @@
-//! Worked rows of the device over NBD, on objects in memory.
+//! Tests of the talk with a client of NBD of which no row can be made.
 #![tactic(auto)]
 
 #[cfg(test)]
-mod options;
-#[cfg(test)]
-mod sessions;
+mod limits;
