@@ -34,7 +34,7 @@ returns-in-Ok-write_block-clause-turns g c told entry buffer held =
     let free : entry.pages ≢ g.P.Platform.capacity c.args.platform.now = λ full. omega (arith, held.pages, full, c.if-head-capacity.false, c.head.ensures, c.capacity.ensures) in
     record {
       next = wrote entry c.in-Ok.at c.args.content.now;
-      held = held_wrote _ _ _ _ _ _ _ entry c.args.name.now c.args.block c.in-Ok.at c.args.content.now is held led c.in-Ok-write_block.ensures.adds along.needs;
+      held = held_wrote _ _ _ _ _ _ _ entry c.args.name.now c.args.block c.in-Ok.at c.args.content.now is held led c.in-Ok-write_block.ensures.adds.0 along.needs;
       does = (is.v, is.named, is.below, (free, ap (λ (at : ℕ). wrote entry at c.args.content.now) is.is));
       same = refl;
     }

@@ -16,7 +16,7 @@ returns-in-Ok-clause-calls g c =
     one.along (platform_quiet _ _ one.quiet) (tape_quiet _ _ one.quiet) (c.trim_range.ensures.calls (drawn_by g.T.Tape c.write_block.new.tape))
 
 pub returns-in-Ok-clause-head : goal.returns-in-Ok-clause-head
-returns-in-Ok-clause-head g c = on_ok c.trim_range.result _ (c.trim_range.ensures.head ∙ c.in-Ok.ensures.adds)
+returns-in-Ok-clause-head g c = on_ok c.trim_range.result _ (c.trim_range.ensures.head ∙ c.in-Ok.ensures.adds.0)
 
 pub returns-in-Ok-clause-leads : goal.returns-in-Ok-clause-leads
 returns-in-Ok-clause-leads g c told device array at =
