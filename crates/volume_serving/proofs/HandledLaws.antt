@@ -1,8 +1,7 @@
 -- What a run says of lines that it handled adds up.
-use Rattle.std.proofs.Common.{◌≡◌, ◌≤◌, ◌+◌, ◌⊎◌, ℕ, List, [], ◌∷◌, ◌++◌, Option, None, Some, Result, Ok, Err, inl, inr, length, take, refl, sym, ap, subst, ◌∙◌, append_assoc, append-nil, length-append, arith}
+use Rattle.std.proofs.Common.{◌≡◌, ◌≤◌, ◌+◌, ℕ, List, [], ◌∷◌, ◌++◌, Option, None, Some, Result, Ok, Err, inl, inr, length, take, refl, sym, ap, subst, ◌∙◌, append_assoc, append-nil, length-append, arith}
 use Rattle.std.specs.Prelude.{IfOk}
 use Rattle.std.specs.List.{flat_map}
-use Rattle.std.proofs.lemmas.Grind.{common_steps}
 use Rattle.std.proofs.lemmas.List.Concat.{flat_map-append}
 use Rattle.sdbt_base.specs.Arrays.{Device, closed}
 use Rattle.sdbt_base.specs.Told.{Got, GotPart}
@@ -12,7 +11,7 @@ use Rattle.platform.specs.History.{History}
 use Rattle.device_course.specs.States.{IsLater, Outside}
 use Rattle.device_course.proofs.MadeLaws.{made_start, made_then, shut}
 use Rattle.device_session.specs.Sessions.{Session}
-use Rattle.line_run.specs.Puts.{HasPut, IsBehind, no_line}
+use Rattle.line_run.specs.Puts.{HasPut}
 use Rattle.line_run.specs.Stops.{Ending, IsOfLine}
 use Rattle.line_run.specs.declared.stop.Stop.{Stop}
 use Rattle.line_run.specs.declared.stop.Stop.TheVariants as stops
@@ -32,7 +31,7 @@ use Rattle.volume_terms.specs.Volumes.{IsTabled}
 use Rattle.volume_desk.specs.Turns.{IsHeld, MadeBetween, Served, Stopped, StopsAt, device_of}
 use Rattle.volume_desk.proofs.TurnLaws.{made_again}
 use Rattle.volume_serving.specs.World.{World, IsOn}
-use Rattle.volume_serving.specs.Handled.{ending_of, goes_on, AreMany, EndsOn, Handled, IfNext, IsCut, IsMade, OnLines, Replied}
+use Rattle.volume_serving.specs.Handled.{ending_of, goes_on, AreMany, EndsOn, Handled, IfNext, OnLines, Replied}
 
 -- ---- nothing
 
@@ -383,10 +382,32 @@ on_cut old new entry lines replies part on = (record { ahead = on.ahead; led = o
 
 pub handled_cut : (tells : Type 0) (old new : World) (lines : List (List ℕ)) (a b : Option (List ℕ)) → Handled tells old new (Ok tt) lines a b → Handled tells old new (Err stops.Source) lines a b × Handled tells old new (Err stops.Limit) lines a b
 handled_cut tells old new lines a b p = let r = p.replied in (
-  record { put = p.put; got = p.got; replied = record { replies = r.replies; part = r.part; put_is = r.put_is; behind = r.behind; many = r.many; later = r.later;
-    led = λ told entry on. (on_cut old new entry lines r.replies r.part (r.led told entry on)).0 } },
-  record { put = p.put; got = p.got; replied = record { replies = r.replies; part = r.part; put_is = r.put_is; behind = r.behind; many = r.many; later = r.later;
-    led = λ told entry on. (on_cut old new entry lines r.replies r.part (r.led told entry on)).1 } },
+  record {
+    put = p.put;
+    got = p.got;
+    replied = record {
+      replies = r.replies;
+      part = r.part;
+      put_is = r.put_is;
+      behind = r.behind;
+      many = r.many;
+      later = r.later;
+      led = λ told entry on. (on_cut old new entry lines r.replies r.part (r.led told entry on)).0;
+    };
+  },
+  record {
+    put = p.put;
+    got = p.got;
+    replied = record {
+      replies = r.replies;
+      part = r.part;
+      put_is = r.put_is;
+      behind = r.behind;
+      many = r.many;
+      later = r.later;
+      led = λ told entry on. (on_cut old new entry lines r.replies r.part (r.led told entry on)).1;
+    };
+  },
 )
 
 -- ---- how many replies there are

@@ -1,5 +1,5 @@
 -- What a run keeps behind a reply, and that a line is one of some text.
-use Rattle.std.proofs.Common.{◌≡◌, ◌<◌, ◌≤◌, ℕ, List, Option, None, Some, Result, Ok, Err, length, replicate, refl, sym, subst, arith}
+use Rattle.std.proofs.Common.{◌≡◌, ℕ, List, Option, None, Some, Result, Ok, Err, replicate, refl, sym, subst, arith}
 use Rattle.std.specs.Prelude.{IfOk, IsOk}
 use Rattle.std.proofs.lemmas.List.{length-replicate}
 use Rattle.device_course.specs.States.{Outside}

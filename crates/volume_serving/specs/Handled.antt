@@ -3,13 +3,12 @@ use Rattle.std.specs.Prelude.{◌≡◌, ◌≤◌, ◌⊎◌, ℕ, List, [], �
 use Rattle.sdbt_base.specs.Told.{Got}
 use Rattle.device_course.specs.States.{IsLater}
 use Rattle.line_run.specs.Puts.{IsBehind, IsFirstPart, no_line}
-use Rattle.line_run.specs.Stops.{Ending, IsSound}
+use Rattle.line_run.specs.Stops.{Ending}
 use Rattle.line_run.specs.declared.stop.Stop.{Stop}
 use Rattle.line_run.specs.declared.stop.Stop.TheVariants as stops
 use Rattle.device_session.specs.Sessions.{Session}
 use Rattle.nbd_terms.specs.Held.{Held}
 use Rattle.nbd_terms.specs.Leading.{Led, last_of}
-use Rattle.session_calls.specs.declared.stops.DeviceStop.{DeviceStop}
 use Rattle.session_calls.specs.declared.stops.DeviceStop.TheVariants as device
 use Rattle.volume_lines.specs.Replies.{Reply, line_of}
 use Rattle.volume_terms.specs.Turn.{Turn}

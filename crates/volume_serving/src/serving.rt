@@ -60,7 +60,9 @@ pub fn serve_input<P: Platform, T: Tape, I: Source, O: Sink, L: Sink>(
             return Err(Stop::Source);
         };
         if count == 0 {
-            return serve_end(session, desk, writer, &pending, platform, tape, output, ledger);
+            return serve_end(
+                session, desk, writer, &pending, platform, tape, output, ledger,
+            );
         }
         match serve_piece(
             session,
@@ -148,7 +150,16 @@ fn serve_end<P: Platform, T: Tape, O: Sink, L: Sink>(
     if pending.is_empty() {
         return Ok(());
     }
-    close(answer(session, desk, writer, pending.line(), platform, tape, output, ledger))
+    close(answer(
+        session,
+        desk,
+        writer,
+        pending.line(),
+        platform,
+        tape,
+        output,
+        ledger,
+    ))
 }
 
 /// The session is let go where the lines end.

@@ -1,4 +1,4 @@
-use Rattle.std.proofs.Common.{◌≡◌, ℕ, List, ◌∷◌, Option, None, Some, Ok, Err, refl, sym, ap, subst, ◌∙◌, arith}
+use Rattle.std.proofs.Common.{None, Some, refl}
 use Rattle.device_course.specs.States.{around}
 use Rattle.volume_lines.specs.Lines.{asked}
 use Rattle.volume_lines.specs.Replies.{Bad, said}

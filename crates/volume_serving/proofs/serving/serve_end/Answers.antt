@@ -1,6 +1,5 @@
-use Rattle.std.proofs.Common.{◌≡◌, ℕ, List, [], ◌∷◌, Result, Option, None, Some, Ok, Err, refl, sym, subst, rules}
-use Rattle.std.specs.Prelude.{IsOk, IsTrue, option_copied}
-use Rattle.device_course.specs.States.{around}
+use Rattle.std.proofs.Common.{◌≡◌, ℕ, List, [], ◌∷◌, Result, Option, Some, Ok, Err, refl, sym, subst, rules}
+use Rattle.std.specs.Prelude.{IsOk, IsTrue}
 use Rattle.device_session.specs.Sessions.{Session}
 use Rattle.line_run.specs.Pending.{IsPending}
 use Rattle.line_run.specs.Stops.{Ending}

@@ -1,4 +1,4 @@
-use Rattle.std.proofs.Common.{◌≡◌, List, ℕ, Some}
+use Rattle.std.proofs.Common.{◌≡◌, Some}
 use Rattle.sdbt_base.specs.Counts.{counts}
 use Rattle.device_course.specs.States.{around}
 use Rattle.device_session.specs.Open.{blocks_of}

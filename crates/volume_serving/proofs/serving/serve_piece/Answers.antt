@@ -1,5 +1,4 @@
-use Rattle.std.proofs.Common.{ℕ, List, Some, Ok, Err, ◌++◌, ◌∙◌, refl}
-use Rattle.device_course.specs.States.{around}
+use Rattle.std.proofs.Common.{ℕ, List, Some, Err, ◌++◌, ◌∙◌, refl}
 use Rattle.line_run.proofs.LineLaws.{IsServing-start, IsServing-line, IsServing-stop, IsServing-end}
 use Rattle.volume_desk.proofs.CarryLaws.{carries_going, carries_start, carries_then}
 use Rattle.volume_serving.specs.Handled.{Handled}
