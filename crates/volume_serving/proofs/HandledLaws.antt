@@ -1,0 +1,429 @@
+-- What a run says of lines that it handled adds up.
+use Rattle.std.proofs.Common.{◌≡◌, ◌≤◌, ◌+◌, ℕ, List, [], ◌∷◌, ◌++◌, Option, None, Some, Result, Ok, Err, inl, inr, length, take, refl, sym, ap, subst, ◌∙◌, append_assoc, append-nil, length-append, arith}
+use Rattle.std.specs.Prelude.{IfOk}
+use Rattle.std.specs.List.{flat_map}
+use Rattle.std.proofs.lemmas.List.Concat.{flat_map-append}
+use Rattle.sdbt_base.specs.Arrays.{Device, closed}
+use Rattle.sdbt_base.specs.Told.{Got, GotPart}
+use Rattle.sdbt_base.proofs.ToldLaws.{Got-nothing, Got-then}
+use Rattle.platform.specs.Image.{Image}
+use Rattle.platform.specs.History.{History}
+use Rattle.device_course.specs.States.{IsLater, Outside}
+use Rattle.device_course.proofs.MadeLaws.{made_start, made_then, shut}
+use Rattle.device_session.specs.Sessions.{Session}
+use Rattle.line_run.specs.Puts.{HasPut}
+use Rattle.line_run.specs.Stops.{Ending, IsOfLine}
+use Rattle.line_run.specs.declared.stop.Stop.{Stop}
+use Rattle.line_run.specs.declared.stop.Stop.TheVariants as stops
+use Rattle.line_run.proofs.LineLaws.{Handling}
+use Rattle.nbd_terms.specs.Held.{Held}
+use Rattle.nbd_terms.specs.Leading.{Led, last_of, marks_of}
+use Rattle.nbd_terms.proofs.LeadingLaws.{last_of-append, leads_append, leads_longer}
+use Rattle.std.proofs.lemmas.List.{map-append}
+use Rattle.session_calls.specs.declared.stops.DeviceStop.{DeviceStop}
+use Rattle.session_calls.specs.declared.stops.DeviceStop.TheVariants as device
+use Rattle.volume_table.specs.declared.volume.Volume.{Volume}
+use Rattle.volume_lines.specs.Grammar.{IsBad, Spells}
+use Rattle.volume_lines.specs.Lines.{Line}
+use Rattle.volume_lines.specs.Replies.{Reply, Bad, line_of}
+use Rattle.volume_terms.specs.Turn.{Turn}
+use Rattle.volume_terms.specs.Volumes.{IsTabled}
+use Rattle.volume_desk.specs.Turns.{IsHeld, MadeBetween, Served, Stopped, StopsAt, device_of}
+use Rattle.volume_desk.proofs.TurnLaws.{made_again}
+use Rattle.volume_serving.specs.World.{World, IsOn}
+use Rattle.volume_serving.specs.Handled.{ending_of, goes_on, AreMany, EndsOn, Handled, IfNext, OnLines, Replied}
+
+-- ---- nothing
+
+pub later_none : (here : Outside) → here.head ≤ here.capacity → IsLater here here
+later_none here fits = record { capacity = refl; rises = omega arith; within = fits }
+
+later_then : (first second third : Outside) → IsLater first second → IsLater second third → IsLater first third
+later_then first second third one two = record { capacity = two.capacity ∙ one.capacity; rises = omega (arith, one.rises, two.rises); within = two.within }
+
+on_nothing : (w : World) (entry : Held) → IsOn w entry → OnLines w w entry [] [] [] (Ok tt)
+on_nothing w entry on = record {
+  ahead = [];
+  led = record {
+    states = [];
+    leads = tt;
+    made = made_start w.outside.history None (closed (Some entry.device)) (shut w.outside.history.present (Some entry.device) on.held.at.there.device on.held.at.served);
+  };
+  ends = (refl, on);
+}
+
+pub handled_nothing : (tells : Type 0) (w : World) (written : Option (List ℕ)) → w.outside.head ≤ w.outside.capacity → Handled tells w w (Ok tt) [] written written
+handled_nothing tells w written fits = record {
+  put = [];
+  got = Got-nothing written;
+  replied = record { replies = []; part = []; put_is = refl; behind = refl; many = refl; later = later_none w.outside fits; led = λ told entry on. on_nothing w entry on };
+}
+
+-- ---- lines behind others
+
+next_behind : (lines more : List (List ℕ)) (replies others : List Reply) (Claim : List ℕ → Type 0) → length replies ≡ length lines → IfNext others more Claim → IfNext (replies ++ others) (lines ++ more) Claim
+next_behind [] more [] others Claim same next = next
+next_behind [] more (r ∷ replies) others Claim same next = absurd (omega (arith, same))
+next_behind (line ∷ lines) more [] others Claim same next = absurd (omega (arith, same))
+next_behind (line ∷ lines) more (r ∷ replies) others Claim same next = next_behind lines more replies others Claim (omega (arith, same)) next
+
+next_longer : (lines more : List (List ℕ)) (replies : List Reply) (Claim : List ℕ → Type 0) → IfNext replies lines Claim → IfNext replies (lines ++ more) Claim
+next_longer [] more [] Claim next = absurd next
+next_longer [] more (r ∷ replies) Claim next = absurd next
+next_longer (line ∷ lines) more [] Claim next = next
+next_longer (line ∷ lines) more (r ∷ replies) Claim next = next_longer lines more replies Claim next
+
+many_then : (one two lines more : ℕ) (ending : Ending) → one ≡ lines → AreMany two more ending → AreMany (one + two) (lines + more) ending
+many_then one two lines more (Ok done) same many = omega (arith, same, many)
+many_then one two lines more (Err stops.Source) same many = omega (arith, same, many)
+many_then one two lines more (Err stops.Limit) same many = omega (arith, same, many)
+many_then one two lines more (Err (stops.Device stop)) same many = omega (arith, same, many)
+many_then one two lines more (Err stops.Sink) same many = omega (arith, same, many)
+
+ends_behind : (new : World) (capacity : ℕ) (last : Held) (lines more : List (List ℕ)) (replies others : List Reply) (part : List ℕ) (ahead : List Held) (ending : Ending) → length replies ≡ length lines
+    → EndsOn new capacity last more others part ahead ending → EndsOn new capacity last (lines ++ more) (replies ++ others) part ahead ending
+ends_behind new capacity last lines more replies others part ahead (Ok done) same ends = ends
+ends_behind new capacity last lines more replies others part ahead (Err stops.Source) same ends = ends
+ends_behind new capacity last lines more replies others part ahead (Err stops.Limit) same ends = ends
+ends_behind new capacity last lines more replies others part ahead (Err stops.Sink) same (reply, next, is, first, turn) =
+    (reply, next, is, first, next_behind lines more replies others (λ line. Turn capacity last line reply next) same turn)
+ends_behind new capacity last lines more replies others part ahead (Err (stops.Device device.Platform)) same (inl none) = inl none
+ends_behind new capacity last lines more replies others part ahead (Err (stops.Device device.Platform)) same (inr (reply, next, is, turn)) =
+    inr (reply, next, is, next_behind lines more replies others (λ line. Turn capacity last line reply next) same turn)
+ends_behind new capacity last lines more replies others part ahead (Err (stops.Device device.Tape)) same ends = ends
+ends_behind new capacity last lines more replies others part ahead (Err (stops.Device device.Ledger)) same ends = ends
+ends_behind new capacity last lines more replies others part ahead (Err (stops.Device device.Memory)) same ends = ends
+ends_behind new capacity last lines more replies others part ahead (Err (stops.Device device.BadRoot)) same ends = absurd ends
+ends_behind new capacity last lines more replies others part ahead (Err (stops.Device (device.BadRecord addr))) same ends = absurd ends
+
+made_behind : (first second third : History) (entry between last : Device) (one two : List (Option Device)) → MadeBetween first second entry one between → MadeBetween second third between two last → MadeBetween first third entry (one ++ two) last
+made_behind first second third entry between last one two a b =
+    made_then first second third None None (closed (Some entry)) (closed (Some between)) (closed (Some last)) one two a b
+
+-- ahead of lines that all have replies is nothing
+pub led_whole : (capacity : ℕ) (old new : History) (entry : Held) (lines : List (List ℕ)) (replies : List Reply) (ahead : List Held) → ahead ≡ [] → Led (Turn capacity) device_of (MadeBetween old new) entry lines replies ahead
+    → Led (Turn capacity) device_of (MadeBetween old new) entry lines replies []
+led_whole capacity old new entry lines replies ahead none led = subst (λ (a : List Held). Led (Turn capacity) device_of (MadeBetween old new) entry lines replies a) none led
+
+-- one part after another, with the states of both
+led_both : (capacity : ℕ) (old mid new : History) (entry : Held) (lines more : List (List ℕ)) (replies others : List Reply) (ahead : List Held) → length replies ≡ length lines
+    → (one : Led (Turn capacity) device_of (MadeBetween old mid) entry lines replies []) → (two : Led (Turn capacity) device_of (MadeBetween mid new) (last_of entry one.states) more others ahead)
+    → (led : Led (Turn capacity) device_of (MadeBetween old new) entry (lines ++ more) (replies ++ others) ahead) × (led.states ≡ one.states ++ two.states)
+led_both capacity old mid new entry lines more replies others ahead same one two =
+    let all : List Held = one.states ++ (two.states ++ ahead) in
+    let end : Device = (last_of (last_of entry one.states) (two.states ++ ahead)).device in
+    let first_part : MadeBetween old mid entry.device (marks_of device_of one.states) (last_of entry one.states).device =
+    subst (λ (states : List Held). MadeBetween old mid entry.device (marks_of device_of states) (last_of entry states).device) (append-nil one.states) one.made in
+    let both : MadeBetween old new entry.device (marks_of device_of one.states ++ marks_of device_of (two.states ++ ahead)) end =
+    made_behind old mid new entry.device (last_of entry one.states).device end (marks_of device_of one.states) (marks_of device_of (two.states ++ ahead)) first_part two.made in
+    let marks : MadeBetween old new entry.device (marks_of device_of all) end =
+    subst (λ (ms : List (Option Device)). MadeBetween old new entry.device ms end) (sym (map-append (λ (h : Held). Some (device_of h)) one.states (two.states ++ ahead))) both in
+    let last : MadeBetween old new entry.device (marks_of device_of all) (last_of entry all).device =
+    subst (λ (h : Held). MadeBetween old new entry.device (marks_of device_of all) h.device) (sym (last_of-append entry one.states (two.states ++ ahead))) marks in (
+      record {
+        states = one.states ++ two.states;
+        leads = leads_append (Turn capacity) entry lines more replies others one.states two.states same one.leads two.leads;
+        made = subst (λ (states : List Held). MadeBetween old new entry.device (marks_of device_of states) (last_of entry states).device) (sym (append_assoc one.states two.states ahead)) last;
+      },
+      refl,
+    )
+
+on_then : (old mid new : World) (entry : Held) (lines more : List (List ℕ)) (replies others : List Reply) (part : List ℕ) (ending : Ending) → mid.outside.capacity ≡ old.outside.capacity → length replies ≡ length lines
+    → OnLines old mid entry lines replies [] (Ok tt) → ((last : Held) → IsOn mid last → OnLines mid new last more others part ending) → OnLines old new entry (lines ++ more) (replies ++ others) part ending
+on_then old mid new entry lines more replies others part ending capacity same one two =
+    let H : List Held → Type 0 = λ a. (led : Led (Turn old.outside.capacity) device_of (MadeBetween old.outside.history mid.outside.history) entry lines replies a) × IsOn mid (last_of entry led.states) in
+    let first = subst H one.ends.0 (one.led, one.ends.1) in
+    let led = first.0 in
+    let last : Held = last_of entry led.states in
+    let next = two last first.1 in
+    let C : ℕ → Type 0 = λ n. (led : Led (Turn n) device_of (MadeBetween mid.outside.history new.outside.history) last more others next.ahead) × EndsOn new n (last_of last led.states) more others part next.ahead ending in
+    let second = subst C capacity (next.led, next.ends) in
+    let all = led_both old.outside.capacity old.outside.history mid.outside.history new.outside.history entry lines more replies others next.ahead same led second.0 in
+    record {
+      ahead = next.ahead;
+      led = all.0;
+      ends = subst (λ (h : Held). EndsOn new old.outside.capacity h (lines ++ more) (replies ++ others) part next.ahead ending)
+          (sym (ap (λ (states : List Held). last_of entry states) all.1 ∙ last_of-append entry led.states second.0.states))
+          (ends_behind new old.outside.capacity (last_of last second.0.states) lines more replies others part next.ahead ending same second.1);
+    }
+
+pub replied_then : (tells : Type 0) (old mid new : World) (ending : Ending) (lines more : List (List ℕ)) (put others : List ℕ) → Replied tells old mid (Ok tt) lines put → Replied tells mid new ending more others
+    → Replied tells old new ending (lines ++ more) (put ++ others)
+replied_then tells old mid new ending lines more put others one two =
+    let first : put ≡ flat_map line_of one.replies = one.put_is ∙ ap (λ (l : List ℕ). flat_map line_of one.replies ++ l) one.behind ∙ append-nil (flat_map line_of one.replies) in
+    record {
+      replies = one.replies ++ two.replies;
+      part = two.part;
+      put_is = ap (λ (l : List ℕ). l ++ others) first ∙ ap (λ (l : List ℕ). flat_map line_of one.replies ++ l) two.put_is ∙ sym (append_assoc (flat_map line_of one.replies) (flat_map line_of two.replies) two.part)
+          ∙ ap (λ (l : List ℕ). l ++ two.part) (sym (flat_map-append line_of one.replies two.replies));
+      behind = two.behind;
+      many = subst (λ (n : ℕ). AreMany n (length (lines ++ more)) ending) (sym (length-append one.replies two.replies))
+          (subst (λ (n : ℕ). AreMany (length one.replies + length two.replies) n ending) (sym (length-append lines more)) (many_then (length one.replies) (length two.replies) (length lines) (length more) ending one.many two.many));
+      later = later_then old.outside mid.outside new.outside one.later two.later;
+      led = λ told entry on. on_then old mid new entry lines more one.replies two.replies two.part ending one.later.capacity one.many
+          (subst (λ (p : List ℕ). OnLines old mid entry lines one.replies p (Ok tt)) one.behind (one.led told entry on)) (λ last there. two.led told last there);
+    }
+
+pub handled_then : (tells : Type 0) (old mid new : World) (ending : Ending) (lines more : List (List ℕ)) (a b c : Option (List ℕ)) → Handled tells old mid (Ok tt) lines a b → Handled tells mid new ending more b c
+    → Handled tells old new ending (lines ++ more) a c
+handled_then tells old mid new ending lines more a b c p q = record {
+  put = p.put ++ q.put;
+  got = Got-then a p.put b q.put c p.got q.got;
+  replied = replied_then tells old mid new ending lines more p.put q.put p.replied q.replied;
+}
+
+-- ---- lines that a stop left
+
+many_longer : (replies lines more : ℕ) (stop : Stop) → IsOfLine stop → AreMany replies lines (Err stop) → AreMany replies (lines + more) (Err stop)
+many_longer replies lines more stops.Source line many = absurd line
+many_longer replies lines more stops.Limit line many = absurd line
+many_longer replies lines more stops.Sink line many = omega (arith, many)
+many_longer replies lines more (stops.Device stop) line many = omega (arith, many)
+
+ends_longer : (new : World) (capacity : ℕ) (last : Held) (lines more : List (List ℕ)) (replies : List Reply) (part : List ℕ) (ahead : List Held) (stop : Stop) → IsOfLine stop
+    → EndsOn new capacity last lines replies part ahead (Err stop) → EndsOn new capacity last (lines ++ more) replies part ahead (Err stop)
+ends_longer new capacity last lines more replies part ahead stops.Source line ends = absurd line
+ends_longer new capacity last lines more replies part ahead stops.Limit line ends = absurd line
+ends_longer new capacity last lines more replies part ahead stops.Sink line (reply, next, is, first, turn) = (reply, next, is, first, next_longer lines more replies (λ l. Turn capacity last l reply next) turn)
+ends_longer new capacity last lines more replies part ahead (stops.Device device.Platform) line (inl none) = inl none
+ends_longer new capacity last lines more replies part ahead (stops.Device device.Platform) line (inr (reply, next, is, turn)) = inr (reply, next, is, next_longer lines more replies (λ l. Turn capacity last l reply next) turn)
+ends_longer new capacity last lines more replies part ahead (stops.Device device.Tape) line ends = ends
+ends_longer new capacity last lines more replies part ahead (stops.Device device.Ledger) line ends = ends
+ends_longer new capacity last lines more replies part ahead (stops.Device device.Memory) line ends = ends
+ends_longer new capacity last lines more replies part ahead (stops.Device device.BadRoot) line ends = absurd ends
+ends_longer new capacity last lines more replies part ahead (stops.Device (device.BadRecord addr)) line ends = absurd ends
+
+on_longer : (old new : World) (entry : Held) (lines more : List (List ℕ)) (replies : List Reply) (part : List ℕ) (stop : Stop) → IsOfLine stop → OnLines old new entry lines replies part (Err stop) → OnLines old new entry (lines ++ more) replies part (Err stop)
+on_longer old new entry lines more replies part stop line on = record {
+  ahead = on.ahead;
+  led = record { states = on.led.states; leads = leads_longer (Turn old.outside.capacity) entry lines more replies on.led.states on.led.leads; made = on.led.made };
+  ends = ends_longer new old.outside.capacity (last_of entry on.led.states) lines more replies part on.ahead stop line on.ends;
+}
+
+pub handled_longer : (tells : Type 0) (old new : World) (stop : Stop) (lines more : List (List ℕ)) (a b : Option (List ℕ)) → IsOfLine stop → Handled tells old new (Err stop) lines a b → Handled tells old new (Err stop) (lines ++ more) a b
+handled_longer tells old new stop lines more a b line p =
+    let r = p.replied in
+    record {
+      put = p.put;
+      got = p.got;
+      replied = record {
+        replies = r.replies;
+        part = r.part;
+        put_is = r.put_is;
+        behind = r.behind;
+        many = subst (λ (n : ℕ). AreMany (length r.replies) n (Err stop)) (sym (length-append lines more)) (many_longer (length r.replies) (length lines) (length more) stop line r.many);
+        later = r.later;
+        led = λ told entry on. on_longer old new entry lines more r.replies r.part stop line (r.led told entry on);
+      };
+    }
+
+pub handling : (tells : Type 0) → Handling World (λ w. w.outside.head ≤ w.outside.capacity) (Handled tells)
+handling tells = record {
+  nothing = λ w written fits. handled_nothing tells w written fits;
+  behind = λ old mid new ending lines more a b c p q. handled_then tells old mid new ending lines more a b c p q;
+  longer = λ old new stop lines more a b line p. handled_longer tells old new stop lines more a b line p;
+}
+
+-- ---- one line
+
+-- from a state it leads to the next one
+pub record IsTurn (old : World) (image : Image) (head : ℕ) (now : Session) (table_now : List Volume) (history : History) (entry : Held) (text : List ℕ) (reply : Reply) : Type 0 where
+  pub next : Held
+  pub held : IsHeld image head now table_now next
+  pub turn : Turn old.outside.capacity entry text reply next
+  pub made : MadeBetween old.outside.history history entry.device (Some next.device ∷ []) next.device
+
+-- a line outside the grammar leaves all
+pub bad_turn : (old : World) (session : Session) (entry : Held) (text : List ℕ) → old.session ≡ Some session → IsBad text → IsOn old entry
+    → IsTurn old old.outside.history.present old.outside.head session old.table old.outside.history entry text Bad
+bad_turn old session entry text going bad on =
+    let same : on.session ≡ session = let e : Some on.session ≡ Some session = sym on.going ∙ going in cc in
+    let there : IsHeld old.outside.history.present old.outside.head session old.table entry = subst (λ (s : Session). IsHeld old.outside.history.present old.outside.head s old.table entry) same on.held in
+    record {
+      next = entry;
+      held = there;
+      turn = inr (bad, refl, refl);
+      made = made_again old.outside.history old.outside.history entry.device
+          (made_start old.outside.history None (closed (Some entry.device)) (shut old.outside.history.present (Some entry.device) there.at.there.device there.at.served));
+    }
+
+-- one in the grammar is served
+pub served_turn : (old : World) (new : Outside) (session now : Session) (table_now : List Volume) (entry : Held) (text : List ℕ) (it : Line) (reply : Reply) → old.session ≡ Some session → Spells text it → IsOn old entry
+    → (IsHeld old.outside.history.present old.outside.head session old.table entry → Served old.outside new old.table table_now now entry it reply)
+    → IsTurn old new.history.present new.head now table_now new.history entry text reply
+served_turn old new session now table_now entry text it reply going spelled on serves =
+    let same : on.session ≡ session = let e : Some on.session ≡ Some session = sym on.going ∙ going in cc in
+    let there : IsHeld old.outside.history.present old.outside.head session old.table entry = subst (λ (s : Session). IsHeld old.outside.history.present old.outside.head s old.table entry) same on.held in
+    let served = serves there in
+    record {
+      next = served.next;
+      held = served.held;
+      turn = inl (record { it = it; spelled = spelled; table = old.table; tabled = there.tabled; serves = served.serves });
+      made = served.made;
+    }
+
+-- its reply is put
+pub line_put : (tells : Type 0) (old new : World) (now : Session) (text : List ℕ) (reply : Reply) (a b : Option (List ℕ)) → new.session ≡ Some now → IsLater old.outside new.outside
+    → (tells → (entry : Held) → IsOn old entry → IsTurn old new.outside.history.present new.outside.head now new.table new.outside.history entry text reply) → Got a (line_of reply) b
+    → Handled tells old new (Ok tt) (text ∷ []) a b
+line_put tells old new now text reply a b going later turns got = record {
+  put = line_of reply;
+  got = got;
+  replied = record {
+    replies = reply ∷ [];
+    part = [];
+    put_is = sym (append-nil (line_of reply ++ []) ∙ append-nil (line_of reply));
+    behind = refl;
+    many = refl;
+    later = later;
+    led = λ told entry on.
+        let t = turns told entry on in
+        record {
+          ahead = [];
+          led = record { states = t.next ∷ []; leads = (t.turn, tt); made = t.made };
+          ends = (refl, record { session = now; going = going; held = t.held });
+        };
+  };
+}
+
+-- or only a part of it
+pub line_cut : (tells : Type 0) (old new : World) (now : Session) (image : Image) (head : ℕ) (table_now : List Volume) (text : List ℕ) (reply : Reply) (a b : Option (List ℕ)) → IsLater old.outside new.outside
+    → (tells → (entry : Held) → IsOn old entry → IsTurn old image head now table_now new.outside.history entry text reply) → GotPart a (line_of reply) b
+    → Handled tells old new (Err stops.Sink) (text ∷ []) a b
+line_cut tells old new now image head table_now text reply a b later turns (n, got) = record {
+  put = take n (line_of reply);
+  got = got;
+  replied = record {
+    replies = [];
+    part = take n (line_of reply);
+    put_is = refl;
+    behind = inl (reply, (n, refl));
+    many = omega arith;
+    later = later;
+    led = λ told entry on.
+        let t = turns told entry on in
+        record {
+          ahead = t.next ∷ [];
+          led = record { states = []; leads = tt; made = t.made };
+          ends = (reply, t.next, refl, (n, refl), t.turn);
+        };
+  };
+}
+
+stop_ends : (new : World) (capacity : ℕ) (table : List Volume) (entry : Held) (text : List ℕ) (it : Line) (ahead : List Held) (stop : DeviceStop) → Spells text it → IsTabled entry table → StopsAt capacity table entry it ahead stop
+    → EndsOn new capacity entry (text ∷ []) [] [] ahead (Err (stops.Device stop))
+stop_ends new capacity table entry text it ahead device.Platform spelled tabled (inl none) = inl none
+stop_ends new capacity table entry text it ahead device.Platform spelled tabled (inr (reply, next, is, serves)) =
+    inr (reply, next, is, inl (record { it = it; spelled = spelled; table = table; tabled = tabled; serves = serves }))
+stop_ends new capacity table entry text it ahead device.Tape spelled tabled is = is
+stop_ends new capacity table entry text it ahead device.Ledger spelled tabled is = is
+stop_ends new capacity table entry text it ahead device.Memory spelled tabled is = is
+stop_ends new capacity table entry text it ahead device.BadRoot spelled tabled is = absurd is
+stop_ends new capacity table entry text it ahead (device.BadRecord addr) spelled tabled is = absurd is
+
+-- the device stopped at it
+pub line_stop : (tells : Type 0) (old new : World) (session : Session) (text : List ℕ) (it : Line) (stop : DeviceStop) (a : Option (List ℕ)) → old.session ≡ Some session → Spells text it → IsLater old.outside new.outside
+    → (tells → (entry : Held) → IsHeld old.outside.history.present old.outside.head session old.table entry → Stopped old.outside new.outside old.table entry it stop)
+    → Handled tells old new (Err (stops.Device stop)) (text ∷ []) a a
+line_stop tells old new session text it stop a going spelled later stopped = record {
+  put = [];
+  got = Got-nothing a;
+  replied = record {
+    replies = [];
+    part = [];
+    put_is = refl;
+    behind = refl;
+    many = omega arith;
+    later = later;
+    led = λ told entry on.
+        let same : on.session ≡ session = let e : Some on.session ≡ Some session = sym on.going ∙ going in cc in
+        let there : IsHeld old.outside.history.present old.outside.head session old.table entry = subst (λ (s : Session). IsHeld old.outside.history.present old.outside.head s old.table entry) same on.held in
+        let s = stopped told entry there in
+        record {
+          ahead = s.ahead;
+          led = record { states = []; leads = tt; made = s.made };
+          ends = stop_ends new old.outside.capacity old.table entry text it s.ahead stop spelled there.tabled s.is;
+        };
+  };
+}
+
+-- a reply that was put, or was not
+pub line_told : (tells : Type 0) (old : World) (outside : Outside) (now : Session) (table_now : List Volume) (text : List ℕ) (reply : Reply) (result : Result Session Stop) (a b : Option (List ℕ)) → IsLater old.outside outside
+    → (tells → (entry : Held) → IsOn old entry → IsTurn old outside.history.present outside.head now table_now outside.history entry text reply) → IfOk result (λ s. s ≡ now) → HasPut (line_of reply) (ending_of result) a b
+    → Handled tells old (record { session = goes_on result; table = table_now; outside = outside }) (ending_of result) (text ∷ []) a b
+line_told tells old outside now table_now text reply (Ok session) a b later turns same put =
+    line_put tells old (record { session = Some session; table = table_now; outside = outside }) now text reply a b (ap Some same) later turns put
+line_told tells old outside now table_now text reply (Err stops.Sink) a b later turns same put =
+    line_cut tells old (record { session = None; table = table_now; outside = outside }) now outside.history.present outside.head table_now text reply a b later turns put
+line_told tells old outside now table_now text reply (Err stops.Source) a b later turns same put = absurd put
+line_told tells old outside now table_now text reply (Err stops.Limit) a b later turns same put = absurd put
+line_told tells old outside now table_now text reply (Err (stops.Device stop)) a b later turns same put = absurd put
+
+-- ---- the same lines, and an input that failed behind them
+
+pub handled_lines : (tells : Type 0) (old new : World) (ending : Ending) (lines others : List (List ℕ)) (a b : Option (List ℕ)) → lines ≡ others → Handled tells old new ending lines a b → Handled tells old new ending others a b
+handled_lines tells old new ending lines others a b same p = let r = p.replied in record {
+  put = p.put;
+  got = p.got;
+  replied = record {
+    replies = r.replies;
+    part = r.part;
+    put_is = r.put_is;
+    behind = r.behind;
+    many = subst (λ (ls : List (List ℕ)). AreMany (length r.replies) (length ls) ending) same r.many;
+    later = r.later;
+    led = λ told entry on. subst (λ (ls : List (List ℕ)). OnLines old new entry ls r.replies r.part ending) same (r.led told entry on);
+  };
+}
+
+on_cut : (old new : World) (entry : Held) (lines : List (List ℕ)) (replies : List Reply) (part : List ℕ) → OnLines old new entry lines replies part (Ok tt)
+    → OnLines old new entry lines replies part (Err stops.Source) × OnLines old new entry lines replies part (Err stops.Limit)
+on_cut old new entry lines replies part on = (record { ahead = on.ahead; led = on.led; ends = on.ends }, record { ahead = on.ahead; led = on.led; ends = on.ends })
+
+pub handled_cut : (tells : Type 0) (old new : World) (lines : List (List ℕ)) (a b : Option (List ℕ)) → Handled tells old new (Ok tt) lines a b → Handled tells old new (Err stops.Source) lines a b × Handled tells old new (Err stops.Limit) lines a b
+handled_cut tells old new lines a b p = let r = p.replied in (
+  record {
+    put = p.put;
+    got = p.got;
+    replied = record {
+      replies = r.replies;
+      part = r.part;
+      put_is = r.put_is;
+      behind = r.behind;
+      many = r.many;
+      later = r.later;
+      led = λ told entry on. (on_cut old new entry lines r.replies r.part (r.led told entry on)).0;
+    };
+  },
+  record {
+    put = p.put;
+    got = p.got;
+    replied = record {
+      replies = r.replies;
+      part = r.part;
+      put_is = r.put_is;
+      behind = r.behind;
+      many = r.many;
+      later = r.later;
+      led = λ told entry on. (on_cut old new entry lines r.replies r.part (r.led told entry on)).1;
+    };
+  },
+)
+
+-- ---- how many replies there are
+
+pub count_lines : (tells : Type 0) (old new : World) (ending : Ending) (lines others : List (List ℕ)) (a b : Option (List ℕ))
+    → (same : lines ≡ others) (p : Handled tells old new ending lines a b) → length p.replied.replies ≤ length (handled_lines tells old new ending lines others a b same p).replied.replies
+unfolding handled_lines
+count_lines tells old new ending lines others a b same p = omega arith
+
+pub count_then : (tells : Type 0) (old mid new : World) (ending : Ending) (lines more : List (List ℕ)) (a b c : Option (List ℕ))
+    → (p : Handled tells old mid (Ok tt) lines a b) (q : Handled tells mid new ending more b c)
+    → length p.replied.replies + length q.replied.replies ≤ length (handled_then tells old mid new ending lines more a b c p q).replied.replies
+unfolding handled_then replied_then
+count_then tells old mid new ending lines more a b c p q = omega (arith, length-append p.replied.replies q.replied.replies)
+
+pub count_cut : (tells : Type 0) (old new : World) (lines : List (List ℕ)) (a b : Option (List ℕ)) (p : Handled tells old new (Ok tt) lines a b)
+    → (length p.replied.replies ≤ length (handled_cut tells old new lines a b p).0.replied.replies) × (length p.replied.replies ≤ length (handled_cut tells old new lines a b p).1.replied.replies)
+unfolding handled_cut
+count_cut tells old new lines a b p = (omega arith, omega arith)

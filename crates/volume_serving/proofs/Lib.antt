@@ -1,0 +1,4 @@
+pub mod HandledLaws
+pub mod ServingLaws
+pub mod BlameLaws
+pub mod Reading

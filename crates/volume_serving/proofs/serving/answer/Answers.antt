@@ -1,0 +1,43 @@
+use Rattle.std.proofs.Common.{None, Some, refl}
+use Rattle.device_course.specs.States.{around}
+use Rattle.volume_lines.specs.Lines.{asked}
+use Rattle.volume_lines.specs.Replies.{Bad, said}
+use Rattle.volume_serving.specs.World.{World, world}
+use Rattle.volume_serving.proofs.HandledLaws.{bad_turn, later_none, line_stop, line_told, served_turn}
+use Rattle.std.specs.Prelude.{option_copied}
+use Rattle.volume_desk.proofs.CarryLaws.{carries_start}
+use Rattle.volume_serving.proofs.ServingLaws.{carries_told, some_text}
+use Rattle.volume_serving.proofs.serving.answer.Goals as goal
+
+pub returns-in_default-clause-handled : goal.returns-in_default-clause-handled
+returns-in_default-clause-handled g c text kept =
+    let old : World = world g.P.Platform g.T.Tape g.L.Sink (Some c.args.session) c.args.desk.now.table c.args.platform.now c.args.tape.now c.args.ledger.now in
+    line_told g.P.Platform.tells old old.outside c.args.session c.args.desk.now.table text Bad c.tell.result (g.O.Sink.written c.args.output.now) (g.O.Sink.written c.tell.new.output)
+    (later_none old.outside (g.met.P.Platform.has_room c.args.platform.now)) (λ told entry on. bad_turn old c.args.session entry text refl (c.in_default.ensures.none text kept) on) c.tell.ensures.session c.tell.ensures.put
+
+pub returns-in-Ok-clause-handled : goal.returns-in-Ok-clause-handled
+returns-in-Ok-clause-handled g c text kept =
+    let old : World = world g.P.Platform g.T.Tape g.L.Sink (Some c.args.session) c.args.desk.now.table c.args.platform.now c.args.tape.now c.args.ledger.now in
+    let carries = c.serve_line.ensures.carries in
+    line_told g.P.Platform.tells old (around g.P.Platform g.T.Tape g.L.Sink c.serve_line.new.platform c.serve_line.new.tape c.serve_line.new.ledger) c.in-Ok.done.session c.serve_line.new.desk.table text (said c.in-Ok.done.reply c.serve_line.new.desk.buffer)
+    c.tell-in-Ok.result (g.O.Sink.written c.args.output.now) (g.O.Sink.written c.tell-in-Ok.new.output)
+    (record { capacity = carries.capacity; rises = carries.rises; within = g.met.P.Platform.has_room c.serve_line.new.platform })
+    (λ told entry on. served_turn old _ c.args.session c.in-Ok.done.session c.serve_line.new.desk.table entry text (asked c.in-Some.line c.read_line.new.buffer) _ refl (c.in-Some.ensures.found text kept) on (λ held. c.in-Ok.ensures.serves told entry held))
+    c.tell-in-Ok.ensures.session c.tell-in-Ok.ensures.put
+
+pub returns-in-Err-clause-handled : goal.returns-in-Err-clause-handled
+returns-in-Err-clause-handled g c text kept =
+    let old : World = world g.P.Platform g.T.Tape g.L.Sink (Some c.args.session) c.args.desk.now.table c.args.platform.now c.args.tape.now c.args.ledger.now in
+    let new : World = world g.P.Platform g.T.Tape g.L.Sink None c.serve_line.new.desk.table c.serve_line.new.platform c.serve_line.new.tape c.serve_line.new.ledger in
+    let carries = c.serve_line.ensures.carries in
+    line_stop g.P.Platform.tells old new c.args.session text (asked c.in-Some.line c.read_line.new.buffer) c.in-Err.stop (g.O.Sink.written c.args.output.now) refl (c.in-Some.ensures.found text kept)
+    (record { capacity = carries.capacity; rises = carries.rises; within = g.met.P.Platform.has_room c.serve_line.new.platform }) (λ told entry held. c.in-Err.ensures.serves told entry held)
+
+pub returns-in_default-clause-carries : goal.returns-in_default-clause-carries
+returns-in_default-clause-carries g c = carries_told _ _ _ c.args.session c.args.session (Unit {0}) c.tell.result tt c.tell.ensures.session (carries_start _ _ c.args.session c.requires.ready)
+
+pub serve_line-requires-clause-spelled : goal.serve_line-requires-clause-spelled
+serve_line-requires-clause-spelled g c = let text = some_text (option_copied c.args.line) in (text.0, c.in-Some.ensures.found text.0 text.1)
+
+pub returns-in-Ok-clause-carries : goal.returns-in-Ok-clause-carries
+returns-in-Ok-clause-carries g c = carries_told _ _ _ c.args.session c.in-Ok.done.session _ c.tell-in-Ok.result refl c.tell-in-Ok.ensures.session c.in-Ok.ensures.carries

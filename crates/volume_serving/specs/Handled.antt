@@ -1,0 +1,84 @@
+-- What a run that handled some lines put, and which replies belong to them.
+use Rattle.std.specs.Prelude.{◌≡◌, ◌≤◌, ◌⊎◌, ℕ, List, [], ◌∷◌, ◌++◌, Option, None, Some, Result, Ok, Err, length, flat_map}
+use Rattle.sdbt_base.specs.Told.{Got}
+use Rattle.device_course.specs.States.{IsLater}
+use Rattle.line_run.specs.Puts.{IsBehind, IsFirstPart, no_line}
+use Rattle.line_run.specs.Stops.{Ending}
+use Rattle.line_run.specs.declared.stop.Stop.{Stop}
+use Rattle.line_run.specs.declared.stop.Stop.TheVariants as stops
+use Rattle.device_session.specs.Sessions.{Session}
+use Rattle.nbd_terms.specs.Held.{Held}
+use Rattle.nbd_terms.specs.Leading.{Led, last_of}
+use Rattle.session_calls.specs.declared.stops.DeviceStop.TheVariants as device
+use Rattle.volume_lines.specs.Replies.{Reply, line_of}
+use Rattle.volume_terms.specs.Turn.{Turn}
+use Rattle.volume_desk.specs.Turns.{MadeBetween, device_of}
+use Rattle.volume_serving.specs.World.{World, IsOn}
+
+-- of the line behind those that have replies
+abbrev pub IfNext : List Reply → List (List ℕ) → (List ℕ → Type 0) → Type 0
+IfNext [] (line ∷ lines) Claim = Claim line
+IfNext [] [] Claim = ⊥
+IfNext (reply ∷ replies) (line ∷ lines) Claim = IfNext replies lines Claim
+IfNext (reply ∷ replies) [] Claim = ⊥
+
+-- how many replies there are: one for each line, but where the device or the output stopped the run
+abbrev pub AreMany : ℕ → ℕ → Ending → Type 0
+AreMany replies lines (Ok done) = replies ≡ lines
+AreMany replies lines (Err stops.Source) = replies ≡ lines
+AreMany replies lines (Err stops.Limit) = replies ≡ lines
+AreMany replies lines (Err (stops.Device stop)) = replies ≤ lines
+AreMany replies lines (Err stops.Sink) = replies ≤ lines
+
+-- the state that one more reply leads to, whose line was put in part
+abbrev pub IsCut : ℕ → Held → List (List ℕ) → List Reply → List ℕ → List Held → Type 0
+IsCut capacity last lines replies part ahead =
+    (reply : Reply) × (next : Held) × (ahead ≡ next ∷ []) × IsFirstPart (line_of reply) part × IfNext replies lines (λ line. Turn capacity last line reply next)
+
+-- the state that the line in hand made, where the platform failed in its commit
+abbrev pub IsMade : ℕ → Held → List (List ℕ) → List Reply → List Held → Type 0
+IsMade capacity last lines replies ahead = (reply : Reply) × (next : Held) × (ahead ≡ next ∷ []) × IfNext replies lines (λ line. Turn capacity last line reply next)
+
+-- where a run is that ends so, after the replies that led to this state: in it; or, at a stop, perhaps in the one that the line in hand led to
+abbrev pub EndsOn : World → ℕ → Held → List (List ℕ) → List Reply → List ℕ → List Held → Ending → Type 0
+EndsOn new capacity last lines replies part ahead (Ok done) = (ahead ≡ []) × IsOn new last
+EndsOn new capacity last lines replies part ahead (Err stops.Source) = (ahead ≡ []) × IsOn new last
+EndsOn new capacity last lines replies part ahead (Err stops.Limit) = (ahead ≡ []) × IsOn new last
+EndsOn new capacity last lines replies part ahead (Err stops.Sink) = IsCut capacity last lines replies part ahead
+EndsOn new capacity last lines replies part ahead (Err (stops.Device device.Platform)) = (ahead ≡ []) ⊎ IsMade capacity last lines replies ahead
+EndsOn new capacity last lines replies part ahead (Err (stops.Device device.Tape)) = ahead ≡ []
+EndsOn new capacity last lines replies part ahead (Err (stops.Device device.Ledger)) = ahead ≡ []
+EndsOn new capacity last lines replies part ahead (Err (stops.Device device.Memory)) = ahead ≡ []
+EndsOn new capacity last lines replies part ahead (Err (stops.Device device.BadRoot)) = ⊥
+EndsOn new capacity last lines replies part ahead (Err (stops.Device (device.BadRecord addr))) = ⊥
+
+-- the replies are those of volumes, from this state on, and the devices that they led through were made in their order
+pub record OnLines (old new : World) (entry : Held) (lines : List (List ℕ)) (replies : List Reply) (part : List ℕ) (ending : Ending) : Type 0 where
+  pub ahead : List Held
+  pub led : Led (Turn old.outside.capacity) device_of (MadeBetween old.outside.history new.outside.history) entry lines replies ahead
+  pub ends : EndsOn new old.outside.capacity (last_of entry led.states) lines replies part ahead ending
+
+-- a run that handled these lines: what it put is the lines of its replies, and perhaps a part behind them
+pub record Replied (tells : Type 0) (old new : World) (ending : Ending) (lines : List (List ℕ)) (put : List ℕ) : Type 0 where
+  pub replies : List Reply
+  pub part : List ℕ
+  pub put_is : put ≡ flat_map line_of replies ++ part
+  pub behind : IsBehind line_of no_line part ending
+  pub many : AreMany (length replies) (length lines) ending
+  pub later : IsLater old.outside new.outside
+  pub led : tells → (entry : Held) → IsOn old entry → OnLines old new entry lines replies part ending
+
+-- the same of what an output has got
+pub record Handled (tells : Type 0) (old new : World) (ending : Ending) (lines : List (List ℕ)) (written written_now : Option (List ℕ)) : Type 0 where
+  pub put : List ℕ
+  pub got : Got written put written_now
+  pub replied : Replied tells old new ending lines put
+
+-- how a part of a run ends that hands a session on, and the session with which the run goes on
+abbrev pub ending_of : Result Session Stop → Ending
+ending_of (Ok session) = Ok tt
+ending_of (Err stop) = Err stop
+
+abbrev pub goes_on : Result Session Stop → Option Session
+goes_on (Ok session) = Some session
+goes_on (Err stop) = None
