@@ -4,14 +4,15 @@
 usage: tests/false_tpm.py [PROGRAM]    ./sdbt, or this one
        tests/false_tpm.py --kill SOCKET PID NTH WHEN PROGRAM FOLDER
 
-Each run has one reply spoilt, that of a command of this number: 0 asks what the index is, 1 reads it as the folder is
-opened, and the later ones serve the script. A run has to end with status 1 at the first two and with 5 at the later
-ones, with the medium as it was, but for pages behind its end, and with no more memory than other runs. The status is 0
-where all is as it should be.
+Each run has one reply spoilt, that of a command of this number: 0 asks what the index is, 1 reads
+it as the folder is opened, and the later ones serve the script. A run has to end with status 1 at
+the first two and with 5 at the later ones, with the medium as it was, but for pages behind its end,
+and with no more memory than other runs. The status is 0 where all is as it should be.
 
-With --kill the script on standard input is served over the true TPM at a socket, whose process is killed at the command
-of a number: `before` it is sent, or `after` it was, with no reply. The program's replies are put, and its status is the
-status here; 64 where so many commands were not sent.
+With --kill the script on standard input is served over the true TPM at a socket, whose process is
+killed at the command of a number: `before` it is sent, or `after` it was, with no reply. The
+program's replies are put, and its status is the status here; 64 where so many commands were not
+sent.
 """
 import os
 import select

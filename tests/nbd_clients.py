@@ -1,5 +1,6 @@
-"""The clients of NBD that others wrote, each as its package has it, on the built program: tests/nbd runs these parts. A part whose client isn't installed
-says so, names the package of Debian that has it, and is left out.
+"""The clients of NBD that others wrote, each as its package has it, on the built program: tests/nbd
+runs these parts. A part whose client isn't installed says so, names the package of Debian that has
+it, and is left out.
 """
 import contextlib, os, random, shutil, signal, socket, subprocess, tempfile, threading, time
 

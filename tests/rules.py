@@ -1,9 +1,11 @@
-"""The rules by which a ledger is judged (docs/ledger.md), read once more, and beside the program's word check.
+"""The rules by which a ledger is judged (docs/ledger.md), read once more, and beside the program's
+word check.
 
 usage: rules.py PROGRAM FOLDER
 
-Each number of the ledger of the device in the folder is replaced in turn: by 2^64-1, by the next number, and by the one
-before it, which are three ledgers a number. Prints how many there were, and of how many the program says otherwise.
+Each number of the ledger of the device in the folder is replaced in turn: by 2^64-1, by the next
+number, and by the one before it, which are three ledgers a number. Prints how many there were, and
+of how many the program says otherwise.
 """
 import json
 import re
