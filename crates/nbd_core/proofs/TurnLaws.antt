@@ -31,10 +31,11 @@ use Rattle.nbd_lang.specs.declared.replies.Outcome.TheVariants as outcomes
 use Rattle.nbd_lang.specs.declared.requests.Request.{Request}
 use Rattle.nbd_lang.specs.declared.requests.RequestKind.{RequestKind}
 use Rattle.nbd_lang.specs.declared.requests.RequestKind.TheVariants as kinds
-use Rattle.nbd_terms.specs.Held.{Held, after_commit, after_trims, after_writes, Needs, size_of, state_of, trim_all}
-use Rattle.nbd_terms.specs.Leading.{Leads, Led, last_of, marks_of}
+use Rattle.device_course.specs.Held.{Held, IsHeld, Needs, after_commit, device_of, state_of, trim_all}
+use Rattle.nbd_terms.specs.Bytes.{after_trims, after_writes, size_of}
+use Rattle.device_course.specs.Leading.{Leads, Led, last_of, marks_of}
 use Rattle.nbd_terms.specs.Turn.{Answers, Flushes, Reads, Serves, Trims, Turn, Writes}
-use Rattle.nbd_terms.proofs.LeadingLaws.{last_of-append, leads_append}
+use Rattle.device_course.proofs.LeadingLaws.{last_of-append, leads_append}
 use Rattle.session_calls.specs.Commits.{AnswersCommit, AnswersReply, CommitLeads, ReplyLeads, StopsAt}
 use Rattle.session_calls.specs.declared.committing.Committed.{Committed}
 use Rattle.session_calls.specs.declared.stops.DeviceStop.{DeviceStop}
@@ -43,7 +44,8 @@ use Rattle.nbd_core.specs.Arrays.{DidSome, ReadsBytes, WroteRange}
 use Rattle.nbd_core.specs.Halts.{commit_halt, commit_outcome, outcome_after}
 use Rattle.nbd_core.specs.Serving.{bytes_of_reply, reply_of}
 use Rattle.nbd_core.specs.Requests.{DataEnd}
-use Rattle.nbd_core.specs.Turns.{Ended, Flushed, FlushedTo, Halted, HaltsAt, IsHeld, LeadsOn, MadeBetween, OnArray, Performs, Turned, device_of}
+use Rattle.device_course.specs.Course.{MadeBetween}
+use Rattle.nbd_core.specs.Turns.{Ended, Flushed, FlushedTo, Halted, HaltsAt, LeadsOn, OnArray, Performs, Turned}
 use Rattle.nbd_core.specs.declared.serving.Performed.{Performed}
 use Rattle.nbd_core.specs.declared.halts.Halt.{Halt}
 use Rattle.nbd_core.specs.declared.halts.Halt.TheVariants as halts
@@ -185,47 +187,6 @@ leads_as P platform platform_now session now Was Is (Ok outcome) then' leads tol
     (led.0, led.1, led.2, then' outcome entry led.0 led.3)
 leads_as P platform platform_now session now Was Is (Err halt) then' leads told entry held = tt
 
--- ---- the device
-
--- stayed while the cell did
-pub made_kept : (old new : History) (there : Device) → Stands old.present (Some there) → IsServedImage old.present → CellStays old new → MadeBetween old new there [] there
-made_kept old new there stands served stays =
-    let during : During old new (Leaves (Some there)) = stands_during old new (Some there) stands stays in
-    made_none old new None (closed (Some there)) (closed (Some there)) stands during refl
-    (shut new.present (Some there) (LeavesOnly-now new (λ left. Stands left (Some there)) (During-now old new (Leaves (Some there)) during)) (During-now old new IsServedImage (serves_still old new stays served)))
-
--- and a mark may tell of it again
-pub made_again : (old new : History) (there : Device) → MadeBetween old new there [] there → MadeBetween old new there (Some there ∷ []) there
-made_again old new there m = record {
-  passes = record {
-    extends = m.passes.extends;
-    mark = λ i. 0;
-    rises = λ i j le. omega arith;
-    within = λ i. omega arith;
-    each = m.passes.each;
-  };
-  last = refl;
-  exits = m.exits;
-}
-
-mark_same : (first : Option Device) (k : ℕ) → mark_at first (first ∷ []) k ≡ first
-mark_same first zero = refl
-mark_same first (suc k) = refl
-
--- or no mark does
-pub made_quiet : (old new : History) (there : Device) → MadeBetween old new there (Some there ∷ []) there → MadeBetween old new there [] there
-made_quiet old new there m = record {
-  passes = record {
-    extends = m.passes.extends;
-    mark = λ i. 0;
-    rises = λ i j le. omega arith;
-    within = λ i. omega arith;
-    each = λ i from to. subst (λ (d : Option Device). Leaves d (image_at new i)) (mark_same (Some there) (m.passes.mark i)) (m.passes.each i from to);
-  };
-  last = refl;
-  exits = m.exits;
-}
-
 -- ---- one after another
 
 -- so far requests had these replies, and led to a state that the session stands for
@@ -294,9 +255,6 @@ led_end first second third session entry asked replies IsEnd ahead so_far made i
 }
 
 -- ---- from an earlier moment on, since which the device stayed
-
-pub made_since : (first second third : History) (entry last : Device) (marks : List (Option Device)) → MadeBetween first second entry [] entry → MadeBetween second third entry marks last → MadeBetween first third entry marks last
-made_since first second third entry last marks one two = made_then first second third None None (closed (Some entry)) (closed (Some entry)) (closed (Some last)) [] marks one two
 
 pub array_since : (first second third : Outside) (entry : Held) (asked : List RequestSent) (replies : List Reply) (IsEnd IsEndToo : Held → List Held → Type 0) → second.capacity ≡ first.capacity → ((last : Held) (ahead : List Held) → IsEnd last ahead → IsEndToo last ahead)
     → MadeBetween first.history second.history entry.device [] entry.device → OnArray second third entry asked replies IsEnd → OnArray first third entry asked replies IsEndToo

@@ -11,7 +11,7 @@ use Rattle.device_terms.specs.Served.{IsServedImage}
 use Rattle.sdbt_base.specs.Counts.{Counts, InputRose, LedgerRose, NoneFell, NoneRose, OutputRose, PlatformRose, TapeRose}
 use Rattle.sdbt_base.specs.Arrays.{Device}
 use Rattle.page_store.specs.Stands.{Stands}
-use Rattle.nbd_terms.specs.Held.{Held}
+use Rattle.device_course.specs.Held.{Held}
 use Rattle.nbd_core.specs.Ample.{IsServedOut, changed_in}
 use Rattle.nbd_core.specs.Exchanges.{Exchange}
 use Rattle.nbd_core.specs.Halts.{status_at}

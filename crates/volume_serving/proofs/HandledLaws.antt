@@ -9,16 +9,16 @@ use Rattle.sdbt_base.proofs.ToldLaws.{Got-nothing, Got-then}
 use Rattle.platform.specs.Image.{Image}
 use Rattle.platform.specs.History.{History}
 use Rattle.device_course.specs.States.{IsLater, Outside}
-use Rattle.device_course.proofs.MadeLaws.{made_start, made_then, shut}
+use Rattle.device_course.proofs.MadeLaws.{made_again, made_start, made_then, shut}
 use Rattle.device_session.specs.Sessions.{Session}
 use Rattle.line_run.specs.Puts.{HasPut}
 use Rattle.line_run.specs.Stops.{Ending, IsOfLine}
 use Rattle.line_run.specs.declared.stop.Stop.{Stop}
 use Rattle.line_run.specs.declared.stop.Stop.TheVariants as stops
 use Rattle.line_run.proofs.LineLaws.{Handling}
-use Rattle.nbd_terms.specs.Held.{Held}
-use Rattle.nbd_terms.specs.Leading.{Led, last_of, marks_of}
-use Rattle.nbd_terms.proofs.LeadingLaws.{last_of-append, leads_append, leads_longer}
+use Rattle.device_course.specs.Held.{Held, device_of}
+use Rattle.device_course.specs.Leading.{Led, last_of, marks_of}
+use Rattle.device_course.proofs.LeadingLaws.{last_of-append, leads_append, leads_longer}
 use Rattle.std.proofs.lemmas.List.{map-append}
 use Rattle.session_calls.specs.declared.stops.DeviceStop.{DeviceStop}
 use Rattle.session_calls.specs.declared.stops.DeviceStop.TheVariants as device
@@ -28,8 +28,8 @@ use Rattle.volume_lines.specs.Lines.{Line}
 use Rattle.volume_lines.specs.Replies.{Reply, Bad, line_of}
 use Rattle.volume_terms.specs.Turn.{Turn}
 use Rattle.volume_terms.specs.Volumes.{IsTabled}
-use Rattle.volume_desk.specs.Turns.{IsHeld, MadeBetween, Served, Stopped, StopsAt, device_of}
-use Rattle.volume_desk.proofs.TurnLaws.{made_again}
+use Rattle.device_course.specs.Course.{MadeBetween}
+use Rattle.volume_desk.specs.Turns.{IsHeld, Served, Stopped, StopsAt}
 use Rattle.volume_serving.specs.World.{World, IsOn}
 use Rattle.volume_serving.specs.Handled.{ending_of, goes_on, AreMany, EndsOn, Handled, IfNext, OnLines, Replied}
 

@@ -4,7 +4,7 @@ use Rattle.byte_arrays.specs.Ranges.{blocks_from, covered_blocks}
 use Rattle.byte_arrays.proofs.RangeLaws.{covered_is, length-blocks_from}
 use Rattle.device_course.specs.States.{IsAt}
 use Rattle.device_session.specs.Open.{needed_by}
-use Rattle.nbd_terms.specs.Held.{trim_all}
+use Rattle.device_course.specs.Held.{trim_all}
 use Rattle.session_calls.specs.Along.{Along}
 use Rattle.session_calls.proofs.AlongLaws.{along_start, along_then}
 use Rattle.nbd_lang.specs.declared.replies.Outcome.TheVariants.{Done}

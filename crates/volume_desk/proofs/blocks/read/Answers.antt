@@ -3,8 +3,9 @@ use Rattle.sdbt_base.specs.Arrays.{content_of}
 use Rattle.script_lang.specs.Arrays.{trimmed}
 use Rattle.volume_lines.specs.Replies.{Reply}
 use Rattle.volume_terms.specs.Turn.{OnBlock, Reads}
-use Rattle.volume_desk.proofs.CallLaws.{calls_of, calls_stopped, no_draw}
-use Rattle.volume_desk.proofs.DeskLaws.{calls_done, calls_none, changed_none, no_block, read_damage, read_sound}
+use Rattle.session_calls.proofs.CallLaws.{calls_done, calls_none, calls_of, calls_stopped, no_draw}
+use Rattle.session_calls.proofs.DamageLaws.{read_damage}
+use Rattle.volume_desk.proofs.DeskLaws.{changed_none, no_block, read_sound}
 use Rattle.volume_desk.proofs.TurnLaws.{held_still}
 use Rattle.volume_desk.proofs.blocks.read.Goals as goal
 

@@ -1,8 +1,9 @@
 use Rattle.std.proofs.Common.{ℕ, Ok, Err, ap, refl, arith}
 use Rattle.volume_terms.specs.Turn.{Trims}
 use Rattle.volume_terms.proofs.KeepingLaws.{trimmed_at}
-use Rattle.volume_desk.proofs.CallLaws.{calls_of, calls_stopped, no_draw}
-use Rattle.volume_desk.proofs.DeskLaws.{calls_done, calls_none, changed_none, held_trimmed, no_block, trim_damage, trim_sound}
+use Rattle.session_calls.proofs.CallLaws.{calls_done, calls_none, calls_of, calls_stopped, no_draw}
+use Rattle.session_calls.proofs.DamageLaws.{trim_damage}
+use Rattle.volume_desk.proofs.DeskLaws.{changed_none, held_trimmed, no_block, trim_sound}
 use Rattle.volume_desk.proofs.blocks.trim.Goals as goal
 
 pub returns-in-Err-clause-calls : goal.returns-in-Err-clause-calls

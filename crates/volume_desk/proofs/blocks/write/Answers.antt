@@ -2,8 +2,9 @@ use Rattle.std.proofs.Common.{◌≡◌, ◌≢◌, ℕ, Ok, Err, ap, refl, arit
 use Rattle.session_calls.specs.Along.{drawn_by}
 use Rattle.volume_terms.specs.Turn.{Writes}
 use Rattle.volume_terms.proofs.KeepingLaws.{wrote}
-use Rattle.volume_desk.proofs.CallLaws.{calls_of, calls_stopped}
-use Rattle.volume_desk.proofs.DeskLaws.{calls_done, calls_none, changed_none, held_wrote, no_block, write_damage, write_sound}
+use Rattle.session_calls.proofs.CallLaws.{calls_done, calls_none, calls_of, calls_stopped}
+use Rattle.session_calls.proofs.DamageLaws.{write_damage}
+use Rattle.volume_desk.proofs.DeskLaws.{changed_none, held_wrote, no_block, write_sound}
 use Rattle.volume_desk.proofs.blocks.write.Goals as goal
 
 pub returns-in-Err-clause-calls : goal.returns-in-Err-clause-calls

@@ -1,11 +1,12 @@
 use Rattle.std.proofs.Common.{Err, ◌+◌, ℕ, List, subst, ◌∙◌, arith}
 use Rattle.sdbt_base.specs.Arrays.{written}
 use Rattle.byte_arrays.specs.Ranges.{blocks_from}
-use Rattle.nbd_terms.specs.Held.{trim_all}
+use Rattle.device_course.specs.Held.{trim_all}
 use Rattle.session_calls.specs.Along.{drawn_by}
-use Rattle.volume_desk.specs.Calling.{ChangesTo}
-use Rattle.volume_desk.proofs.CallLaws.{calls_of, calls_stopped, calls_then, platform_quiet, tape_quiet}
-use Rattle.volume_desk.proofs.DeskLaws.{on_ok, write_damage, write_sound}
+use Rattle.volume_desk.specs.Turns.{ChangesTo}
+use Rattle.session_calls.proofs.CallLaws.{calls_of, calls_stopped, calls_then, platform_quiet, tape_quiet}
+use Rattle.session_calls.proofs.DamageLaws.{write_damage}
+use Rattle.volume_desk.proofs.DeskLaws.{on_ok, write_sound}
 use Rattle.volume_desk.proofs.changing.change.Goals as goal
 
 pub returns-in-Ok-clause-calls : goal.returns-in-Ok-clause-calls

@@ -5,7 +5,7 @@ use Rattle.line_run.specs.Pending.{IsPending}
 use Rattle.line_run.specs.Stops.{Ending}
 use Rattle.line_run.specs.declared.stop.Stop.{Stop}
 use Rattle.text_lines.specs.Lines.{last_line as line_at_end}
-use Rattle.volume_desk.proofs.CarryLaws.{carries_end, carries_start}
+use Rattle.session_calls.proofs.CarryLaws.{carries_end, carries_start}
 use Rattle.volume_serving.specs.Handled.{Handled, ending_of, goes_on}
 use Rattle.volume_serving.specs.World.{World, world}
 use Rattle.volume_serving.proofs.HandledLaws.{handled_lines, handled_nothing}

@@ -7,7 +7,7 @@ use Rattle.sdbt_base.specs.Told.{Gave, IsAtEnd}
 use Rattle.text_lines.specs.Lines.{rest_of}
 use Rattle.line_run.specs.Stops.{Ending}
 use Rattle.line_run.proofs.StopLaws.{ArePart}
-use Rattle.volume_desk.proofs.CarryLaws.{carries_end, carries_going, carries_start, carries_then}
+use Rattle.session_calls.proofs.CarryLaws.{carries_end, carries_going, carries_start, carries_then}
 use Rattle.volume_serving.specs.World.{World, world}
 use Rattle.volume_serving.proofs.BlameLaws.{blamed_then, blamed_wide, fell_not}
 use Rattle.volume_serving.proofs.Reading.{IsReading, IsReading-start, IsReading-more, IsReading-stop, IsReading-end, IsReading-failed, IsReading-limit}

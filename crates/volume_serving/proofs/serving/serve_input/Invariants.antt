@@ -3,7 +3,7 @@ use Rattle.sdbt_base.specs.Counts.{counts}
 use Rattle.device_course.specs.States.{around}
 use Rattle.device_session.specs.Open.{blocks_of}
 use Rattle.volume_table.specs.Tables.{IsTable}
-use Rattle.volume_desk.specs.Carrying.{Carries}
+use Rattle.session_calls.specs.Carrying.{Carries}
 use Rattle.volume_serving.specs.World.{world}
 use Rattle.volume_serving.proofs.Reading.{IsReading}
 use Rattle.volume_serving.proofs.serving.serve_input.Given as goal

@@ -1,6 +1,6 @@
 use Rattle.std.proofs.Common.{ℕ, List, Some, Err, ◌++◌, ◌∙◌, refl}
 use Rattle.line_run.proofs.LineLaws.{IsServing-start, IsServing-line, IsServing-stop, IsServing-end}
-use Rattle.volume_desk.proofs.CarryLaws.{carries_going, carries_start, carries_then}
+use Rattle.session_calls.proofs.CarryLaws.{carries_going, carries_start, carries_then}
 use Rattle.volume_serving.specs.Handled.{Handled}
 use Rattle.volume_serving.specs.World.{World, world}
 use Rattle.volume_serving.proofs.BlameLaws.{blamed_then, fell_not}
