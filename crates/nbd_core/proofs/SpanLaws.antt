@@ -36,9 +36,9 @@ use Rattle.session_calls.specs.declared.stops.DeviceStop.{DeviceStop}
 use Rattle.session_calls.specs.declared.stops.DeviceStop.TheVariants as device
 use Rattle.nbd_core.specs.Halts.{IsLate}
 use Rattle.nbd_core.specs.Running.{Conversed, GoesOn, IsEarly, IsSilent, Says, Spans, Talks, OfMount, cell_halt, mount_halt}
-use Rattle.nbd_core.specs.Serving.{Carries}
+use Rattle.session_calls.specs.Carrying.{Carries}
 use Rattle.nbd_core.specs.declared.halts.Halt.{Halt}
-use Rattle.nbd_core.proofs.CarryLaws.{stays_at}
+use Rattle.session_calls.proofs.CarryLaws.{stays_at}
 use Rattle.nbd_core.proofs.DamageLaws.{damage_since}
 use Rattle.nbd_core.proofs.TurnLaws.{array_since}
 

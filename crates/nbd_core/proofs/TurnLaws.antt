@@ -17,12 +17,12 @@ use Rattle.device_terms.specs.Served.{IsServedImage}
 use Rattle.device_terms.proofs.ServedLaws.{serves_still}
 use Rattle.device_course.specs.Marks.{Leaves, mark_at}
 use Rattle.device_course.specs.States.{IsAt, Outside, around}
-use Rattle.device_course.proofs.MadeLaws.{made_none, made_one, made_same, made_start, made_stopped, made_then, shut}
+use Rattle.device_course.proofs.HeldLaws.{needs_of}
+use Rattle.device_course.proofs.MadeLaws.{made_again, made_kept, made_quiet, made_since, made_start, made_then, shut}
 use Rattle.device_session.specs.Open.{IsOpen, blocks_of, needed_by}
 use Rattle.device_session.specs.declared.refusals.CommitReply.{CommitReply}
 use Rattle.device_session.specs.declared.refusals.CommitReply.TheVariants as replies
 use Rattle.device_session.specs.Sessions.{Session}
-use Rattle.device_session.proofs.CountLaws.{needs_none, needs_some}
 use Rattle.nbd_lang.specs.Refusals.{refusal, refusal_by}
 use Rattle.nbd_lang.specs.Replies.{Reply}
 use Rattle.nbd_lang.specs.Requests.{RequestSent}
@@ -37,6 +37,7 @@ use Rattle.device_course.specs.Leading.{Leads, Led, last_of, marks_of}
 use Rattle.nbd_terms.specs.Turn.{Answers, Flushes, Reads, Serves, Trims, Turn, Writes}
 use Rattle.device_course.proofs.LeadingLaws.{last_of-append, leads_append}
 use Rattle.session_calls.specs.Commits.{AnswersCommit, AnswersReply, CommitLeads, ReplyLeads, StopsAt}
+use Rattle.session_calls.proofs.HeldLaws.{commit_stopped, committed_held, refused_held}
 use Rattle.session_calls.specs.declared.committing.Committed.{Committed}
 use Rattle.session_calls.specs.declared.stops.DeviceStop.{DeviceStop}
 use Rattle.session_calls.specs.declared.stops.DeviceStop.TheVariants as device
@@ -270,37 +271,26 @@ array_since first second third entry asked replies IsEnd IsEndToo same then' one
 
 -- ---- a commit
 
-needs_of : (session : Session) (image : Image) (head : ℕ) (entry : Held) → IsOpen session head → IsHeld image head session entry → Needs entry (needed_by session)
-needs_of session image head entry there_open held = record {
-  none = λ idle. needs_none session head there_open (held.at.there.session.1 ∙ idle);
-  some = λ touched. needs_some session head there_open (held.at.there.session.1 ∙ touched);
-  most = held.needs;
-}
-
 -- that was answered
 flushed_by : {S R W : Type 0} (P : PlatformGhosts S) (T : TapeGhosts R) (L : SinkGhosts W) (platform platform_now : S) (tape tape_now : R) (ledger ledger_now : W) (session now : Session) (reply : CommitReply) (entry : Held) → IsOpen session (P.head platform)
     → IsHeld (P.history platform).present (P.head platform) session entry → AnswersReply P platform platform_now tape tape_now ledger ledger_now session now reply
     → ReplyLeads (P.history platform) (P.history platform_now) now entry.device entry.session reply
     → FlushedTo (around P T L platform tape ledger) (around P T L platform_now tape_now ledger_now) now (commit_outcome reply) entry
 flushed_by P T L platform platform_now tape tape_now ledger ledger_now session now (replies.Committed number) entry there_open held answers led =
-    let needed : ℕ = needed_by session in
-    let next : Held = after_commit entry needed in
+    let next = committed_held P platform platform_now tape tape_now ledger ledger_now session now number entry held answers led in
     record {
-      next = next;
-      held = record { at = led.0; pages = omega (arith, held.pages, answers.adds); needs = omega (arith, answers.needs) };
-      is = (needed, needs_of session (P.history platform).present (P.head platform) entry there_open held, omega (arith, answers.room, held.pages), refl);
-      made = made_one (P.history platform) (P.history platform_now) None (closed (Some entry.device)) (closed (Some next.device)) (Some next.device) held.at.there.device led.2
-          (shut (P.history platform_now).present (Some next.device) led.0.there.device led.0.served);
+      next = after_commit entry (needed_by session);
+      held = next.0;
+      is = (needed_by session, needs_of session (P.history platform).present (P.head platform) entry there_open held, next.1, refl);
+      made = next.2;
     }
 flushed_by P T L platform platform_now tape tape_now ledger ledger_now session now (replies.Full needed free) entry there_open held answers led =
-    let head : P.head platform_now ≡ P.head platform = ap P.head answers.same.1 in
-    let wants : needed_by now ≡ needed_by session = ap (λ (s : Session). needed_by s) answers.same.0 in
+    let same = refused_held P platform platform_now tape tape_now ledger ledger_now session now needed free entry held answers led in
     record {
       next = entry;
-      held = record { at = led.0; pages = held.pages ∙ sym head; needs = omega (arith, held.needs, wants) };
-      is = (needed_by session, needs_of session (P.history platform).present (P.head platform) entry there_open held, omega (arith, answers.short, answers.is_needed, answers.is_free, held.pages), refl);
-      made = made_same (P.history platform) (P.history platform_now) None (closed (Some entry.device)) (closed (Some entry.device)) held.at.there.device led.1
-          (shut (P.history platform_now).present (Some entry.device) led.0.there.device led.0.served);
+      held = same.0;
+      is = (needed_by session, needs_of session (P.history platform).present (P.head platform) entry there_open held, same.1, refl);
+      made = same.2;
     }
 
 pub flushed_to : {S R W : Type 0} (P : PlatformGhosts S) (T : TapeGhosts R) (L : SinkGhosts W) (platform platform_now : S) (tape tape_now : R) (ledger ledger_now : W) (session : Session) (done : Committed) (outcome : Outcome) (entry : Held) → IsOpen session (P.head platform)
@@ -318,41 +308,9 @@ pub commit_halted : {S R W : Type 0} (P : PlatformGhosts S) (T : TapeGhosts R) (
     → IsServedImage (P.history platform_now).present → CommitLeads (P.history platform) (P.history platform_now) entry.device entry.session (Err stop)
     → Halted (around P T L platform tape ledger) (around P T L platform_now tape_now ledger_now) entry kinds.Flush halt
 commit_halted P T L platform platform_now tape tape_now ledger ledger_now session stop halt entry there_open e held stops_at served led =
-    subst (λ (h : Halt). Halted (around P T L platform tape ledger) (around P T L platform_now tape_now ledger_now) entry kinds.Flush h) (sym e) (by stop led)
-  where
-    before : History
-    before = P.history platform
-
-    now : History
-    now = P.history platform_now
-
-    stands : Stands before.present (Some entry.device)
-    stands = held.at.there.device
-
-    none : During before now (Leaves (Some entry.device)) → MadeBetween before now entry.device [] entry.device
-    none during = made_none before now None (closed (Some entry.device)) (closed (Some entry.device)) stands during refl
-        (shut now.present (Some entry.device) (LeavesOnly-now now (λ left. Stands left (Some entry.device)) (During-now before now (Leaves (Some entry.device)) during)) served)
-
-    next : Held
-    next = after_commit entry (needed_by session)
-
-    made_next : committed entry.device entry.session ≡ next.device
-    made_next = sym (ap (λ (t : Bool). committed_if t entry.device entry.session) (sym held.at.there.session.1 ∙ stops_at.touched))
-
-    by : (s : DeviceStop) → CommitLeads before now entry.device entry.session (Err s) → Halted (around P T L platform tape ledger) (around P T L platform_now tape_now ledger_now) entry kinds.Flush (commit_halt s)
-    by device.Platform turns = elim (made_stopped before now (closed (Some entry.device)) (Some (committed entry.device entry.session)) stands served turns) [
-      | inl nothing ↦ record { ahead = []; is = inl refl; made = nothing }
-      | inr one ↦ record {
-        ahead = next ∷ [];
-        is = inr (tt, next, refl, (needed_by session, needs_of session before.present (P.head platform) entry there_open held, omega (arith, stops_at.room, held.pages), refl));
-        made = subst (λ (d : Device). MadeBetween before now entry.device (Some d ∷ []) d) made_next one;
-      }
-    ]
-    by device.Tape during = record { ahead = []; is = refl; made = none during }
-    by device.Ledger during = record { ahead = []; is = refl; made = none during }
-    by device.Memory during = record { ahead = []; is = refl; made = none during }
-    by device.BadRoot led = absurd led
-    by (device.BadRecord addr) led = absurd led
+    let stopped = commit_stopped P T platform platform_now tape tape_now session stop entry (λ ahead s. HaltsAt (P.capacity platform) entry kinds.Flush ahead (commit_halt s)) (inl refl, refl, refl, refl)
+    (λ needed needs room. inr (tt, after_commit entry needed, refl, (needed, needs, room, refl))) there_open held stops_at served led in
+    subst (λ (h : Halt). Halted (around P T L platform tape ledger) (around P T L platform_now tape_now ledger_now) entry kinds.Flush h) (sym e) (record { ahead = stopped.0; is = stopped.1; made = stopped.2 })
 
 -- ---- a disconnect
 

@@ -20,7 +20,7 @@ use Rattle.nbd_core.specs.Turns.{IsStart}
 use Rattle.nbd_core.specs.declared.haggling.Agreed.{Agreed}
 use Rattle.nbd_core.specs.declared.haggling.Agreed.TheVariants as agreed
 use Rattle.nbd_core.specs.declared.stop.Stop.{Stop}
-use Rattle.nbd_core.specs.Serving.{counts_of}
+use Rattle.session_calls.specs.Blame.{counts_of}
 use Rattle.nbd_core.specs.Running.{GoesOn, Talks, Untouched}
 use Rattle.nbd_core.specs.declared.halts.Halt.{Halt}
 use Rattle.nbd_core.specs.declared.halts.Halt.TheVariants as halts

@@ -6,7 +6,7 @@ use Rattle.nbd_terms.specs.Bytes.{array_of}
 use Rattle.session_calls.proofs.AlongLaws.{along_start, along_then}
 use Rattle.nbd_core.proofs.ArrayLaws.{range_stopped, read_more}
 use Rattle.sdbt_base.specs.Counts.{counts}
-use Rattle.nbd_core.proofs.CallLaws.{calls_then, no_draw, platform_quiet}
+use Rattle.session_calls.proofs.CallLaws.{calls_then, no_draw, platform_quiet}
 use Rattle.nbd_core.proofs.reading.read_range.Goals as goal
 
 pub loop-done-init : goal.loop-done-init
