@@ -1,10 +1,9 @@
 -- Which outcomes tell of a record that doesn't fit.
-use Rattle.std.proofs.Common.{◌≡◌, ◌≢◌, ◌≤◌, ◌⊎◌, ℕ, List, Bool, true, false, Option, Some, Result, Ok, Err, inl, inr, refl, sym, subst, ◌∙◌, arith}
-use Rattle.std.specs.Prelude.{IfOk, IsErrOf, nat_lt, ◌+◌}
+use Rattle.std.proofs.Common.{◌≡◌, ◌≢◌, ◌≤◌, ℕ, Bool, true, false, Option, Some, Result, Ok, Err, sym, subst, ◌∙◌, arith}
+use Rattle.std.specs.Prelude.{IfOk, nat_lt, ◌+◌}
 use Rattle.platform.specs.Image.{Image}
 use Rattle.platform.specs.History.{Extends, History, moment}
 use Rattle.platform.proofs.Moments.{image_at-now}
-use Rattle.device_session.specs.Sessions.{Session}
 use Rattle.device_session.specs.declared.refusals.CommitReply.{CommitReply}
 use Rattle.device_session.specs.declared.refusals.CommitReply.TheVariants as replies
 use Rattle.nbd_lang.specs.Refusals.{refusal, refusal_by}

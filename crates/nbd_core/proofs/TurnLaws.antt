@@ -1,21 +1,16 @@
 -- What requests make of a session's array, and how they follow one another.
-use Rattle.std.proofs.Common.{◌≡◌, ◌≤◌, ◌<◌, ◌+◌, ◌-◌, ◌*◌, ◌++◌, ◌∷◌, ◌∙◌, ℕ, zero, suc, Bool, true, false, List, [], Option, None, Some, Result, Ok, Err, inl, inr, length, take, drop, refl, sym, ap, subst, arith, append-nil, append_assoc, length-take}
+use Rattle.std.proofs.Common.{◌≡◌, ◌≤◌, ◌<◌, ◌+◌, ◌-◌, ◌*◌, ◌++◌, ◌∷◌, ◌∙◌, ℕ, Bool, true, false, List, [], Option, None, Some, Result, Ok, Err, inl, inr, length, take, drop, refl, sym, ap, subst, arith, append-nil, append_assoc, length-take}
 use Rattle.std.specs.Prelude.{IfOk, nat_lt}
 use Rattle.byte_arrays.specs.Ranges.{covered_blocks, touched_blocks}
 use Rattle.std.proofs.Math.Seq.{drop-append_seam, take-append-add}
 use Rattle.std.proofs.lemmas.List.{drop-take, map-append, take-append-le, take_all}
-use Rattle.sdbt_base.specs.Arrays.{Device, Session as OpenSession, closed, committed, committed_if, mounted}
+use Rattle.sdbt_base.specs.Arrays.{Device, Session as OpenSession, closed, mounted}
 use Rattle.sdbt_base.specs.declared.sinks.Sink.{Ghosts as SinkGhosts}
 use Rattle.sdbt_base.specs.declared.tapes.Tape.{Ghosts as TapeGhosts}
 use Rattle.platform.specs.Image.{Image}
-use Rattle.platform.specs.History.{CellStays, During, History, image_at}
+use Rattle.platform.specs.History.{CellStays, History}
 use Rattle.platform.specs.declared.platforms.Platform.{Ghosts as PlatformGhosts}
-use Rattle.platform.proofs.Moments.{During-now, LeavesOnly-now}
-use Rattle.page_store.specs.Stands.{Stands}
-use Rattle.page_store.proofs.StandsLaws.{stands_during}
 use Rattle.device_terms.specs.Served.{IsServedImage}
-use Rattle.device_terms.proofs.ServedLaws.{serves_still}
-use Rattle.device_course.specs.Marks.{Leaves, mark_at}
 use Rattle.device_course.specs.States.{IsAt, Outside, around}
 use Rattle.device_course.proofs.HeldLaws.{needs_of}
 use Rattle.device_course.proofs.MadeLaws.{made_again, made_kept, made_quiet, made_since, made_start, made_then, shut}
@@ -31,7 +26,7 @@ use Rattle.nbd_lang.specs.declared.replies.Outcome.TheVariants as outcomes
 use Rattle.nbd_lang.specs.declared.requests.Request.{Request}
 use Rattle.nbd_lang.specs.declared.requests.RequestKind.{RequestKind}
 use Rattle.nbd_lang.specs.declared.requests.RequestKind.TheVariants as kinds
-use Rattle.device_course.specs.Held.{Held, IsHeld, Needs, after_commit, device_of, state_of, trim_all}
+use Rattle.device_course.specs.Held.{Held, IsHeld, after_commit, device_of, state_of, trim_all}
 use Rattle.nbd_terms.specs.Bytes.{after_trims, after_writes, size_of}
 use Rattle.device_course.specs.Leading.{Leads, Led, last_of, marks_of}
 use Rattle.nbd_terms.specs.Turn.{Answers, Flushes, Reads, Serves, Trims, Turn, Writes}

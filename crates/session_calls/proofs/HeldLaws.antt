@@ -1,5 +1,5 @@
 -- What a commit makes of a device with a session on it.
-use Rattle.std.proofs.Common.{◌≡◌, ◌≤◌, ◌<◌, ◌-◌, ◌∷◌, ◌∙◌, ℕ, Bool, List, [], Option, None, Some, Err, inl, inr, refl, sym, ap, subst, arith}
+use Rattle.std.proofs.Common.{◌≡◌, ◌≤◌, ◌<◌, ◌-◌, ◌∷◌, ◌∙◌, ℕ, Bool, List, [], None, Some, Err, inl, inr, refl, sym, ap, subst, arith}
 use Rattle.sdbt_base.specs.Arrays.{Device, closed, committed, committed_if}
 use Rattle.sdbt_base.specs.declared.tapes.Tape.{Ghosts as TapeGhosts}
 use Rattle.platform.specs.History.{During, History}

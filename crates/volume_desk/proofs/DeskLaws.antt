@@ -6,19 +6,15 @@ use Rattle.std.proofs.lemmas.List.Edits.{length-insert}
 use Rattle.std.proofs.lemmas.Option.{get_or_from_slice_get, slice_get_within}
 use Rattle.sdbt_base.specs.Arrays.{Device, Session as OpenSession, mounted, unmapped, written}
 use Rattle.platform.specs.Image.{Image}
-use Rattle.platform.specs.declared.platforms.Platform.{Ghosts as PlatformGhosts}
 use Rattle.byte_arrays.specs.Ranges.{blocks_from}
 use Rattle.device_course.specs.States.{IsAt}
-use Rattle.device_session.specs.Open.{IsOpen, needed_by}
+use Rattle.device_session.specs.Open.{needed_by}
 use Rattle.device_session.specs.Sessions.{Session}
 use Rattle.line_run.specs.Stops.{IsSound}
 use Rattle.device_course.specs.Held.{Held, trim_all}
-use Rattle.session_calls.specs.Along.{Drawn}
-use Rattle.session_calls.specs.Damage.{MeetsDamage, ReadsAny, TrimsAny, WritesAny}
 use Rattle.session_calls.specs.Goes.{ReadsBlock, TrimsBlock, WritesBlock}
 use Rattle.session_calls.specs.declared.stops.DeviceStop.{DeviceStop}
 use Rattle.session_calls.specs.declared.stops.DeviceStop.TheVariants as stops
-use Rattle.session_calls.proofs.AlongLaws.{along_start}
 use Rattle.volume_table.specs.Tables.{FitsAt, IsLeastStart, IsPlaced, IsTable, table_bytes}
 use Rattle.volume_table.specs.declared.volume.Volume.{Volume}
 use Rattle.volume_lines.specs.Replies.{Reply, said}
@@ -28,9 +24,7 @@ use Rattle.volume_terms.specs.Turn.{OnBlock}
 use Rattle.volume_terms.specs.Volumes.{HasNoRoom, IsBlockOf, IsCount, IsNamed, IsNew, changed}
 use Rattle.volume_terms.proofs.KeepingLaws.{changed_tabled, in_volume, trimmed_at, trimmed_tabled, wrote, wrote_tabled}
 use Rattle.volume_terms.proofs.TableLaws.{not_first}
-use Rattle.session_calls.specs.Calling.{Calls}
 use Rattle.volume_desk.specs.Turns.{Changed, IsBlockAt, IsHeld, NoBlock}
-use Rattle.session_calls.proofs.CallLaws.{along_more}
 
 pub on_ok : {X E : Type 0} (result : Result X E) (Claim : Type 0) → Claim → OnOk result Claim
 on_ok (Ok x) Claim claim = claim

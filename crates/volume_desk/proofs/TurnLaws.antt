@@ -1,24 +1,18 @@
 -- What a line makes of a session's array and its table, and of the device below them.
-use Rattle.std.proofs.Common.{◌≡◌, ◌≤◌, ◌∷◌, ◌∙◌, ℕ, Bool, List, [], Option, None, Some, Result, Ok, Err, inl, inr, refl, sym, ap, subst, arith}
-use Rattle.sdbt_base.specs.Arrays.{Device, closed, committed, committed_if}
+use Rattle.std.proofs.Common.{◌≡◌, ◌≤◌, ◌∷◌, ◌∙◌, ℕ, List, [], Option, None, Some, Result, Ok, Err, inl, inr, refl, sym, ap, subst, arith}
+use Rattle.sdbt_base.specs.Arrays.{Device}
 use Rattle.sdbt_base.specs.declared.sinks.Sink.{Ghosts as SinkGhosts}
 use Rattle.sdbt_base.specs.declared.tapes.Tape.{Ghosts as TapeGhosts}
 use Rattle.platform.specs.Image.{Image}
-use Rattle.platform.specs.History.{CellStays, During, History}
+use Rattle.platform.specs.History.{CellStays}
 use Rattle.platform.specs.declared.platforms.Platform.{Ghosts as PlatformGhosts}
-use Rattle.platform.proofs.Moments.{During-now, LeavesOnly-now}
-use Rattle.page_store.specs.Stands.{Stands}
-use Rattle.page_store.proofs.StandsLaws.{stands_during}
 use Rattle.device_terms.specs.Served.{IsServedImage}
-use Rattle.device_terms.proofs.ServedLaws.{serves_still}
-use Rattle.device_course.specs.Marks.{Leaves}
 use Rattle.device_course.specs.States.{IsAt, Outside, around}
 use Rattle.device_course.proofs.MadeLaws.{made_again, made_kept, made_since}
 use Rattle.device_session.specs.Open.{IsOpen, blocks_of, needed_by}
 use Rattle.device_session.specs.declared.refusals.CommitReply.{CommitReply}
 use Rattle.device_session.specs.declared.refusals.CommitReply.TheVariants as replies
 use Rattle.device_session.specs.Sessions.{Session}
-use Rattle.device_session.proofs.CountLaws.{needs_none, needs_some}
 use Rattle.line_run.specs.Stops.{IsSound}
 use Rattle.device_course.specs.Held.{Held, IsHeld as IsArrayHeld, after_commit, device_of, state_of}
 use Rattle.device_course.proofs.HeldLaws.{needs_of}

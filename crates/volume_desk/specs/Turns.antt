@@ -1,7 +1,6 @@
 -- What a line makes of a session's array and its table, and of the device below them.
 use Rattle.std.specs.Prelude.{◌≡◌, ◌≢◌, ◌≤◌, ◌<◌, ◌+◌, ◌*◌, ◌⊎◌, ℕ, List, [], ◌∷◌, Option, None, Some, Result, Ok, Err}
 use Rattle.sdbt_base.specs.Arrays.{Device, Session as OpenSession, mounted}
-use Rattle.platform.specs.History.{History}
 use Rattle.platform.specs.Image.{Image}
 use Rattle.device_course.specs.Course.{MadeBetween}
 use Rattle.device_course.specs.States.{Outside, IsAt}

@@ -1,4 +1,4 @@
-use Rattle.std.proofs.Common.{◌≡◌, ℕ, ◌+◌, ◌-◌, ◌≤◌, List, [], ◌++◌, None, Some, refl, take, drop, length, sym, ◌∙◌, ap, subst, arith, length-take, length-append}
+use Rattle.std.proofs.Common.{◌≡◌, ℕ, ◌-◌, List, refl, take, drop, sym, ◌∙◌, subst, arith}
 use Rattle.std.proofs.lemmas.Grind.{common_steps}
 use Rattle.std.specs.Prelude.{Option}
 use Rattle.sdbt_base.specs.Told.{IsAtEnd}
@@ -6,7 +6,7 @@ use Rattle.text_lines.specs.Lines.{rest_of}
 use Rattle.device_cli.specs.World.{World, world_by}
 use Rattle.device_cli.proofs.Serving.{HandledBy, replying}
 use Rattle.line_run.proofs.ReadingLaws.{IsReading, IsReading-start, IsReading-more, IsReading-stop, IsReading-end, IsReading-failed, IsReading-limit}
-use Rattle.std.proofs.Common.{inl, inr, Err}
+use Rattle.std.proofs.Common.{Err}
 use Rattle.sdbt_base.specs.Counts.{counts}
 use Rattle.line_run.proofs.BlameLaws.{blamed_behind, blamed_take, fell_not}
 use Rattle.line_run.proofs.TakeLaws.{none_given, nothing_left, taken_of}

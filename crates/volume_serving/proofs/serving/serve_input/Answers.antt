@@ -1,6 +1,5 @@
-use Rattle.std.proofs.Common.{◌≡◌, ℕ, ◌+◌, ◌-◌, ◌≤◌, List, [], ◌++◌, Option, None, Some, Err, inl, inr, refl, take, drop, length, sym, ◌∙◌, ap, subst, arith, length-take, length-append}
+use Rattle.std.proofs.Common.{◌≡◌, ℕ, ◌-◌, List, Option, None, Some, Err, refl, take, drop, sym, ◌∙◌, subst, arith}
 use Rattle.std.proofs.lemmas.Grind.{common_steps}
-use Rattle.std.specs.Prelude.{◌↔◌, IfSome}
 use Rattle.sdbt_base.specs.Counts.{counts}
 use Rattle.sdbt_base.specs.Told.{IsAtEnd}
 use Rattle.text_lines.specs.Lines.{rest_of}
