@@ -29,7 +29,7 @@ loop-i-preserved g c =
     record {
       along = λ drawn. along_then P c.loop-i.i 1 _ _ _ drawn drawn drawn _ _ _ (so_far.along drawn) (c.in-Ok.ensures.goes drawn).along;
       trims = λ told device array at.
-          subst (λ (a : OpenSession). IsAt (P.history c.trim_block.new.platform).present (Some c.trim_block.new.session) (mounted device a)) 
+          subst (λ (a : OpenSession). IsAt (P.history c.trim_block.new.platform).present (Some c.trim_block.new.session) (mounted device a))
           (sym (ap (trim_all array) (blocks_from-more first c.loop-i.i) ∙ trim_all-more array (blocks_from first c.loop-i.i) (first + c.loop-i.i)))
           (c.in-Ok.ensures.leads told device (trim_all array (blocks_from first c.loop-i.i)) (so_far.trims told device array at));
       head = c.in-Ok.ensures.head ∙ so_far.head;
