@@ -1,5 +1,5 @@
 -- The blocks of a range, and those of its parts.
-use Rattle.std.proofs.Common.{◌≡◌, ◌+◌, ◌-◌, ◌*◌, ◌<◌, ◌≤◌, ℕ, zero, suc, length, get_or, refl, sym, ap, ◌∙◌, arith, inl, inr}
+use Rattle.std.proofs.Common.{◌≡◌, ◌+◌, ◌-◌, ◌*◌, ◌<◌, ◌≤◌, ℕ, zero, suc, [], ◌∷◌, ◌++◌, length, get_or, refl, sym, ap, ◌∙◌, arith, inl, inr}
 use Rattle.std.specs.Prelude.{◌↔◌, ◌/◌, Contains}
 use Rattle.std.proofs.lemmas.Bool.{cases_lt}
 use Rattle.byte_arrays.specs.Ranges.{IsTouched, IsCovered, blocks_from, touched_blocks, covered_blocks}
@@ -10,6 +10,16 @@ use Rattle.byte_arrays.specs.Parts.{IsPart, IsAtPart}
 pub length-blocks_from : (first n : ℕ) → length (blocks_from first n) ≡ n
 length-blocks_from first zero = refl
 length-blocks_from first (suc n) = ap suc (length-blocks_from (first + 1) n)
+
+-- one more
+pub blocks_from-more : (first n : ℕ) → blocks_from first (n + 1) ≡ blocks_from first n ++ (first + n) ∷ []
+blocks_from-more first zero =
+    let e : first ≡ first + 0 = omega arith in
+    ap (λ (b : ℕ). b ∷ []) e
+blocks_from-more first (suc n) =
+    let e : (first + 1) + n ≡ first + suc n = omega arith in
+    let s : suc n + 1 ≡ suc (n + 1) = omega arith in
+    rw s (ap (λ bs. first ∷ bs) (blocks_from-more (first + 1) n ∙ ap (λ (b : ℕ). blocks_from (first + 1) n ++ b ∷ []) e))
 
 pub get_or-blocks_from : (first n k d : ℕ) → k < n → get_or (blocks_from first n) k d ≡ first + k
 get_or-blocks_from first zero k d below = absurd (omega (arith, below))

@@ -210,10 +210,6 @@ commit_stops P T platform platform_now tape tape_now held now session (stops.Bad
 pub write_kept : {S R : Type 0} (P : Ghosts S) (T : TapeGhosts R) (platform platform_now : S) (tape tape_now : R) (stop : DeviceStop) → AddsBlock P T platform platform_now tape tape_now (Err stop) → stop ≡ stops.Memory → P.head platform_now ≡ P.head platform
 write_kept P T platform platform_now tape tape_now stop adds e = (subst (λ (s : DeviceStop). AddsBlock P T platform platform_now tape tape_now (Err s)) e adds).head
 
--- one stop, whatever the answers are beside it
-pub same_stop : {X Y : Type 0} (stop other : DeviceStop) → IsErrOf {T = X} {E = DeviceStop} (Err stop) other → IsErrOf {T = Y} {E = DeviceStop} (Err stop) other
-same_stop stop other is = let e : stop ≡ other = cc in ap Err e
-
 -- a write that stopped added a page at most where the platform failed, and else none
 pub write_added : {S R : Type 0} (P : Ghosts S) (T : TapeGhosts R) (platform platform_now : S) (tape tape_now : R) (block : ℕ) (bytes : List ℕ) (changes : ℕ) (stop : DeviceStop) → P.head platform_now ≤ P.head platform + 1
     → AddsBlock P T platform platform_now tape tape_now (Err stop) → P.head platform_now ≤ P.head platform + left_by stop (Write block bytes) changes

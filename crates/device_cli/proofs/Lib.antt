@@ -1,4 +1,3 @@
-pub mod BlameLaws
 pub mod CellLaws
 pub mod CallLaws
 pub mod Choices
@@ -11,7 +10,6 @@ pub mod ReplyLaws
 pub mod DrawingLaws
 pub mod RepliedLaws
 pub mod Serving
-pub mod Reading
 pub mod RanLaws
 pub mod StillLaws
 pub mod ScriptLaws

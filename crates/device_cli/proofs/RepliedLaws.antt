@@ -30,7 +30,7 @@ use Rattle.device_course.specs.Course.{Made}
 use Rattle.device_course.proofs.MadeLaws.{shut, made_none, made_one, made_stopped, made_then, made_closed}
 use Rattle.device_cli.specs.Represents.{Stood, StandsFor}
 use Rattle.device_cli.specs.Added.{left_by, HasAdded, IsNear}
-use Rattle.device_cli.specs.Pages.{needed_for, updates_after, updates_of, TurnOn, AnswersOn, IsShort, AreShort, IfNext}
+use Rattle.device_cli.specs.Pages.{needed_for, updates_after, updates_of, TurnOn, AnswersOn, IsShort, IfNext}
 use Rattle.device_cli.specs.Replied.{AreMany, IsStopAt, IsEndingAt, IsAhead, AreMarks, EndsIn, Answered, Replied, Handled, Halts, Serves}
 use Rattle.line_run.specs.Puts.{no_line, IsBehind, HasPut}
 use Rattle.device_cli.specs.Causes.{MayStop, SoOn}
@@ -632,35 +632,7 @@ Handled-stop tells old new line command stop written spells later drew extends a
   replied = Replied-stop tells old new line command stop spells later drew extends added (stops_there tells old.session new line command stop spells may) looks served halts;
 }
 
--- the same lines
-pub Handled-lines : (tells : Type 0) (old new : World) (last : DeviceStop → List ℕ) (ending : Ending) (lines others : List (List ℕ)) (a b : Option (List ℕ))
-    → lines ≡ others → Handled tells old new last ending lines a b → Handled tells old new last ending others a b
-Handled-lines tells old new last ending lines others a b same p = let r = p.replied in record {
-  put = p.put;
-  got = p.got;
-  replied = record {
-    replies = r.replies;
-    part = r.part;
-    put_is = r.put_is;
-    behind = r.behind;
-    many = subst (λ (ls : List (List ℕ)). AreMany (length r.replies) (length ls) ending) same r.many;
-    stopped = subst (λ (ls : List (List ℕ)). IsEndingAt tells new r.replies ls ending) same r.stopped;
-    drew = subst (λ (ls : List (List ℕ)). DrewUntil old.drawn ls r.replies new.drawn) same r.drew;
-    so = subst (λ (ls : List (List ℕ)). SoOn tells old.history new.history ls r.replies) same r.so;
-    later = r.later;
-    full = λ updates enough. subst (λ (ls : List (List ℕ)). AreShort new.head new.capacity updates ls r.replies) same (r.full updates enough);
-    enough = r.enough;
-    looks = subst (λ (ls : List (List ℕ)). LooksOn tells old new ls (IsOk ending)) same r.looks;
-    answered = λ told entry updates rep enough. subst (λ (ls : List (List ℕ)). Answered old new ending entry updates ls r.replies r.part) same (r.answered told entry updates rep enough);
-  };
-}
-
 -- ---- how many replies there are
-
-pub count-lines : (tells : Type 0) (old new : World) (last : DeviceStop → List ℕ) (ending : Ending) (lines others : List (List ℕ)) (a b : Option (List ℕ))
-    → (same : lines ≡ others) (p : Handled tells old new last ending lines a b) → length p.replied.replies ≤ length (Handled-lines tells old new last ending lines others a b same p).replied.replies
-unfolding Handled-lines
-count-lines tells old new last ending lines others a b same p = omega arith
 
 pub count-then : (tells : Type 0) (old mid new : World) (last : DeviceStop → List ℕ) (ending : Ending) (lines more : List (List ℕ)) (a b c : Option (List ℕ))
     → (p : Handled tells old mid last (Ok tt) lines a b) (q : Handled tells mid new last ending more b c)

@@ -15,22 +15,21 @@ use Rattle.device_cli.specs.Pages.{needed_for, updates_of, accepted, AnswersOn, 
 use Rattle.device_cli.specs.Added.{left_by, HasAdded}
 use Rattle.device_cli.specs.Seen.{SeenOn}
 use Rattle.platform.specs.History.{moment}
-use Rattle.line_run.specs.Stops.{TookUntil, Ending}
+use Rattle.line_run.specs.Runs as lines
+use Rattle.line_run.specs.Stops.{Ending}
 use Rattle.device_cli.specs.Replied.{Handled, HasMark, ExitsAt}
 use Rattle.line_run.specs.Puts.{IsFirstPart, damage_line}
-use Rattle.line_run.specs.Puts.{AreLines, HaveCome, IsPrompt}
+use Rattle.line_run.specs.Puts.{HaveCome, IsPrompt}
 use Rattle.session_calls.specs.declared.stops.DeviceStop.{DeviceStop}
 use Rattle.session_calls.specs.declared.stops.DeviceStop.TheVariants as device
 
+-- how many replies that speaks of
+abbrev pub replies_in : (tells : Type 0) (last : DeviceStop → List ℕ) (old new : World) (ending : Ending) (lines : List (List ℕ)) (a b : Option (List ℕ)) → Handled tells old new last ending lines a b → ℕ
+replies_in tells last old new ending lines a b handled = length handled.replied.replies
+
 -- a run that took its lines from an input and put its replies to an output
-pub record Ran (tells : Type 0) (old new : World) (last : DeviceStop → List ℕ) (ending : Ending) (left left_now written written_now : Option (List ℕ)) : Type 0 where
-  pub taken : List ℕ
-  pub lines : List (List ℕ)
-  pub gave : Gave left taken left_now
-  pub took : TookUntil ending taken left_now
-  pub come : AreLines ending taken left_now lines
-  pub handled : Handled tells old new last ending lines written written_now
-  pub prompt : IsPrompt taken (length handled.replied.replies)
+abbrev pub Ran : Type 0 → World → World → (DeviceStop → List ℕ) → Ending → Option (List ℕ) → Option (List ℕ) → Option (List ℕ) → Option (List ℕ) → Type 0
+Ran tells old new last ending left left_now written written_now = lines.Ran (λ before now. Handled tells before now last) (replies_in tells last) old new ending left left_now written written_now
 
 -- the replies are those of the array, from the state at entry on, where a run ends with this status: at 0, 3 and 12 the
 -- image at the exit stands for the state after them; at 4 for the one that one more reply leads to, of whose line a first

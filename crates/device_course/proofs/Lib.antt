@@ -2,6 +2,8 @@ pub mod SaidLaws
 pub mod CertifiedLaws
 pub mod MarkLaws
 pub mod MadeLaws
+pub mod LeadingLaws
+pub mod HeldLaws
 pub mod CourseLaws
 pub mod KeysLaws
 pub mod FitsLaws

@@ -1,9 +1,9 @@
 -- Which devices a call makes, and how parts of a run compose.
-use Rattle.std.proofs.Common.{◌≡◌, ◌+◌, List, [], ◌∷◌, ◌++◌, Option, None, inl, inr, length, refl, sym, ◌∙◌, subst, ap, length-append}
+use Rattle.std.proofs.Common.{◌≡◌, ◌+◌, ℕ, zero, suc, List, [], ◌∷◌, ◌++◌, Option, None, Some, inl, inr, length, refl, sym, ◌∙◌, subst, ap, arith, length-append}
 use Rattle.std.specs.Prelude.{◌⊎◌}
 use Rattle.sdbt_base.specs.Arrays.{Device, State, closed}
 use Rattle.platform.specs.Image.{Image, LeavesOnly}
-use Rattle.platform.specs.History.{History, Steps, During, Turns}
+use Rattle.platform.specs.History.{History, CellStays, Steps, During, Turns, image_at}
 use Rattle.platform.specs.Runs.{Passes}
 use Rattle.platform.proofs.Moments.{During-now, During-turns, LeavesOnly-now, Turns-not}
 use Rattle.platform.proofs.RunLaws.{Passes-start, Passes-during, Passes-turns, Passes-then, Turns-cases}
@@ -11,10 +11,11 @@ use Rattle.page_store.specs.Stands.{Stands}
 use Rattle.page_store.proofs.StandsLaws.{one_device, stands_during, stands_leaves}
 use Rattle.device_terms.specs.Served.{IsServedImage}
 use Rattle.device_terms.proofs.MomentLaws.{one_look}
+use Rattle.device_terms.proofs.ServedLaws.{serves_still}
 use Rattle.device_session.specs.Sessions.{Session}
 use Rattle.device_course.specs.Marks.{Leaves, HasMark, mark_at, last_mark}
 use Rattle.device_course.specs.States.{IsAt}
-use Rattle.device_course.specs.Course.{Made}
+use Rattle.device_course.specs.Course.{Made, MadeBetween}
 use Rattle.device_course.proofs.MarkLaws.{last_mark-append, mark_at-front, mark_at-behind}
 
 -- without a session
@@ -126,3 +127,48 @@ made_stands old new after entry exit marks m = record {
 pub made_marks : (old new : History) (after : Option Session) (entry exit : State) (marks : List (Option Device)) → Made old new after entry marks exit
     → Stands new.present (last_mark entry.device marks)
 made_marks old new after entry exit marks m = subst (λ (d : Option Device). Stands new.present d) m.last m.exits.there.device
+
+-- ---- a device with no session on it
+
+-- stayed while the cell did
+pub made_kept : (old new : History) (there : Device) → Stands old.present (Some there) → IsServedImage old.present → CellStays old new → MadeBetween old new there [] there
+made_kept old new there stands served stays =
+    let during : During old new (Leaves (Some there)) = stands_during old new (Some there) stands stays in
+    made_none old new None (closed (Some there)) (closed (Some there)) stands during refl
+    (shut new.present (Some there) (LeavesOnly-now new (λ left. Stands left (Some there)) (During-now old new (Leaves (Some there)) during)) (During-now old new IsServedImage (serves_still old new stays served)))
+
+-- and a mark may tell of it again
+pub made_again : (old new : History) (there : Device) → MadeBetween old new there [] there → MadeBetween old new there (Some there ∷ []) there
+made_again old new there m = record {
+  passes = record {
+    extends = m.passes.extends;
+    mark = λ i. 0;
+    rises = λ i j le. omega arith;
+    within = λ i. omega arith;
+    each = m.passes.each;
+  };
+  last = refl;
+  exits = m.exits;
+}
+
+mark_same : (first : Option Device) (k : ℕ) → mark_at first (first ∷ []) k ≡ first
+mark_same first zero = refl
+mark_same first (suc k) = refl
+
+-- or no mark does
+pub made_quiet : (old new : History) (there : Device) → MadeBetween old new there (Some there ∷ []) there → MadeBetween old new there [] there
+made_quiet old new there m = record {
+  passes = record {
+    extends = m.passes.extends;
+    mark = λ i. 0;
+    rises = λ i j le. omega arith;
+    within = λ i. omega arith;
+    each = λ i from to. subst (λ (d : Option Device). Leaves d (image_at new i)) (mark_same (Some there) (m.passes.mark i)) (m.passes.each i from to);
+  };
+  last = refl;
+  exits = m.exits;
+}
+
+-- from an earlier moment on, since which the device stayed
+pub made_since : (first second third : History) (entry last : Device) (marks : List (Option Device)) → MadeBetween first second entry [] entry → MadeBetween second third entry marks last → MadeBetween first third entry marks last
+made_since first second third entry last marks one two = made_then first second third None None (closed (Some entry)) (closed (Some entry)) (closed (Some last)) [] marks one two

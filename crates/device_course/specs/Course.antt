@@ -1,8 +1,8 @@
 -- What is promised of every part of a run over a device, whoever it serves.
-use Rattle.std.specs.Prelude.{◌≡◌, ℕ, List, Option, length}
+use Rattle.std.specs.Prelude.{◌≡◌, ℕ, List, Option, None, Some, length}
 use Rattle.platform.specs.History.{History, During}
 use Rattle.platform.specs.Runs.{Passes}
-use Rattle.sdbt_base.specs.Arrays.{Device, State}
+use Rattle.sdbt_base.specs.Arrays.{Device, State, closed}
 use Rattle.page_store.specs.Stands.{Stands}
 use Rattle.page_store.specs.Kept.{Kept}
 use Rattle.page_store.specs.Keeping.{DrewAll, HandedOver}
@@ -21,6 +21,10 @@ pub record Made (old new : History) (after : Option Session) (entry : State) (ma
   pub passes : Passes old new (HasMark entry.device marks) (length marks)
   pub last : exit.device ≡ last_mark entry.device marks
   pub exits : IsAt new.present after exit
+
+-- the device came to be these others in their order, and is this one at the end
+abbrev pub MadeBetween : History → History → Device → List (Option Device) → Device → Type 0
+MadeBetween old new first marks last = Made old new None (closed (Some first)) marks (closed (Some last))
 
 -- a part of a run that began with this session in the state `entry`, and ended with that one in the state `exit`: it made these devices, added pages
 -- only, and kept what is to be kept. Of an entry of the ledger it put a part only where it can't go on

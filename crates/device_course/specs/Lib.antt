@@ -3,6 +3,8 @@ pub mod States
 pub mod Certified
 pub mod Keys
 pub mod Course
+pub mod Held
+pub mod Leading
 pub mod Fitting
 pub mod Reaching
 pub mod Programs

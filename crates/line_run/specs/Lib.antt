@@ -1,3 +1,4 @@
 pub mod Pending
 pub mod Stops
 pub mod Puts
+pub mod Runs

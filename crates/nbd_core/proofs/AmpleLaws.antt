@@ -10,8 +10,9 @@ use Rattle.nbd_lang.specs.declared.replies.Outcome.TheVariants as outcomes
 use Rattle.nbd_lang.specs.declared.requests.RequestKind.{RequestKind}
 use Rattle.nbd_lang.specs.declared.requests.RequestKind.TheVariants as kinds
 use Rattle.byte_arrays.specs.Ranges.{touched_blocks, covered_blocks}
-use Rattle.nbd_terms.specs.Held.{Held, size_of}
-use Rattle.nbd_terms.specs.Leading.{Leads, last_of}
+use Rattle.device_course.specs.Held.{Held}
+use Rattle.nbd_terms.specs.Bytes.{size_of}
+use Rattle.device_course.specs.Leading.{Leads, last_of}
 use Rattle.nbd_terms.specs.Turn.{Answers, IsUnfinished, Serves, Turn}
 use Rattle.nbd_core.specs.Ample.{HasRoom, IsServed, IsServedOut, blocks_of_range, changed_by, unless_refused}
 use Rattle.nbd_core.specs.Exchanges.{Exchange, sent_of, told_of}

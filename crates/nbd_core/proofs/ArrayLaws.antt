@@ -20,7 +20,8 @@ use Rattle.byte_arrays.proofs.ArrayLaws.{bytes_are, bytes_at-append, part_read, 
 use Rattle.device_course.specs.States.{IsAt}
 use Rattle.device_session.specs.Open.{needed_by}
 use Rattle.device_session.specs.Sessions.{Session}
-use Rattle.nbd_terms.specs.Held.{array_of, trim_all, write_all}
+use Rattle.device_course.specs.Held.{trim_all}
+use Rattle.nbd_terms.specs.Bytes.{array_of, write_all}
 use Rattle.session_calls.specs.Goes.{AddsBlock, ReadsBlock, TrimsBlock, WritesBlock}
 use Rattle.session_calls.specs.declared.stops.DeviceStop.{DeviceStop}
 use Rattle.session_calls.specs.declared.stops.DeviceStop.TheVariants as stops

@@ -4,7 +4,6 @@ use Rattle.std.proofs.lemmas.Bool.{cases_lt}
 use Rattle.std.specs.Prelude.{IfErr}
 use Rattle.nbd_lang.specs.declared.requests.Request.{Request}
 use Rattle.nbd_lang.specs.declared.replies.Outcome.{Outcome}
-use Rattle.nbd_core.specs.declared.haggling.Agreed.{Agreed}
 use Rattle.sdbt_base.specs.declared.tapes.Tape.{Ghosts as TapeGhosts}
 use Rattle.platform.specs.declared.platforms.Platform.{Ghosts as PlatformGhosts}
 use Rattle.session_calls.specs.Commits.{LeftAt}
@@ -13,7 +12,7 @@ use Rattle.session_calls.specs.Blame.{HasCause, IsOfCall}
 use Rattle.session_calls.specs.declared.stops.DeviceStop.{DeviceStop}
 use Rattle.session_calls.specs.declared.stops.DeviceStop.TheVariants as device
 use Rattle.nbd_core.specs.Halts.{Blames, IsDueTo, OfCommit, commit_halt, outcome_after}
-use Rattle.nbd_core.specs.Stops.{TellsTake, TellsTalk}
+use Rattle.nbd_core.specs.Stops.{TellsTake}
 use Rattle.nbd_core.specs.Requests.{DataEnd}
 use Rattle.nbd_core.specs.declared.stop.Stop.{Stop}
 use Rattle.nbd_core.specs.declared.stop.Stop.TheVariants as stops
@@ -165,17 +164,6 @@ blame_ended rest input input_now count result same none broken = elim (cases_lt 
   | inl some ↦ subst (λ (r : Result (Option Request) Halt). Blames (record rest { input = input }) (record rest { input = input_now }) r) (sym (broken some)) (blame_broken rest input input_now same)
   | inr few ↦ subst (λ (r : Result (Option Request) Halt). Blames (record rest { input = input }) (record rest { input = input_now }) r) (sym (none (omega (arith, few)))) (blame_taken rest input input_now None same)
 ]
-
--- a talk that stopped
-pub blame_talk : {X : Type 0} (rest : Counts) (input input_now output output_now : ℕ) (stop : Stop) → input ≤ input_now → output ≤ output_now → TellsTalk {X = Agreed} (Err stop) input input_now output output_now
-    → Blames {X = X} (record rest { input = input; output = output }) (record rest { input = input_now; output = output_now }) (Err (halts.Client stop))
-blame_talk rest input input_now output output_now stop le less tells = record { fell = record { platform = omega arith; tape = omega arith; input = le; output = less; ledger = omega arith }; quiet = tt; cause = by stop tells }
-  where
-    by : (s : Stop) → TellsTalk {X = Agreed} (Err s) input input_now output output_now → IsDueTo (record rest { input = input; output = output }) (record rest { input = input_now; output = output_now }) (halts.Client s)
-    by stops.Source (rose, same) = (rose, ap (λ (n : ℕ). record rest { input = input_now; output = n }) same)
-    by stops.Sink (rose, same) = (rose, ap (λ (n : ℕ). record rest { input = n; output = output_now }) same)
-    by stops.Limit (in_same, out_same) = ap (λ (n : ℕ). record rest { input = n; output = output_now }) in_same ∙ ap (λ (n : ℕ). record rest { input = input; output = n }) out_same
-    by stops.Broken (in_same, out_same) = ap (λ (n : ℕ). record rest { input = n; output = output_now }) in_same ∙ ap (λ (n : ℕ). record rest { input = input; output = n }) out_same
 
 -- ---- one after another
 

@@ -6,7 +6,7 @@ use Rattle.sdbt_base.specs.Counts.{Counts, NoneRose}
 use Rattle.page_store.specs.Stands.{Stands}
 use Rattle.device_terms.specs.Served.{IsServedImage}
 use Rattle.device_course.specs.States.{Outside}
-use Rattle.nbd_terms.specs.Held.{Held}
+use Rattle.device_course.specs.Held.{Held}
 use Rattle.nbd_core.specs.Ample.{IsServedOut, changed_in}
 use Rattle.nbd_core.specs.Exchanges.{Exchange}
 use Rattle.nbd_core.specs.Halts.{Blames}

@@ -1,10 +1,9 @@
 -- Which outcomes tell of a record that doesn't fit.
-use Rattle.std.proofs.Common.{◌≡◌, ◌≢◌, ◌≤◌, ◌⊎◌, ℕ, List, Bool, true, false, Option, Some, Result, Ok, Err, inl, inr, refl, sym, subst, ◌∙◌, arith}
-use Rattle.std.specs.Prelude.{IfOk, IsErrOf, nat_lt, ◌+◌}
+use Rattle.std.proofs.Common.{◌≡◌, ◌≢◌, ◌≤◌, ℕ, Bool, true, false, Option, Some, Result, Ok, Err, sym, subst, ◌∙◌, arith}
+use Rattle.std.specs.Prelude.{IfOk, nat_lt, ◌+◌}
 use Rattle.platform.specs.Image.{Image}
 use Rattle.platform.specs.History.{Extends, History, moment}
 use Rattle.platform.proofs.Moments.{image_at-now}
-use Rattle.device_session.specs.Sessions.{Session}
 use Rattle.device_session.specs.declared.refusals.CommitReply.{CommitReply}
 use Rattle.device_session.specs.declared.refusals.CommitReply.TheVariants as replies
 use Rattle.nbd_lang.specs.Refusals.{refusal, refusal_by}
@@ -13,56 +12,16 @@ use Rattle.nbd_lang.specs.declared.replies.Outcome.TheVariants as outcomes
 use Rattle.nbd_lang.specs.declared.requests.Request.{Request}
 use Rattle.nbd_lang.specs.declared.requests.RequestKind.{RequestKind}
 use Rattle.nbd_lang.specs.declared.requests.RequestKind.TheVariants as kinds
-use Rattle.session_calls.specs.Damage.{IsWrongPage, ReadsAny, WritesAny, TrimsAny}
+use Rattle.session_calls.specs.Damage.{MeetsDamage}
 use Rattle.session_calls.specs.declared.stops.DeviceStop.{DeviceStop}
 use Rattle.session_calls.specs.declared.stops.DeviceStop.TheVariants as device
-use Rattle.nbd_core.specs.Damages.{HasWrongPage, IsDamage, MeetsDamage, MetDamage, TellsDamage}
+use Rattle.nbd_core.specs.Damages.{HasWrongPage, IsDamage, MetDamage, TellsDamage}
 use Rattle.nbd_core.specs.Halts.{commit_outcome, outcome_after}
 use Rattle.nbd_core.specs.declared.halts.Halt.{Halt}
 use Rattle.nbd_core.specs.declared.serving.Performed.{Performed}
 
--- the address that a stop names
-same_address : (met addr : ℕ) → IsErrOf {T = Unit {0}} (Err (device.BadRecord met)) (device.BadRecord addr) → met ≡ addr
-same_address met addr is = cc
-
--- a wrong place, or the root node of a tree that is miscounted with more said of it, is a wrong page
-wrong_page : {Place Counted More : Type 0} → Place ⊎ (Counted × More) → Place ⊎ Counted
-wrong_page (inl place) = inl place
-wrong_page (inr counted) = inr counted.0
-
--- what a read, a write and a trim of a session name is a wrong page
-pub read_meets : (Known : Type 0) (image after : Image) (session : Session) (block : ℕ) (bytes : List ℕ) (result : Result (Unit {0}) DeviceStop)
-    → ReadsAny Known image after session block bytes result → Known → MeetsDamage after result
-read_meets Known image after session block bytes (Ok done) any known addr is = absurd cc
-read_meets Known image after session block bytes (Err (device.BadRecord met)) any known addr is = subst (IsWrongPage after) (same_address met addr is) (inl (any known))
-read_meets Known image after session block bytes (Err device.Platform) any known addr is = absurd cc
-read_meets Known image after session block bytes (Err device.Memory) any known addr is = absurd any
-read_meets Known image after session block bytes (Err device.Tape) any known addr is = absurd any
-read_meets Known image after session block bytes (Err device.Ledger) any known addr is = absurd any
-read_meets Known image after session block bytes (Err device.BadRoot) any known addr is = absurd any
-
-pub write_meets : (Known : Type 0) (image after : Image) (session : Session) (block : ℕ) (result : Result (Unit {0}) DeviceStop)
-    → WritesAny Known image after session block result → Known → MeetsDamage after result
-write_meets Known image after session block (Ok done) any known addr is = absurd cc
-write_meets Known image after session block (Err (device.BadRecord met)) any known addr is = subst (IsWrongPage after) (same_address met addr is) (wrong_page (any known))
-write_meets Known image after session block (Err device.Platform) any known addr is = absurd cc
-write_meets Known image after session block (Err device.Memory) any known addr is = absurd cc
-write_meets Known image after session block (Err device.Tape) any known addr is = absurd cc
-write_meets Known image after session block (Err device.Ledger) any known addr is = absurd any
-write_meets Known image after session block (Err device.BadRoot) any known addr is = absurd any
-
-pub trim_meets : (Known : Type 0) (image after : Image) (session : Session) (block : ℕ) (result : Result (Unit {0}) DeviceStop)
-    → TrimsAny Known image after session block result → Known → MeetsDamage after result
-trim_meets Known image after session block (Ok done) any known addr is = absurd cc
-trim_meets Known image after session block (Err (device.BadRecord met)) any known addr is = subst (IsWrongPage after) (same_address met addr is) (wrong_page (any known))
-trim_meets Known image after session block (Err device.Platform) any known addr is = absurd cc
-trim_meets Known image after session block (Err device.Memory) any known addr is = absurd cc
-trim_meets Known image after session block (Err device.Tape) any known addr is = absurd any
-trim_meets Known image after session block (Err device.Ledger) any known addr is = absurd any
-trim_meets Known image after session block (Err device.BadRoot) any known addr is = absurd any
-
-by_stop : (image : Image) (stop : DeviceStop) (outcome : Outcome) → MeetsDamage {X = Unit {0}} image (Err stop) → outcome_after stop ≡ Ok outcome → IsDamage image outcome
-by_stop image (device.BadRecord addr) outcome meets is = λ damaged. (addr, meets addr refl)
+by_stop : (image : Image) (stop : DeviceStop) (outcome : Outcome) → MeetsDamage image stop → outcome_after stop ≡ Ok outcome → IsDamage image outcome
+by_stop image (device.BadRecord addr) outcome meets is = λ damaged. (addr, meets)
 by_stop image device.Memory outcome meets is = λ damaged. absurd (memory_told outcome is damaged)
   where
     memory_told : (o : Outcome) → outcome_after device.Memory ≡ Ok o → o ≡ outcomes.Damaged → ⊥
@@ -73,7 +32,7 @@ by_stop image device.Ledger outcome meets is = absurd cc
 by_stop image device.BadRoot outcome meets is = absurd cc
 
 -- a call that stopped, and what a request comes to
-pub damage_given : (image : Image) (stop : DeviceStop) (result : Result Outcome Halt) → MeetsDamage {X = Unit {0}} image (Err stop) → IfOk result (λ outcome. outcome_after stop ≡ Ok outcome) → TellsDamage image result
+pub damage_given : (image : Image) (stop : DeviceStop) (result : Result Outcome Halt) → MeetsDamage image stop → IfOk result (λ outcome. outcome_after stop ≡ Ok outcome) → TellsDamage image result
 damage_given image stop (Ok outcome) meets is = by_stop image stop outcome meets is
 damage_given image stop (Err halt) meets is = tt
 
@@ -81,7 +40,7 @@ same_after : (stop : DeviceStop) (result : Result Outcome Halt) → result ≡ o
 same_after stop (Ok outcome) is = sym is
 same_after stop (Err halt) is = tt
 
-pub damage_after : (image : Image) (stop : DeviceStop) (result : Result Outcome Halt) → MeetsDamage {X = Unit {0}} image (Err stop) → result ≡ outcome_after stop → TellsDamage image result
+pub damage_after : (image : Image) (stop : DeviceStop) (result : Result Outcome Halt) → MeetsDamage image stop → result ≡ outcome_after stop → TellsDamage image result
 damage_after image stop result meets is = damage_given image stop result meets (same_after stop result is)
 
 -- others tell of none

@@ -1,8 +1,6 @@
 pub mod RoomLaws
 pub mod CameLaws
 pub mod HaggleLaws
-pub mod CallLaws
-pub mod CarryLaws
 pub mod BlameLaws
 pub mod DataLaws
 pub mod PartLaws

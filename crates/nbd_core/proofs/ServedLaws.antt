@@ -19,8 +19,8 @@ use Rattle.nbd_lang.specs.Requests.{RequestSent, FitsRequest, FitsSent, bytes_be
 use Rattle.nbd_lang.specs.declared.requests.Request.{Request}
 use Rattle.nbd_lang.specs.declared.requests.RequestKind.TheVariants as kinds
 use Rattle.nbd_lang.proofs.ReadingLaws.{request_head_same}
-use Rattle.nbd_terms.specs.Held.{Held}
-use Rattle.nbd_terms.specs.Leading.{last_of}
+use Rattle.device_course.specs.Held.{Held, IsHeld}
+use Rattle.device_course.specs.Leading.{last_of}
 use Rattle.nbd_terms.specs.Turn.{Ends, IsUnfinished, Turn}
 use Rattle.nbd_core.specs.Room.{Room, Came, IsShorter}
 use Rattle.nbd_core.specs.Requests.{AwaitsRequest, HeadCame, HeadEnd, DataEnd}
@@ -32,7 +32,7 @@ use Rattle.nbd_core.specs.Exchanges.{Exchange, sent_of, told_of}
 use Rattle.nbd_core.specs.Served.{Answered, AnswerEnd, AwaitsMore, EndsByDisconnect, FitsExchange, IsAhead, IsCommit, IsCutOff, IsGoodbye, IsReplyTo, Served, ServedEnd, bytes_told, sent_bytes, replied_bytes}
 use Rattle.nbd_core.specs.Short.{AreShort, updates_in}
 use Rattle.nbd_core.proofs.ShortLaws.{short_less, short_push, updates_push}
-use Rattle.nbd_core.specs.Turns.{Finishes, Halted, Halts, HaltsAt, IsHeld, IsOfCommit, Turns}
+use Rattle.nbd_core.specs.Turns.{Finishes, Halted, Halts, HaltsAt, IsOfCommit, Turns}
 use Rattle.nbd_lang.specs.declared.replies.Outcome.{Outcome}
 use Rattle.nbd_lang.specs.declared.replies.Outcome.TheVariants as outcomes
 use Rattle.nbd_lang.specs.declared.requests.RequestKind.{RequestKind}

@@ -8,12 +8,12 @@ use Rattle.platform.specs.declared.platforms.Platform.{Ghosts as PlatformGhosts}
 use Rattle.device_session.specs.Open.{blocks_of, needed_by}
 use Rattle.device_session.proofs.CountLaws.{needs_none}
 use Rattle.nbd_core.specs.Room.{Room}
-use Rattle.nbd_terms.specs.Held.{Held, state_of}
+use Rattle.device_course.specs.Held.{Held, state_of}
 use Rattle.nbd_core.specs.Ample.{HasRoom}
 use Rattle.nbd_core.specs.Haggling.{Haggled}
 use Rattle.nbd_core.specs.Exchanges.{sent_of, told_of}
 use Rattle.nbd_core.specs.Served.{IsAhead, Served}
-use Rattle.nbd_core.specs.Turns.{IsFrom, IsStart, MadeBetween, Stayed}
+use Rattle.nbd_core.specs.Turns.{IsFrom, IsStart, Stayed}
 use Rattle.nbd_core.specs.declared.haggling.Agreed.TheVariants as agreed
 use Rattle.nbd_core.specs.declared.haggling.Agreed.{Agreed}
 use Rattle.nbd_core.specs.declared.stop.Stop.{Stop}
@@ -24,23 +24,23 @@ use Rattle.platform.specs.History.{CellStays, Extends, History}
 use Rattle.page_store.specs.Stands.{Stands}
 use Rattle.page_store.specs.Roots.{IsBadCell}
 use Rattle.device_terms.specs.Served.{IsServedImage, IsServedCell}
-use Rattle.device_course.specs.Course.{Made}
+use Rattle.device_course.specs.Course.{Made, MadeBetween}
 use Rattle.device_course.specs.Keys.{KeepsOn}
 use Rattle.device_course.specs.Marks.{last_mark}
 use Rattle.device_course.specs.States.{Outside, IsAt, IsListed, around}
 use Rattle.device_course.proofs.KeysLaws.{on_look, on_then, listed_image}
-use Rattle.device_course.proofs.MadeLaws.{made_closed, made_then, shut}
+use Rattle.device_course.proofs.MadeLaws.{made_closed, made_kept, made_since, made_then, shut}
 use Rattle.device_session.specs.Sessions.{Session}
 use Rattle.session_calls.specs.Mounts.{IsFound, IsMountStop, MountLeads}
 use Rattle.session_calls.specs.declared.stops.DeviceStop.{DeviceStop}
 use Rattle.session_calls.specs.declared.stops.DeviceStop.TheVariants as device
 use Rattle.nbd_core.specs.Halts.{IsLate}
 use Rattle.nbd_core.specs.Running.{Conversed, GoesOn, IsEarly, IsSilent, Says, Spans, Talks, OfMount, cell_halt, mount_halt}
-use Rattle.nbd_core.specs.Serving.{Carries}
+use Rattle.session_calls.specs.Carrying.{Carries}
 use Rattle.nbd_core.specs.declared.halts.Halt.{Halt}
-use Rattle.nbd_core.proofs.CarryLaws.{stays_at}
+use Rattle.session_calls.proofs.CarryLaws.{stays_at}
 use Rattle.nbd_core.proofs.DamageLaws.{damage_since}
-use Rattle.nbd_core.proofs.TurnLaws.{array_since, made_kept, made_since}
+use Rattle.nbd_core.proofs.TurnLaws.{array_since}
 
 -- a look at the platform, and what comes behind it
 pub spans_looked : (tells : Type 0) (old mid new : Outside) (Going : Type 0) → mid.drawn ≡ old.drawn → mid.written ≡ old.written → mid.head ≡ old.head → mid.capacity ≡ old.capacity

@@ -3,7 +3,7 @@ use Rattle.std.proofs.Common.{◌≡◌, ◌≤◌, ◌+◌, ◌^◌, ◌++◌, 
 use Rattle.sdbt_base.specs.Told.{Gave}
 use Rattle.sdbt_base.proofs.ToldLaws.{Gave-nothing, Gave-then}
 use Rattle.device_course.specs.States.{Outside}
-use Rattle.nbd_terms.specs.Held.{Held}
+use Rattle.device_course.specs.Held.{Held}
 use Rattle.nbd_core.specs.Haggling.{Haggled}
 use Rattle.nbd_core.specs.Room.{Room}
 use Rattle.nbd_core.specs.Running.{GoesOn, IsEarly, Talks}

@@ -1,28 +1,23 @@
 -- What requests make of a session's array, and how they follow one another.
-use Rattle.std.proofs.Common.{◌≡◌, ◌≤◌, ◌<◌, ◌+◌, ◌-◌, ◌*◌, ◌++◌, ◌∷◌, ◌∙◌, ℕ, zero, suc, Bool, true, false, List, [], Option, None, Some, Result, Ok, Err, inl, inr, length, take, drop, refl, sym, ap, subst, arith, append-nil, append_assoc, length-take}
+use Rattle.std.proofs.Common.{◌≡◌, ◌≤◌, ◌<◌, ◌+◌, ◌-◌, ◌*◌, ◌++◌, ◌∷◌, ◌∙◌, ℕ, Bool, true, false, List, [], Option, None, Some, Result, Ok, Err, inl, inr, length, take, drop, refl, sym, ap, subst, arith, append-nil, append_assoc, length-take}
 use Rattle.std.specs.Prelude.{IfOk, nat_lt}
 use Rattle.byte_arrays.specs.Ranges.{covered_blocks, touched_blocks}
 use Rattle.std.proofs.Math.Seq.{drop-append_seam, take-append-add}
 use Rattle.std.proofs.lemmas.List.{drop-take, map-append, take-append-le, take_all}
-use Rattle.sdbt_base.specs.Arrays.{Device, Session as OpenSession, closed, committed, committed_if, mounted}
+use Rattle.sdbt_base.specs.Arrays.{Device, Session as OpenSession, closed, mounted}
 use Rattle.sdbt_base.specs.declared.sinks.Sink.{Ghosts as SinkGhosts}
 use Rattle.sdbt_base.specs.declared.tapes.Tape.{Ghosts as TapeGhosts}
 use Rattle.platform.specs.Image.{Image}
-use Rattle.platform.specs.History.{CellStays, During, History, image_at}
+use Rattle.platform.specs.History.{CellStays, History}
 use Rattle.platform.specs.declared.platforms.Platform.{Ghosts as PlatformGhosts}
-use Rattle.platform.proofs.Moments.{During-now, LeavesOnly-now}
-use Rattle.page_store.specs.Stands.{Stands}
-use Rattle.page_store.proofs.StandsLaws.{stands_during}
 use Rattle.device_terms.specs.Served.{IsServedImage}
-use Rattle.device_terms.proofs.ServedLaws.{serves_still}
-use Rattle.device_course.specs.Marks.{Leaves, mark_at}
 use Rattle.device_course.specs.States.{IsAt, Outside, around}
-use Rattle.device_course.proofs.MadeLaws.{made_none, made_one, made_same, made_start, made_stopped, made_then, shut}
+use Rattle.device_course.proofs.HeldLaws.{needs_of}
+use Rattle.device_course.proofs.MadeLaws.{made_again, made_kept, made_quiet, made_since, made_start, made_then, shut}
 use Rattle.device_session.specs.Open.{IsOpen, blocks_of, needed_by}
 use Rattle.device_session.specs.declared.refusals.CommitReply.{CommitReply}
 use Rattle.device_session.specs.declared.refusals.CommitReply.TheVariants as replies
 use Rattle.device_session.specs.Sessions.{Session}
-use Rattle.device_session.proofs.CountLaws.{needs_none, needs_some}
 use Rattle.nbd_lang.specs.Refusals.{refusal, refusal_by}
 use Rattle.nbd_lang.specs.Replies.{Reply}
 use Rattle.nbd_lang.specs.Requests.{RequestSent}
@@ -31,11 +26,13 @@ use Rattle.nbd_lang.specs.declared.replies.Outcome.TheVariants as outcomes
 use Rattle.nbd_lang.specs.declared.requests.Request.{Request}
 use Rattle.nbd_lang.specs.declared.requests.RequestKind.{RequestKind}
 use Rattle.nbd_lang.specs.declared.requests.RequestKind.TheVariants as kinds
-use Rattle.nbd_terms.specs.Held.{Held, after_commit, after_trims, after_writes, Needs, size_of, state_of, trim_all}
-use Rattle.nbd_terms.specs.Leading.{Leads, Led, last_of, marks_of}
+use Rattle.device_course.specs.Held.{Held, IsHeld, after_commit, device_of, state_of, trim_all}
+use Rattle.nbd_terms.specs.Bytes.{after_trims, after_writes, size_of}
+use Rattle.device_course.specs.Leading.{Leads, Led, last_of, marks_of}
 use Rattle.nbd_terms.specs.Turn.{Answers, Flushes, Reads, Serves, Trims, Turn, Writes}
-use Rattle.nbd_terms.proofs.LeadingLaws.{last_of-append, leads_append}
+use Rattle.device_course.proofs.LeadingLaws.{last_of-append, leads_append}
 use Rattle.session_calls.specs.Commits.{AnswersCommit, AnswersReply, CommitLeads, ReplyLeads, StopsAt}
+use Rattle.session_calls.proofs.HeldLaws.{commit_stopped, committed_held, refused_held}
 use Rattle.session_calls.specs.declared.committing.Committed.{Committed}
 use Rattle.session_calls.specs.declared.stops.DeviceStop.{DeviceStop}
 use Rattle.session_calls.specs.declared.stops.DeviceStop.TheVariants as device
@@ -43,7 +40,8 @@ use Rattle.nbd_core.specs.Arrays.{DidSome, ReadsBytes, WroteRange}
 use Rattle.nbd_core.specs.Halts.{commit_halt, commit_outcome, outcome_after}
 use Rattle.nbd_core.specs.Serving.{bytes_of_reply, reply_of}
 use Rattle.nbd_core.specs.Requests.{DataEnd}
-use Rattle.nbd_core.specs.Turns.{Ended, Flushed, FlushedTo, Halted, HaltsAt, IsHeld, LeadsOn, MadeBetween, OnArray, Performs, Turned, device_of}
+use Rattle.device_course.specs.Course.{MadeBetween}
+use Rattle.nbd_core.specs.Turns.{Ended, Flushed, FlushedTo, Halted, HaltsAt, LeadsOn, OnArray, Performs, Turned}
 use Rattle.nbd_core.specs.declared.serving.Performed.{Performed}
 use Rattle.nbd_core.specs.declared.halts.Halt.{Halt}
 use Rattle.nbd_core.specs.declared.halts.Halt.TheVariants as halts
@@ -185,47 +183,6 @@ leads_as P platform platform_now session now Was Is (Ok outcome) then' leads tol
     (led.0, led.1, led.2, then' outcome entry led.0 led.3)
 leads_as P platform platform_now session now Was Is (Err halt) then' leads told entry held = tt
 
--- ---- the device
-
--- stayed while the cell did
-pub made_kept : (old new : History) (there : Device) → Stands old.present (Some there) → IsServedImage old.present → CellStays old new → MadeBetween old new there [] there
-made_kept old new there stands served stays =
-    let during : During old new (Leaves (Some there)) = stands_during old new (Some there) stands stays in
-    made_none old new None (closed (Some there)) (closed (Some there)) stands during refl
-    (shut new.present (Some there) (LeavesOnly-now new (λ left. Stands left (Some there)) (During-now old new (Leaves (Some there)) during)) (During-now old new IsServedImage (serves_still old new stays served)))
-
--- and a mark may tell of it again
-pub made_again : (old new : History) (there : Device) → MadeBetween old new there [] there → MadeBetween old new there (Some there ∷ []) there
-made_again old new there m = record {
-  passes = record {
-    extends = m.passes.extends;
-    mark = λ i. 0;
-    rises = λ i j le. omega arith;
-    within = λ i. omega arith;
-    each = m.passes.each;
-  };
-  last = refl;
-  exits = m.exits;
-}
-
-mark_same : (first : Option Device) (k : ℕ) → mark_at first (first ∷ []) k ≡ first
-mark_same first zero = refl
-mark_same first (suc k) = refl
-
--- or no mark does
-pub made_quiet : (old new : History) (there : Device) → MadeBetween old new there (Some there ∷ []) there → MadeBetween old new there [] there
-made_quiet old new there m = record {
-  passes = record {
-    extends = m.passes.extends;
-    mark = λ i. 0;
-    rises = λ i j le. omega arith;
-    within = λ i. omega arith;
-    each = λ i from to. subst (λ (d : Option Device). Leaves d (image_at new i)) (mark_same (Some there) (m.passes.mark i)) (m.passes.each i from to);
-  };
-  last = refl;
-  exits = m.exits;
-}
-
 -- ---- one after another
 
 -- so far requests had these replies, and led to a state that the session stands for
@@ -295,9 +252,6 @@ led_end first second third session entry asked replies IsEnd ahead so_far made i
 
 -- ---- from an earlier moment on, since which the device stayed
 
-pub made_since : (first second third : History) (entry last : Device) (marks : List (Option Device)) → MadeBetween first second entry [] entry → MadeBetween second third entry marks last → MadeBetween first third entry marks last
-made_since first second third entry last marks one two = made_then first second third None None (closed (Some entry)) (closed (Some entry)) (closed (Some last)) [] marks one two
-
 pub array_since : (first second third : Outside) (entry : Held) (asked : List RequestSent) (replies : List Reply) (IsEnd IsEndToo : Held → List Held → Type 0) → second.capacity ≡ first.capacity → ((last : Held) (ahead : List Held) → IsEnd last ahead → IsEndToo last ahead)
     → MadeBetween first.history second.history entry.device [] entry.device → OnArray second third entry asked replies IsEnd → OnArray first third entry asked replies IsEndToo
 array_since first second third entry asked replies IsEnd IsEndToo same then' one two = record {
@@ -312,37 +266,26 @@ array_since first second third entry asked replies IsEnd IsEndToo same then' one
 
 -- ---- a commit
 
-needs_of : (session : Session) (image : Image) (head : ℕ) (entry : Held) → IsOpen session head → IsHeld image head session entry → Needs entry (needed_by session)
-needs_of session image head entry there_open held = record {
-  none = λ idle. needs_none session head there_open (held.at.there.session.1 ∙ idle);
-  some = λ touched. needs_some session head there_open (held.at.there.session.1 ∙ touched);
-  most = held.needs;
-}
-
 -- that was answered
 flushed_by : {S R W : Type 0} (P : PlatformGhosts S) (T : TapeGhosts R) (L : SinkGhosts W) (platform platform_now : S) (tape tape_now : R) (ledger ledger_now : W) (session now : Session) (reply : CommitReply) (entry : Held) → IsOpen session (P.head platform)
     → IsHeld (P.history platform).present (P.head platform) session entry → AnswersReply P platform platform_now tape tape_now ledger ledger_now session now reply
     → ReplyLeads (P.history platform) (P.history platform_now) now entry.device entry.session reply
     → FlushedTo (around P T L platform tape ledger) (around P T L platform_now tape_now ledger_now) now (commit_outcome reply) entry
 flushed_by P T L platform platform_now tape tape_now ledger ledger_now session now (replies.Committed number) entry there_open held answers led =
-    let needed : ℕ = needed_by session in
-    let next : Held = after_commit entry needed in
+    let next = committed_held P platform platform_now tape tape_now ledger ledger_now session now number entry held answers led in
     record {
-      next = next;
-      held = record { at = led.0; pages = omega (arith, held.pages, answers.adds); needs = omega (arith, answers.needs) };
-      is = (needed, needs_of session (P.history platform).present (P.head platform) entry there_open held, omega (arith, answers.room, held.pages), refl);
-      made = made_one (P.history platform) (P.history platform_now) None (closed (Some entry.device)) (closed (Some next.device)) (Some next.device) held.at.there.device led.2
-          (shut (P.history platform_now).present (Some next.device) led.0.there.device led.0.served);
+      next = after_commit entry (needed_by session);
+      held = next.0;
+      is = (needed_by session, needs_of session (P.history platform).present (P.head platform) entry there_open held, next.1, refl);
+      made = next.2;
     }
 flushed_by P T L platform platform_now tape tape_now ledger ledger_now session now (replies.Full needed free) entry there_open held answers led =
-    let head : P.head platform_now ≡ P.head platform = ap P.head answers.same.1 in
-    let wants : needed_by now ≡ needed_by session = ap (λ (s : Session). needed_by s) answers.same.0 in
+    let same = refused_held P platform platform_now tape tape_now ledger ledger_now session now needed free entry held answers led in
     record {
       next = entry;
-      held = record { at = led.0; pages = held.pages ∙ sym head; needs = omega (arith, held.needs, wants) };
-      is = (needed_by session, needs_of session (P.history platform).present (P.head platform) entry there_open held, omega (arith, answers.short, answers.is_needed, answers.is_free, held.pages), refl);
-      made = made_same (P.history platform) (P.history platform_now) None (closed (Some entry.device)) (closed (Some entry.device)) held.at.there.device led.1
-          (shut (P.history platform_now).present (Some entry.device) led.0.there.device led.0.served);
+      held = same.0;
+      is = (needed_by session, needs_of session (P.history platform).present (P.head platform) entry there_open held, same.1, refl);
+      made = same.2;
     }
 
 pub flushed_to : {S R W : Type 0} (P : PlatformGhosts S) (T : TapeGhosts R) (L : SinkGhosts W) (platform platform_now : S) (tape tape_now : R) (ledger ledger_now : W) (session : Session) (done : Committed) (outcome : Outcome) (entry : Held) → IsOpen session (P.head platform)
@@ -360,41 +303,9 @@ pub commit_halted : {S R W : Type 0} (P : PlatformGhosts S) (T : TapeGhosts R) (
     → IsServedImage (P.history platform_now).present → CommitLeads (P.history platform) (P.history platform_now) entry.device entry.session (Err stop)
     → Halted (around P T L platform tape ledger) (around P T L platform_now tape_now ledger_now) entry kinds.Flush halt
 commit_halted P T L platform platform_now tape tape_now ledger ledger_now session stop halt entry there_open e held stops_at served led =
-    subst (λ (h : Halt). Halted (around P T L platform tape ledger) (around P T L platform_now tape_now ledger_now) entry kinds.Flush h) (sym e) (by stop led)
-  where
-    before : History
-    before = P.history platform
-
-    now : History
-    now = P.history platform_now
-
-    stands : Stands before.present (Some entry.device)
-    stands = held.at.there.device
-
-    none : During before now (Leaves (Some entry.device)) → MadeBetween before now entry.device [] entry.device
-    none during = made_none before now None (closed (Some entry.device)) (closed (Some entry.device)) stands during refl
-        (shut now.present (Some entry.device) (LeavesOnly-now now (λ left. Stands left (Some entry.device)) (During-now before now (Leaves (Some entry.device)) during)) served)
-
-    next : Held
-    next = after_commit entry (needed_by session)
-
-    made_next : committed entry.device entry.session ≡ next.device
-    made_next = sym (ap (λ (t : Bool). committed_if t entry.device entry.session) (sym held.at.there.session.1 ∙ stops_at.touched))
-
-    by : (s : DeviceStop) → CommitLeads before now entry.device entry.session (Err s) → Halted (around P T L platform tape ledger) (around P T L platform_now tape_now ledger_now) entry kinds.Flush (commit_halt s)
-    by device.Platform turns = elim (made_stopped before now (closed (Some entry.device)) (Some (committed entry.device entry.session)) stands served turns) [
-      | inl nothing ↦ record { ahead = []; is = inl refl; made = nothing }
-      | inr one ↦ record {
-        ahead = next ∷ [];
-        is = inr (tt, next, refl, (needed_by session, needs_of session before.present (P.head platform) entry there_open held, omega (arith, stops_at.room, held.pages), refl));
-        made = subst (λ (d : Device). MadeBetween before now entry.device (Some d ∷ []) d) made_next one;
-      }
-    ]
-    by device.Tape during = record { ahead = []; is = refl; made = none during }
-    by device.Ledger during = record { ahead = []; is = refl; made = none during }
-    by device.Memory during = record { ahead = []; is = refl; made = none during }
-    by device.BadRoot led = absurd led
-    by (device.BadRecord addr) led = absurd led
+    let stopped = commit_stopped P T platform platform_now tape tape_now session stop entry (λ ahead s. HaltsAt (P.capacity platform) entry kinds.Flush ahead (commit_halt s)) (inl refl, refl, refl, refl)
+    (λ needed needs room. inr (tt, after_commit entry needed, refl, (needed, needs, room, refl))) there_open held stops_at served led in
+    subst (λ (h : Halt). Halted (around P T L platform tape ledger) (around P T L platform_now tape_now ledger_now) entry kinds.Flush h) (sym e) (record { ahead = stopped.0; is = stopped.1; made = stopped.2 })
 
 -- ---- a disconnect
 

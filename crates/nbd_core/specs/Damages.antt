@@ -1,18 +1,12 @@
 -- Records that don't fit, which replies tell of.
-use Rattle.std.specs.Prelude.{◌≡◌, ◌≤◌, ℕ, Result, IfOk, IsErrOf}
+use Rattle.std.specs.Prelude.{◌≡◌, ◌≤◌, ℕ, Result, IfOk}
 use Rattle.platform.specs.Image.{Image}
 use Rattle.platform.specs.History.{History, image_at, moment}
 use Rattle.nbd_lang.specs.declared.replies.Outcome.{Outcome}
 use Rattle.nbd_lang.specs.declared.replies.Outcome.TheVariants as outcomes
 use Rattle.session_calls.specs.Damage.{IsWrongPage}
-use Rattle.session_calls.specs.declared.stops.DeviceStop.{DeviceStop}
-use Rattle.session_calls.specs.declared.stops.DeviceStop.TheVariants as device
 use Rattle.nbd_core.specs.Exchanges.{Exchange}
 use Rattle.nbd_core.specs.declared.halts.Halt.{Halt}
-
--- a call that stopped at a record that doesn't fit named one of the image
-abbrev pub MeetsDamage : {X : Type 0} → Image → Result X DeviceStop → Type 0
-MeetsDamage image result = (addr : ℕ) → IsErrOf result (device.BadRecord addr) → IsWrongPage image addr
 
 -- a page of the image doesn't fit its place
 abbrev pub HasWrongPage : Image → Type 0

@@ -11,7 +11,7 @@ use Rattle.device_terms.specs.Served.{IsServedImage}
 use Rattle.sdbt_base.specs.Counts.{Counts, InputRose, LedgerRose, NoneFell, NoneRose, OutputRose, PlatformRose, TapeRose}
 use Rattle.sdbt_base.specs.Arrays.{Device}
 use Rattle.page_store.specs.Stands.{Stands}
-use Rattle.nbd_terms.specs.Held.{Held}
+use Rattle.device_course.specs.Held.{Held}
 use Rattle.nbd_core.specs.Ample.{IsServedOut, changed_in}
 use Rattle.nbd_core.specs.Exchanges.{Exchange}
 use Rattle.nbd_core.specs.Halts.{status_at}
@@ -20,7 +20,7 @@ use Rattle.nbd_core.specs.Turns.{IsStart}
 use Rattle.nbd_core.specs.declared.haggling.Agreed.{Agreed}
 use Rattle.nbd_core.specs.declared.haggling.Agreed.TheVariants as agreed
 use Rattle.nbd_core.specs.declared.stop.Stop.{Stop}
-use Rattle.nbd_core.specs.Serving.{counts_of}
+use Rattle.session_calls.specs.Blame.{counts_of}
 use Rattle.nbd_core.specs.Running.{GoesOn, Talks, Untouched}
 use Rattle.nbd_core.specs.declared.halts.Halt.{Halt}
 use Rattle.nbd_core.specs.declared.halts.Halt.TheVariants as halts

@@ -11,7 +11,7 @@ use Rattle.device_course.specs.Marks.{last_mark}
 use Rattle.device_course.specs.States.{Outside, IsLater}
 use Rattle.session_calls.specs.declared.stops.DeviceStop.{DeviceStop}
 use Rattle.session_calls.specs.declared.stops.DeviceStop.TheVariants as device
-use Rattle.nbd_terms.specs.Held.{Held}
+use Rattle.device_course.specs.Held.{Held}
 use Rattle.nbd_core.specs.Room.{Room}
 use Rattle.nbd_core.specs.Haggling.{Haggled}
 use Rattle.nbd_core.specs.Served.{Served}

@@ -13,7 +13,8 @@ use Rattle.nbd_lang.specs.declared.replies.Outcome.TheVariants as outcomes
 use Rattle.nbd_lang.specs.declared.requests.Request.{Request}
 use Rattle.nbd_lang.specs.declared.requests.RequestKind.{RequestKind}
 use Rattle.nbd_lang.specs.declared.requests.RequestKind.TheVariants as kinds
-use Rattle.nbd_terms.specs.Held.{Held, size_of}
+use Rattle.device_course.specs.Held.{Held}
+use Rattle.nbd_terms.specs.Bytes.{size_of}
 use Rattle.nbd_terms.specs.Turn.{Turn, Ends, IsUnfinished}
 use Rattle.nbd_core.specs.Ample.{Completes, HasRoom}
 use Rattle.nbd_core.specs.Damages.{HasMetDamage, IsDamage}

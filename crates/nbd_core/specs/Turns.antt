@@ -1,41 +1,25 @@
 -- What requests make of a session's array, and of the device below it.
-use Rattle.std.specs.Prelude.{◌≡◌, ◌≤◌, ◌⊎◌, ◌-◌, ◌*◌, ℕ, List, [], ◌∷◌, Option, None, Some, Result, Ok, Err, IfOk, IfSome}
-use Rattle.sdbt_base.specs.Arrays.{Device, closed, session_on}
+use Rattle.std.specs.Prelude.{◌≡◌, ◌⊎◌, ◌-◌, ℕ, List, [], ◌∷◌, Option, Some, Result, Ok, Err, IfOk, IfSome}
+use Rattle.sdbt_base.specs.Arrays.{session_on}
 use Rattle.platform.specs.declared.platforms.Platform.{Ghosts as PlatformGhosts}
-use Rattle.platform.specs.Image.{Image}
 use Rattle.platform.specs.History.{History}
 use Rattle.page_store.specs.Stands.{Stands}
 use Rattle.device_terms.specs.Served.{IsServedImage}
-use Rattle.device_course.specs.Course.{Made}
-use Rattle.device_course.specs.States.{Outside, IsAt}
-use Rattle.device_session.specs.Open.{needed_by}
+use Rattle.device_course.specs.Course.{MadeBetween}
+use Rattle.device_course.specs.States.{Outside}
 use Rattle.device_session.specs.Sessions.{Session}
 use Rattle.nbd_lang.specs.Replies.{Reply}
 use Rattle.nbd_lang.specs.Requests.{RequestSent}
 use Rattle.nbd_lang.specs.declared.replies.Outcome.{Outcome}
 use Rattle.nbd_lang.specs.declared.requests.RequestKind.{RequestKind}
 use Rattle.nbd_lang.specs.declared.requests.RequestKind.TheVariants as kinds
-use Rattle.nbd_terms.specs.Held.{Held, state_of}
-use Rattle.nbd_terms.specs.Leading.{Led, last_of, marks_of}
+use Rattle.device_course.specs.Held.{Held, IsHeld, device_of}
+use Rattle.device_course.specs.Leading.{Led, last_of, marks_of}
 use Rattle.nbd_terms.specs.Turn.{Turn, Ends, Flushes, IsUnfinished}
 use Rattle.nbd_core.specs.Serving.{reply_of}
 use Rattle.nbd_core.specs.declared.halts.Halt.{Halt}
 use Rattle.nbd_core.specs.declared.halts.Halt.TheVariants as halts
 use Rattle.nbd_core.specs.declared.serving.Performed.{Performed}
-
--- the session, over an image of so many pages, stands for this: the array is its own, and a commit of
--- it needs 41 pages for each update at most
-pub record IsHeld (image : Image) (head : ℕ) (session : Session) (held : Held) : Type 0 where
-  pub at : IsAt image (Some session) (state_of held)
-  pub pages : held.pages ≡ head
-  pub needs : needed_by session ≤ 41 * held.updates
-
--- the device came to be these others in their order, and is this one at the end
-abbrev pub MadeBetween : History → History → Device → List (Option Device) → Device → Type 0
-MadeBetween old new first marks last = Made old new None (closed (Some first)) marks (closed (Some last))
-
-abbrev pub device_of : Held → Device
-device_of held = held.device
 
 -- calls for blocks that came to an outcome: from each state that the session and the image stood for
 -- they led to one of the same device that these stand for now

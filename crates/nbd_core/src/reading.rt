@@ -6,12 +6,13 @@ ghost use Rattle.sdbt_base.specs.Counts.{Counts};
 ghost use Rattle.sdbt_base.specs.Arrays.{Device, Session as OpenSession, mounted};
 ghost use Rattle.device_course.specs.States.{IsAt};
 ghost use Rattle.nbd_core.specs.Arrays.{ReadsBytes};
-ghost use Rattle.session_calls.specs.Damage.{IsMounted};
-ghost use Rattle.nbd_core.specs.Damages.{MeetsDamage, TellsDamage};
+ghost use Rattle.session_calls.specs.Damage.{IsMounted, MeetsDamage};
+ghost use Rattle.nbd_core.specs.Damages.{TellsDamage};
 ghost use Rattle.nbd_core.specs.Halts.{Blames};
 ghost use Rattle.nbd_core.specs.Requests.{DataEnd};
 ghost use Rattle.nbd_terms.specs.Turn.{Reads};
-ghost use Rattle.nbd_core.specs.Serving.{Calls, IsWithin, bytes_of_reply};
+ghost use Rattle.session_calls.specs.Calling.{Calls};
+ghost use Rattle.nbd_core.specs.Serving.{IsWithin, bytes_of_reply};
 ghost use Rattle.nbd_core.specs.Turns.{LeadsOn};
 
 use crate::halts::{Halt, after_stop};
@@ -81,7 +82,7 @@ fn read_range<P: Platform>(
         → IsAt (P.history platform.old).present (Some session.old) (mounted device array)
         → ReadsBytes (P.history platform.new).present session.new device array at out.new result }
     ensures damage { P.tells → IsMounted (P.history platform.old).present session.old
-        → MeetsDamage (P.history platform.new).present result }
+        → IfErr result (MeetsDamage (P.history platform.new).present) }
 {
     let mut done = 0;
     while done < out.len() {
@@ -115,7 +116,7 @@ fn read_part<P: Platform>(
         → ReadsBytes (P.history platform.new).present session.new device array
         (4096 * part.block + part.start) out.new result }
     ensures damage { P.tells → IsMounted (P.history platform.old).present session.old
-        → MeetsDamage (P.history platform.new).present result }
+        → IfErr result (MeetsDamage (P.history platform.new).present) }
 {
     if part.is_whole() {
         return read_block(session, platform, part.block, out);

@@ -4,7 +4,8 @@ ghost use Rattle.device_terms.specs.Served.{IsServedImage};
 ghost use Rattle.device_course.specs.States.{around};
 ghost use Rattle.device_session.specs.Open.{blocks_of, needed_by};
 ghost use Rattle.nbd_core.specs.Halts.{Blames, IsLate};
-ghost use Rattle.nbd_core.specs.Serving.{Carries, IsReady, counts_of};
+ghost use Rattle.session_calls.specs.Blame.{counts_of};
+ghost use Rattle.session_calls.specs.Carrying.{Carries, IsReady};
 ghost use Rattle.nbd_core.specs.Turns.{IsFrom};
 ghost use Rattle.nbd_core.specs.Running.{Spans, Says, Talks, Looked, Untouched, OfCell, OfMount, cell_halt, mount_halt, IsOnCell};
 

@@ -19,7 +19,9 @@ ghost use Rattle.nbd_core.specs.Halts.{Blames, commit_outcome};
 ghost use Rattle.nbd_core.specs.Requests.{DataCame, DataEnd, HeadCame};
 ghost use Rattle.nbd_core.specs.Served.{Answered, EndsByDisconnect, Served};
 ghost use Rattle.nbd_core.specs.Turns.{Finishes, Flushed, IsFrom, LeadsOn, Performs};
-ghost use Rattle.nbd_core.specs.Serving.{Carries, IsReady, counts_of, goes_on, performed, bytes_of_reply};
+ghost use Rattle.session_calls.specs.Blame.{counts_of};
+ghost use Rattle.session_calls.specs.Carrying.{Carries, IsReady};
+ghost use Rattle.nbd_core.specs.Serving.{goes_on, performed, bytes_of_reply};
 
 use crate::haggling::put;
 use crate::halts::{Halt, after_commit};

@@ -1,5 +1,5 @@
 //! Writes.
-ghost use Rattle.std.specs.Prelude.{Some, OnErr, ◌≡◌, ◌≢◌, ◌+◌, ◌-◌, ◌*◌, ◌≤◌, ◌<◌, ◌^◌, ℕ, IfOk, length};
+ghost use Rattle.std.specs.Prelude.{Some, IfErr, OnErr, ◌≡◌, ◌≢◌, ◌+◌, ◌-◌, ◌*◌, ◌≤◌, ◌<◌, ◌^◌, ℕ, IfOk, length};
 ghost use Rattle.byte_arrays.specs.Ranges.{touched_blocks};
 ghost use Rattle.device_session.specs.Open.{IsOpen, blocks_of, needed_by};
 ghost use Rattle.device_course.specs.States.{IsAt};
@@ -9,10 +9,11 @@ ghost use Rattle.nbd_core.specs.Arrays.{AddsOne, WritesPart, WroteRange};
 ghost use Rattle.session_calls.specs.Along.{Along, drawn_by};
 ghost use Rattle.sdbt_base.specs.Counts.{Counts, NoneFell};
 ghost use Rattle.session_calls.specs.Blame.{HasCause, IsOfCall};
-ghost use Rattle.session_calls.specs.Damage.{IsMounted};
-ghost use Rattle.nbd_core.specs.Damages.{MeetsDamage, TellsDamage};
+ghost use Rattle.session_calls.specs.Damage.{IsMounted, MeetsDamage};
+ghost use Rattle.nbd_core.specs.Damages.{TellsDamage};
 ghost use Rattle.nbd_core.specs.Halts.{Blames, outcome_after};
-ghost use Rattle.nbd_core.specs.Serving.{Calls, IsWithin};
+ghost use Rattle.session_calls.specs.Calling.{Calls};
+ghost use Rattle.nbd_core.specs.Serving.{IsWithin};
 ghost use Rattle.nbd_core.specs.Requests.{DataCame};
 ghost use Rattle.nbd_core.specs.Turns.{LeadsOn};
 
@@ -188,7 +189,7 @@ fn write_part<P: Platform, T: Tape>(
     ensures adds { AddsOne (P.head platform.old) (P.head platform.new) result }
     ensures needs { OnErr result (needed_by session.new ≤ needed_by session.old) }
     ensures damage { P.tells → IsMounted (P.history platform.old).present session.old
-        → MeetsDamage (P.history platform.new).present result }
+        → IfErr result (MeetsDamage (P.history platform.new).present) }
 {
     if part.is_whole() {
         return write_block(session, platform, tape, part.block, bytes);

@@ -11,7 +11,8 @@ use Rattle.byte_arrays.specs.Arrays.{bytes_at, with_bytes}
 use Rattle.byte_arrays.specs.Ranges.{IsCovered, blocks_from, touched_blocks, covered_blocks}
 use Rattle.byte_arrays.proofs.RangeLaws.{covered_is, is_covered}
 use Rattle.byte_arrays.proofs.ArrayLaws.{length-bytes_at, get_or-bytes_at, with_before, with_behind}
-use Rattle.nbd_terms.specs.Held.{array_of, write_all, trim_all}
+use Rattle.device_course.specs.Held.{trim_all}
+use Rattle.nbd_terms.specs.Bytes.{array_of, write_all}
 use Rattle.nbd_terms.proofs.WritingLaws.{written_other}
 
 -- ---- writes

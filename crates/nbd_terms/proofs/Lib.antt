@@ -1,3 +1,2 @@
-pub mod LeadingLaws
 pub mod WritingLaws
 pub mod ArrayOfLaws

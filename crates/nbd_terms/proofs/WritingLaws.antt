@@ -11,8 +11,10 @@ use Rattle.byte_arrays.specs.Arrays.{bytes_at, with_bytes}
 use Rattle.byte_arrays.specs.Ranges.{blocks_from}
 use Rattle.byte_arrays.specs.Parts.{IsPart, IsAtPart}
 use Rattle.byte_arrays.proofs.ArrayLaws.{bytes_are, byte_in_block}
-use Rattle.byte_arrays.proofs.RangeLaws.{part_block}
-use Rattle.nbd_terms.specs.Held.{array_of, write_all, trim_all}
+use Rattle.byte_arrays.proofs.RangeLaws.{blocks_from-more, part_block}
+use Rattle.device_course.specs.Held.{trim_all}
+use Rattle.device_course.proofs.HeldLaws.{trim_all-more}
+use Rattle.nbd_terms.specs.Bytes.{array_of, write_all}
 
 -- a block that isn't written is as before
 pub content_other : (contents : Blocks) (block other : ℕ) (bytes : List ℕ) → other ≢ block → content_of (map.insert contents block bytes) other ≡ content_of contents other
@@ -47,13 +49,7 @@ write_more session array first (suc n) =
 
 -- one trim more
 pub trim_more : (session : Session) (first n : ℕ) → trim_all session (blocks_from first (n + 1)) ≡ unmapped (trim_all session (blocks_from first n)) (first + n)
-trim_more session first zero =
-    let e : first ≡ first + 0 = omega arith in
-    ap (unmapped session) e
-trim_more session first (suc n) =
-    let e : (first + 1) + n ≡ first + suc n = omega arith in
-    let s : suc n + 1 ≡ suc (n + 1) = omega arith in
-    rw s (trim_more (unmapped session first) (first + 1) n ∙ ap (unmapped (trim_all (unmapped session first) (blocks_from (first + 1) n))) e)
+trim_more session first n = ap (trim_all session) (blocks_from-more first n) ∙ trim_all-more session (blocks_from first n) (first + n)
 
 -- what a block holds that comes next is what the array had there before the write
 pub block_before : (session : Session) (array : ℕ → ℕ) (first n block : ℕ) (content : List ℕ) → block ≡ first + n → content ≡ content_of (write_all session array (blocks_from first n)).contents block

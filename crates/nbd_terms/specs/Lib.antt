@@ -1,3 +1,2 @@
-pub mod Held
+pub mod Bytes
 pub mod Turn
-pub mod Leading

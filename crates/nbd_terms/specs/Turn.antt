@@ -10,7 +10,8 @@ use Rattle.nbd_lang.specs.declared.requests.RequestKind.{RequestKind}
 use Rattle.nbd_lang.specs.declared.requests.RequestKind.TheVariants.{Read, Write, Disconnect, Flush, Trim, Other}
 use Rattle.nbd_lang.specs.declared.replies.Outcome.{Outcome}
 use Rattle.nbd_lang.specs.declared.replies.Outcome.TheVariants.{Done, NoMemory, NoSpace}
-use Rattle.nbd_terms.specs.Held.{Held, array_of, size_of, after_writes, after_trims, after_commit, Needs}
+use Rattle.device_course.specs.Held.{Held, after_commit, Needs}
+use Rattle.nbd_terms.specs.Bytes.{array_of, size_of, after_writes, after_trims}
 
 -- a read: the bytes of the array; or no memory was given
 abbrev pub Reads : Held → Request → Outcome → List ℕ → Held → Type 0

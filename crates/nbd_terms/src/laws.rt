@@ -6,9 +6,10 @@ ghost use Rattle.byte_arrays.specs.Ranges.{IsCovered, blocks_from, touched_block
 ghost use Rattle.byte_arrays.specs.Parts.{IsPart, IsAtPart};
 ghost use Rattle.nbd_lang.specs.Requests.{RequestSent};
 ghost use Rattle.nbd_lang.specs.Replies.{Reply};
-ghost use Rattle.nbd_terms.specs.Held.{Held, array_of, write_all, trim_all};
+ghost use Rattle.device_course.specs.Held.{Held, trim_all};
+ghost use Rattle.nbd_terms.specs.Bytes.{array_of, write_all};
 ghost use Rattle.nbd_terms.specs.Turn.{Turn};
-ghost use Rattle.nbd_terms.specs.Leading.{last_of, Led, EndsAt};
+ghost use Rattle.device_course.specs.Leading.{last_of, Led, EndsAt};
 
 /// A law: after a write, block by block, the array has the write's bytes in their place, and all
 /// others as before.

@@ -5,3 +5,7 @@ pub mod LookLaws
 pub mod AlongLaws
 pub mod CommitLaws
 pub mod MountLaws
+pub mod CarryLaws
+pub mod CallLaws
+pub mod DamageLaws
+pub mod HeldLaws

@@ -1,8 +1,16 @@
 -- What a stop of the device is due to.
 use Rattle.std.specs.Prelude.{◌≡◌, Result, OnOk, IfErr}
-use Rattle.sdbt_base.specs.Counts.{Counts, PlatformRose, TapeRose, LedgerRose, NoneFell}
+use Rattle.sdbt_base.specs.Counts.{Counts, PlatformRose, TapeRose, LedgerRose, NoneFell, counts}
+use Rattle.sdbt_base.specs.declared.sinks.Sink.{Ghosts as SinkGhosts}
+use Rattle.sdbt_base.specs.declared.sources.Source.{Ghosts as SourceGhosts}
+use Rattle.sdbt_base.specs.declared.tapes.Tape.{Ghosts as TapeGhosts}
+use Rattle.platform.specs.declared.platforms.Platform.{Ghosts as PlatformGhosts}
 use Rattle.session_calls.specs.declared.stops.DeviceStop.{DeviceStop}
 use Rattle.session_calls.specs.declared.stops.DeviceStop.TheVariants as stops
+
+-- the counts of faults of all that a run is handed
+abbrev pub counts_of : {S R I O L : Type 0} → PlatformGhosts S → TapeGhosts R → SourceGhosts I → SinkGhosts O → SinkGhosts L → S → R → I → O → L → Counts
+counts_of P T I O L platform tape input output ledger = counts (P.faults platform) (T.faults tape) (I.faults input) (O.faults output) (L.faults ledger)
 
 -- a stop that names a fault comes where the count of that object rose, and that of no other; at each other stop all are as they were
 abbrev pub HasCause : Counts → Counts → DeviceStop → Type 0

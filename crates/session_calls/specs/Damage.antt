@@ -35,6 +35,15 @@ pub record IsMiscountedAt (image : Image) (addr : ℕ) : Type 0 where
 abbrev pub IsWrongPage : Image → ℕ → Type 0
 IsWrongPage image addr = IsWrongPlace image addr ⊎ IsMiscountedAt image addr
 
+-- a stop at a record that doesn't fit names one, on any pages
+abbrev pub MeetsDamage : Image → DeviceStop → Type 0
+MeetsDamage image (stops.BadRecord addr) = IsWrongPage image addr
+MeetsDamage image stops.Platform = Unit {0}
+MeetsDamage image stops.Tape = Unit {0}
+MeetsDamage image stops.Ledger = Unit {0}
+MeetsDamage image stops.Memory = Unit {0}
+MeetsDamage image stops.BadRoot = ⊥
+
 -- why a read of a block was answered so, on any pages, where this is known of the session: the bytes are those that a look-up of the block comes to; or a place that doesn't fit is
 -- named; or the platform failed
 abbrev pub ReadsAny : Type 0 → Image → Image → Session → ℕ → List ℕ → Result (Unit {0}) DeviceStop → Type 0

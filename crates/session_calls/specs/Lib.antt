@@ -5,3 +5,5 @@ pub mod Goes
 pub mod Commits
 pub mod Cells
 pub mod Mounts
+pub mod Calling
+pub mod Carrying

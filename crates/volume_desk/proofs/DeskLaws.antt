@@ -6,19 +6,15 @@ use Rattle.std.proofs.lemmas.List.Edits.{length-insert}
 use Rattle.std.proofs.lemmas.Option.{get_or_from_slice_get, slice_get_within}
 use Rattle.sdbt_base.specs.Arrays.{Device, Session as OpenSession, mounted, unmapped, written}
 use Rattle.platform.specs.Image.{Image}
-use Rattle.platform.specs.declared.platforms.Platform.{Ghosts as PlatformGhosts}
 use Rattle.byte_arrays.specs.Ranges.{blocks_from}
 use Rattle.device_course.specs.States.{IsAt}
-use Rattle.device_session.specs.Open.{IsOpen, needed_by}
+use Rattle.device_session.specs.Open.{needed_by}
 use Rattle.device_session.specs.Sessions.{Session}
 use Rattle.line_run.specs.Stops.{IsSound}
-use Rattle.nbd_terms.specs.Held.{Held, trim_all}
-use Rattle.session_calls.specs.Along.{Drawn}
-use Rattle.session_calls.specs.Damage.{ReadsAny, TrimsAny, WritesAny}
+use Rattle.device_course.specs.Held.{Held, trim_all}
 use Rattle.session_calls.specs.Goes.{ReadsBlock, TrimsBlock, WritesBlock}
 use Rattle.session_calls.specs.declared.stops.DeviceStop.{DeviceStop}
 use Rattle.session_calls.specs.declared.stops.DeviceStop.TheVariants as stops
-use Rattle.session_calls.proofs.AlongLaws.{along_start}
 use Rattle.volume_table.specs.Tables.{FitsAt, IsLeastStart, IsPlaced, IsTable, table_bytes}
 use Rattle.volume_table.specs.declared.volume.Volume.{Volume}
 use Rattle.volume_lines.specs.Replies.{Reply, said}
@@ -28,26 +24,11 @@ use Rattle.volume_terms.specs.Turn.{OnBlock}
 use Rattle.volume_terms.specs.Volumes.{HasNoRoom, IsBlockOf, IsCount, IsNamed, IsNew, changed}
 use Rattle.volume_terms.proofs.KeepingLaws.{changed_tabled, in_volume, trimmed_at, trimmed_tabled, wrote, wrote_tabled}
 use Rattle.volume_terms.proofs.TableLaws.{not_first}
-use Rattle.volume_desk.specs.Calling.{Calls, MeetsDamage}
 use Rattle.volume_desk.specs.Turns.{Changed, IsBlockAt, IsHeld, NoBlock}
-use Rattle.volume_desk.proofs.CallLaws.{along_more}
-
--- ---- calls
 
 pub on_ok : {X E : Type 0} (result : Result X E) (Claim : Type 0) → Claim → OnOk result Claim
 on_ok (Ok x) Claim claim = claim
 on_ok (Err e) Claim claim = tt
-
--- none
-pub calls_none : {S X : Type 0} (P : PlatformGhosts S) (updates : ℕ) (platform : S) (drawn : Drawn) (session : Session) (x : X) → IsOpen session (P.head platform) → Calls P updates platform platform drawn drawn session session (Ok x)
-calls_none P updates platform drawn session x there_open =
-    record { along = along_more P 0 updates platform platform drawn drawn session session (omega arith) (along_start P platform drawn session there_open); stops = tt; quiet = refl; cause = tt }
-
--- that were done, whatever is answered
-pub calls_done : {S X Y : Type 0} (P : PlatformGhosts S) (some more : ℕ) (platform platform_now : S) (drawn drawn_now : Drawn) (session now : Session) (x : X) (y : Y) → some ≤ more
-    → Calls P some platform platform_now drawn drawn_now session now (Ok x) → Calls P more platform platform_now drawn drawn_now session now (Ok y)
-calls_done P some more platform platform_now drawn drawn_now session now x y le calls =
-    record { along = along_more P some more platform platform_now drawn drawn_now session now le calls.along; stops = tt; quiet = calls.quiet; cause = tt }
 
 -- ---- stops
 
@@ -74,30 +55,6 @@ trim_sound image now device array block stops.Tape at = absurd at
 trim_sound image now device array block stops.Ledger at = absurd at
 trim_sound image now device array block stops.BadRoot at = absurd at
 trim_sound image now device array block (stops.BadRecord addr) at = absurd at
-
-pub read_damage : (Known : Type 0) (image after : Image) (session : Session) (block : ℕ) (bytes : List ℕ) (stop : DeviceStop) → ReadsAny Known image after session block bytes (Err stop) → Known → MeetsDamage after stop
-read_damage Known image after session block bytes stops.Platform any known = tt
-read_damage Known image after session block bytes stops.Memory any known = absurd any
-read_damage Known image after session block bytes stops.Tape any known = absurd any
-read_damage Known image after session block bytes stops.Ledger any known = absurd any
-read_damage Known image after session block bytes stops.BadRoot any known = absurd any
-read_damage Known image after session block bytes (stops.BadRecord addr) any known = inl (any known)
-
-pub write_damage : (Known : Type 0) (image after : Image) (session : Session) (block : ℕ) (stop : DeviceStop) → WritesAny Known image after session block (Err stop) → Known → MeetsDamage after stop
-write_damage Known image after session block stops.Platform any known = tt
-write_damage Known image after session block stops.Memory any known = tt
-write_damage Known image after session block stops.Tape any known = tt
-write_damage Known image after session block stops.Ledger any known = absurd any
-write_damage Known image after session block stops.BadRoot any known = absurd any
-write_damage Known image after session block (stops.BadRecord addr) any known = elim (any known) [ inl place ↦ inl place | inr counted ↦ inr counted.0 ]
-
-pub trim_damage : (Known : Type 0) (image after : Image) (session : Session) (block : ℕ) (stop : DeviceStop) → TrimsAny Known image after session block (Err stop) → Known → MeetsDamage after stop
-trim_damage Known image after session block stops.Platform any known = tt
-trim_damage Known image after session block stops.Memory any known = tt
-trim_damage Known image after session block stops.Tape any known = absurd any
-trim_damage Known image after session block stops.Ledger any known = absurd any
-trim_damage Known image after session block stops.BadRoot any known = absurd any
-trim_damage Known image after session block (stops.BadRecord addr) any known = elim (any known) [ inl place ↦ inl place | inr counted ↦ inr counted.0 ]
 
 -- ---- what a session and a table stand for
 
@@ -152,11 +109,6 @@ held_changed image image_now head head_now session now table next entry v held t
   needs = omega (arith, held.needs, needs);
   tabled = changed_tabled entry next v is least;
 }
-
-pub calls_more : {S X : Type 0} (P : PlatformGhosts S) (some more : ℕ) (platform platform_now : S) (drawn drawn_now : Drawn) (session now : Session) (result : Result X DeviceStop) → some ≤ more
-    → Calls P some platform platform_now drawn drawn_now session now result → Calls P more platform platform_now drawn drawn_now session now result
-calls_more P some more platform platform_now drawn drawn_now session now result le calls =
-    record { along = along_more P some more platform platform_now drawn drawn_now session now le calls.along; stops = calls.stops; quiet = calls.quiet; cause = calls.cause }
 
 -- ---- tables
 

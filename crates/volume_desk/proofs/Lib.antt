@@ -1,4 +1,2 @@
-pub mod CarryLaws
-pub mod CallLaws
 pub mod TurnLaws
 pub mod DeskLaws

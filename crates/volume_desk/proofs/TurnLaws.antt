@@ -1,28 +1,24 @@
 -- What a line makes of a session's array and its table, and of the device below them.
-use Rattle.std.proofs.Common.{◌≡◌, ◌≤◌, ◌∷◌, ◌∙◌, ℕ, Bool, List, [], Option, None, Some, Result, Ok, Err, inl, inr, refl, sym, ap, subst, arith}
-use Rattle.sdbt_base.specs.Arrays.{Device, closed, committed, committed_if}
+use Rattle.std.proofs.Common.{◌≡◌, ◌≤◌, ◌∷◌, ◌∙◌, ℕ, List, [], Option, None, Some, Result, Ok, Err, inl, inr, refl, sym, ap, subst, arith}
+use Rattle.sdbt_base.specs.Arrays.{Device}
 use Rattle.sdbt_base.specs.declared.sinks.Sink.{Ghosts as SinkGhosts}
 use Rattle.sdbt_base.specs.declared.tapes.Tape.{Ghosts as TapeGhosts}
 use Rattle.platform.specs.Image.{Image}
-use Rattle.platform.specs.History.{CellStays, During, History}
+use Rattle.platform.specs.History.{CellStays}
 use Rattle.platform.specs.declared.platforms.Platform.{Ghosts as PlatformGhosts}
-use Rattle.platform.proofs.Moments.{During-now, LeavesOnly-now}
-use Rattle.page_store.specs.Stands.{Stands}
-use Rattle.page_store.proofs.StandsLaws.{stands_during}
 use Rattle.device_terms.specs.Served.{IsServedImage}
-use Rattle.device_terms.proofs.ServedLaws.{serves_still}
-use Rattle.device_course.specs.Marks.{Leaves}
 use Rattle.device_course.specs.States.{IsAt, Outside, around}
-use Rattle.device_course.proofs.MadeLaws.{made_none, made_one, made_same, made_stopped, made_then, shut}
+use Rattle.device_course.proofs.MadeLaws.{made_again, made_kept, made_since}
 use Rattle.device_session.specs.Open.{IsOpen, blocks_of, needed_by}
 use Rattle.device_session.specs.declared.refusals.CommitReply.{CommitReply}
 use Rattle.device_session.specs.declared.refusals.CommitReply.TheVariants as replies
 use Rattle.device_session.specs.Sessions.{Session}
-use Rattle.device_session.proofs.CountLaws.{needs_none, needs_some}
 use Rattle.line_run.specs.Stops.{IsSound}
-use Rattle.nbd_terms.specs.Held.{Held, after_commit, Needs, state_of}
-use Rattle.nbd_terms.specs.Leading.{last_of, marks_of}
+use Rattle.device_course.specs.Held.{Held, IsHeld as IsArrayHeld, after_commit, device_of, state_of}
+use Rattle.device_course.proofs.HeldLaws.{needs_of}
+use Rattle.device_course.specs.Leading.{last_of, marks_of}
 use Rattle.session_calls.specs.Commits.{AnswersReply, CommitLeads, ReplyLeads, StopsAt as CommitStops}
+use Rattle.session_calls.proofs.HeldLaws.{commit_stopped, committed_held, refused_held}
 use Rattle.session_calls.specs.declared.stops.DeviceStop.{DeviceStop}
 use Rattle.session_calls.specs.declared.stops.DeviceStop.TheVariants as device
 use Rattle.volume_table.specs.declared.volume.Volume.{Volume}
@@ -38,30 +34,8 @@ use Rattle.volume_lines.specs.declared.replies.Reply.{Reply as Given}
 use Rattle.volume_terms.specs.Turn.{CommitsAs, Destroys, IsShort, Serves}
 use Rattle.volume_terms.specs.Volumes.{changed}
 use Rattle.volume_terms.proofs.KeepingLaws.{committed_tabled}
-use Rattle.volume_desk.specs.Turns.{Changed, IsHeld, IsOfBlocks, MadeBetween, Served, ServesAs, Stopped, StopsAt, TakenOut, TakesOut, TurnsTo, commit_reply, destroy_reply, device_of}
-
--- ---- the device
-
--- stayed while the cell did
-pub made_kept : (old new : History) (there : Device) → Stands old.present (Some there) → IsServedImage old.present → CellStays old new → MadeBetween old new there [] there
-made_kept old new there stands served stays =
-    let during : During old new (Leaves (Some there)) = stands_during old new (Some there) stands stays in
-    made_none old new None (closed (Some there)) (closed (Some there)) stands during refl
-    (shut new.present (Some there) (LeavesOnly-now new (λ left. Stands left (Some there)) (During-now old new (Leaves (Some there)) during)) (During-now old new IsServedImage (serves_still old new stays served)))
-
--- and a mark may tell of it again
-pub made_again : (old new : History) (there : Device) → MadeBetween old new there [] there → MadeBetween old new there (Some there ∷ []) there
-made_again old new there m = record {
-  passes = record {
-    extends = m.passes.extends;
-    mark = λ i. 0;
-    rises = λ i j le. omega arith;
-    within = λ i. omega arith;
-    each = m.passes.each;
-  };
-  last = refl;
-  exits = m.exits;
-}
+use Rattle.device_course.specs.Course.{MadeBetween}
+use Rattle.volume_desk.specs.Turns.{Changed, IsHeld, IsOfBlocks, Served, ServesAs, Stopped, StopsAt, TakenOut, TakesOut, TurnsTo, commit_reply, destroy_reply}
 
 -- ---- the array is as it was
 
@@ -85,12 +59,9 @@ changed_served old new session now table table_now entry it reply held stays cha
 
 -- ---- a commit
 
-pub needs_of : (session : Session) (image : Image) (head : ℕ) (table : List Volume) (entry : Held) → IsOpen session head → IsHeld image head session table entry → Needs entry (needed_by session)
-needs_of session image head table entry there_open held = record {
-  none = λ idle. needs_none session head there_open (held.at.there.session.1 ∙ idle);
-  some = λ touched. needs_some session head there_open (held.at.there.session.1 ∙ touched);
-  most = held.needs;
-}
+-- the array that it is held with
+pub array_held : (image : Image) (head : ℕ) (session : Session) (table : List Volume) (entry : Held) → IsHeld image head session table entry → IsArrayHeld image head session entry
+array_held image head session table entry held = record { at = held.at; pages = held.pages; needs = held.needs }
 
 -- what was answered: the state behind it, or that it is short
 pub data Committing (capacity : ℕ) (old new : Outside) (table : List Volume) (now : Session) (entry : Held) (reply : CommitReply) : Type 0 where
@@ -105,60 +76,15 @@ pub committed_to : {S R W : Type 0} (P : PlatformGhosts S) (T : TapeGhosts R) (L
     → Committing (P.capacity platform) (around P T L platform tape ledger) (around P T L platform_now tape_now ledger_now) table now entry reply
 committed_to P T L platform platform_now tape tape_now ledger ledger_now session now (replies.Committed number) table entry there_open held answers led =
     let needed : ℕ = needed_by session in
-    let next : Held = after_commit entry needed in
-    Done number next refl (record { at = led.0; pages = omega (arith, held.pages, answers.adds); needs = omega (arith, answers.needs); tabled = committed_tabled entry needed table held.tabled })
-    (needed, needs_of session (P.history platform).present (P.head platform) table entry there_open held, omega (arith, answers.room, held.pages), refl, led.1)
-    (made_one (P.history platform) (P.history platform_now) None (closed (Some entry.device)) (closed (Some next.device)) (Some next.device) held.at.there.device led.2
-    (shut (P.history platform_now).present (Some next.device) led.0.there.device led.0.served))
+    let on = array_held (P.history platform).present (P.head platform) session table entry held in
+    let next = committed_held P platform platform_now tape tape_now ledger ledger_now session now number entry on answers led in
+    Done number (after_commit entry needed) refl (record { at = next.0.at; pages = next.0.pages; needs = next.0.needs; tabled = committed_tabled entry needed table held.tabled })
+    (needed, needs_of session (P.history platform).present (P.head platform) entry there_open on, next.1, refl, led.1) next.2
 committed_to P T L platform platform_now tape tape_now ledger ledger_now session now (replies.Full needed free) table entry there_open held answers led =
-    let head : P.head platform_now ≡ P.head platform = ap P.head answers.same.1 in
-    let wants : needed_by now ≡ needed_by session = ap (λ (s : Session). needed_by s) answers.same.0 in
-    Refused needed free refl (record { at = led.0; pages = held.pages ∙ sym head; needs = omega (arith, held.needs, wants); tabled = held.tabled })
-    (needed_by session, needs_of session (P.history platform).present (P.head platform) table entry there_open held, omega (arith, answers.short, answers.is_needed, answers.is_free, held.pages), refl)
-    (made_same (P.history platform) (P.history platform_now) None (closed (Some entry.device)) (closed (Some entry.device)) held.at.there.device led.1
-    (shut (P.history platform_now).present (Some entry.device) led.0.there.device led.0.served))
-
--- a commit that stopped: the device stayed, or, where the platform failed, it may be the next one
-pub commit_halted : {S R W : Type 0} (P : PlatformGhosts S) (T : TapeGhosts R) (L : SinkGhosts W) (platform platform_now : S) (tape tape_now : R) (ledger ledger_now : W) (session : Session) (stop : DeviceStop) (table : List Volume) (entry : Held)
-    (Is : List Held → DeviceStop → Type 0) → (Is [] device.Platform × Is [] device.Tape × Is [] device.Ledger × Is [] device.Memory) → ((number : ℕ) (next : Held) → CommitsAs (P.capacity platform) entry number next → Is (next ∷ []) device.Platform)
-    → IsOpen session (P.head platform) → IsHeld (P.history platform).present (P.head platform) session table entry → CommitStops P T platform platform_now tape tape_now session stop
-    → IsServedImage (P.history platform_now).present → CommitLeads (P.history platform) (P.history platform_now) entry.device entry.session (Err stop)
-    → (ahead : List Held) × Is ahead stop × MadeBetween (P.history platform) (P.history platform_now) entry.device (marks_of device_of ahead) (last_of entry ahead).device
-commit_halted P T L platform platform_now tape tape_now ledger ledger_now session stop table entry Is nothing_ahead one_ahead there_open held stops_at served led = by stop led
-  where
-    before : History
-    before = P.history platform
-
-    now : History
-    now = P.history platform_now
-
-    stands : Stands before.present (Some entry.device)
-    stands = held.at.there.device
-
-    none : During before now (Leaves (Some entry.device)) → MadeBetween before now entry.device [] entry.device
-    none during = made_none before now None (closed (Some entry.device)) (closed (Some entry.device)) stands during refl
-        (shut now.present (Some entry.device) (LeavesOnly-now now (λ left. Stands left (Some entry.device)) (During-now before now (Leaves (Some entry.device)) during)) served)
-
-    next : Held
-    next = after_commit entry (needed_by session)
-
-    made_next : committed entry.device entry.session ≡ next.device
-    made_next = sym (ap (λ (t : Bool). committed_if t entry.device entry.session) (sym held.at.there.session.1 ∙ stops_at.touched))
-
-    by : (s : DeviceStop) → CommitLeads before now entry.device entry.session (Err s) → (ahead : List Held) × Is ahead s × MadeBetween before now entry.device (marks_of device_of ahead) (last_of entry ahead).device
-    by device.Platform turns = elim (made_stopped before now (closed (Some entry.device)) (Some (committed entry.device entry.session)) stands served turns) [
-      | inl nothing ↦ ([], nothing_ahead.0, nothing)
-      | inr one ↦ (
-        next ∷ [],
-        one_ahead next.device.number next (needed_by session, needs_of session before.present (P.head platform) table entry there_open held, omega (arith, stops_at.room, held.pages), refl, refl),
-        subst (λ (d : Device). MadeBetween before now entry.device (Some d ∷ []) d) made_next one,
-      )
-    ]
-    by device.Tape during = ([], nothing_ahead.1, none during)
-    by device.Ledger during = ([], nothing_ahead.2, none during)
-    by device.Memory during = ([], nothing_ahead.3, none during)
-    by device.BadRoot led = absurd led
-    by (device.BadRecord addr) led = absurd led
+    let on = array_held (P.history platform).present (P.head platform) session table entry held in
+    let same = refused_held P platform platform_now tape tape_now ledger ledger_now session now needed free entry on answers led in
+    Refused needed free refl (record { at = same.0.at; pages = same.0.pages; needs = same.0.needs; tabled = held.tabled })
+    (needed_by session, needs_of session (P.history platform).present (P.head platform) entry there_open on, same.1, refl) same.2
 
 pub commit_served : (old new : Outside) (table : List Volume) (now : Session) (entry : Held) (reply : CommitReply) (given : Given) (buffer : List ℕ) → given ≡ commit_reply reply
     → Committing old.capacity old new table now entry reply → Served old new table table now entry Commit (said given buffer)
@@ -170,9 +96,6 @@ commit_served old new table now entry reply given buffer is (Refused needed free
     subst (λ (r : Reply). Served old new table table now entry Commit r) (sym answer) (record { next = entry; held = held; serves = short; made = made })
 
 -- ---- a destroy
-
-pub made_since : (first second third : History) (entry last : Device) (marks : List (Option Device)) → MadeBetween first second entry [] entry → MadeBetween second third entry marks last → MadeBetween first third entry marks last
-made_since first second third entry last marks one two = made_then first second third None None (closed (Some entry)) (closed (Some entry)) (closed (Some last)) [] marks one two
 
 pub destroy_served : (old mid new : Outside) (table left : List Volume) (taken_on now : Session) (entry : Held) (name : List ℕ) (reply : CommitReply) (given : Given) (buffer : List ℕ) → given ≡ destroy_reply reply → mid.capacity ≡ old.capacity
     → (taken : TakenOut mid.history.present mid.head old.capacity table left taken_on entry name) → MadeBetween old.history mid.history entry.device [] entry.device
@@ -230,10 +153,13 @@ pub destroy_stopped : {S R W : Type 0} (P : PlatformGhosts S) (T : TapeGhosts R)
     → Stopped (around P T L platform tape ledger) (around P T L platform_now tape_now ledger_now) table entry (Destroy name) stop
 destroy_stopped P T L platform mid platform_now tape tape_then tape_now ledger ledger_now session stop table left entry name same taken kept there_open stops_at served led =
     let on : Held = changed entry left taken.v in
-    let stopped = commit_halted P T L mid platform_now tape_then tape_now ledger ledger_now session stop left on (λ ahead s. StopsAt (P.capacity platform) table entry (Destroy name) ahead s × ((d : Device) → (last_of entry ahead).device ≡ (last_of on ahead).device))
+    let stopped = commit_stopped P T mid platform_now tape_then tape_now session stop on (λ ahead s. StopsAt (P.capacity platform) table entry (Destroy name) ahead s × ((d : Device) → (last_of entry ahead).device ≡ (last_of on ahead).device))
     ((inl refl, λ d. refl), (refl, λ d. refl), (refl, λ d. refl), (refl, λ d. refl))
-    (λ number next is. (inr (told.Destroyed number, next, refl, (taken.v, left, taken.same, taken.taken, taken.free, subst (λ (n : ℕ). CommitsAs n on number next) same is)), λ d. refl))
-    there_open taken.held stops_at served led in
+    (λ needed needs room.
+    let next : Held = after_commit on needed in
+    let commits : CommitsAs (P.capacity mid) on next.device.number next = (needed, needs, room, refl, refl) in
+    (inr (told.Destroyed next.device.number, next, refl, (taken.v, left, taken.same, taken.taken, taken.free, subst (λ (n : ℕ). CommitsAs n on next.device.number next) same commits)), λ d. refl))
+    there_open (array_held (P.history mid).present (P.head mid) session left on taken.held) stops_at served led in
     record {
       ahead = stopped.0;
       is = stopped.1.0;

@@ -1,17 +1,16 @@
 -- What a line makes of a session's array and its table, and of the device below them.
 use Rattle.std.specs.Prelude.{◌≡◌, ◌≢◌, ◌≤◌, ◌<◌, ◌+◌, ◌*◌, ◌⊎◌, ℕ, List, [], ◌∷◌, Option, None, Some, Result, Ok, Err}
-use Rattle.sdbt_base.specs.Arrays.{Device, closed}
-use Rattle.platform.specs.History.{History}
+use Rattle.sdbt_base.specs.Arrays.{Device, Session as OpenSession, mounted}
 use Rattle.platform.specs.Image.{Image}
-use Rattle.device_course.specs.Course.{Made}
+use Rattle.device_course.specs.Course.{MadeBetween}
 use Rattle.device_course.specs.States.{Outside, IsAt}
 use Rattle.device_session.specs.Open.{needed_by}
 use Rattle.device_session.specs.Sessions.{Session}
 use Rattle.device_session.specs.declared.refusals.CommitReply.{CommitReply}
 use Rattle.device_session.specs.declared.refusals.CommitReply.TheVariants as commits
 use Rattle.line_run.specs.Stops.{IsSound}
-use Rattle.nbd_terms.specs.Held.{Held, state_of}
-use Rattle.nbd_terms.specs.Leading.{last_of, marks_of}
+use Rattle.device_course.specs.Held.{Held, device_of, state_of}
+use Rattle.device_course.specs.Leading.{last_of, marks_of}
 use Rattle.session_calls.specs.declared.stops.DeviceStop.{DeviceStop}
 use Rattle.session_calls.specs.declared.stops.DeviceStop.TheVariants as stops
 use Rattle.volume_table.specs.Tables.{Lacks}
@@ -33,13 +32,6 @@ pub record IsHeld (image : Image) (head : ℕ) (session : Session) (table : List
   pub pages : held.pages ≡ head
   pub needs : needed_by session ≤ 41 * held.updates
   pub tabled : IsTabled held table
-
--- the device came to be these others in their order, and is this one at the end
-abbrev pub MadeBetween : History → History → Device → List (Option Device) → Device → Type 0
-MadeBetween old new first marks last = Made old new None (closed (Some first)) marks (closed (Some last))
-
-abbrev pub device_of : Held → Device
-device_of held = held.device
 
 -- a reply to what was asked, from this state: it led to another, for which the session and the table stand now, and the device came to be the one of that state
 pub record Served (old new : Outside) (table table_now : List Volume) (now : Session) (entry : Held) (it : Line) (reply : Reply) : Type 0 where
@@ -84,6 +76,11 @@ ServesAs old new table table_now buffer entry it (Err stop) = Stopped old new ta
 abbrev pub TurnsTo : Image → ℕ → List Volume → Session → Held → (Reply → Held → Type 0) → List ℕ → Result Given DeviceStop → Type 0
 TurnsTo image head table_now now entry Does buffer (Ok reply) = Changed image head table_now now entry Does (said reply buffer)
 TurnsTo image head table_now now entry Does buffer (Err stop) = IsSound stop
+
+-- a change of a session's array that was done; a stop came over no damage
+abbrev pub ChangesTo : Image → Session → Device → OpenSession → Result (Unit {0}) DeviceStop → Type 0
+ChangesTo image now device next (Ok done) = IsAt image (Some now) (mounted device next)
+ChangesTo image now device next (Err stop) = IsSound stop
 
 -- a block of a volume, and that of the device which it is
 pub record IsBlockAt (table : List Volume) (name : List ℕ) (block at : ℕ) : Type 0 where

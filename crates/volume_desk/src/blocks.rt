@@ -1,13 +1,13 @@
 //! Reads, writes and trims blocks of volumes.
 ghost use Rattle.std.specs.Prelude.{◌≡◌, ◌<◌, ◌≤◌, ◌^◌, ℕ, List, IfOk, IfErr, length};
 ghost use Rattle.device_session.specs.Open.{IsOpen, blocks_of};
-ghost use Rattle.nbd_terms.specs.Held.{Held};
+ghost use Rattle.device_course.specs.Held.{Held};
 ghost use Rattle.session_calls.specs.Along.{Drawn, drawn_by};
-ghost use Rattle.session_calls.specs.Damage.{IsMounted};
+ghost use Rattle.session_calls.specs.Damage.{IsMounted, MeetsDamage};
 ghost use Rattle.volume_table.specs.Tables.{IsTable};
 ghost use Rattle.volume_lines.specs.Replies.{CanWrite, FitsBlock, IsWords, said};
 ghost use Rattle.volume_terms.specs.Turn.{OnBlock, Reads, Trims, Writes};
-ghost use Rattle.volume_desk.specs.Calling.{Calls, MeetsDamage};
+ghost use Rattle.session_calls.specs.Calling.{Calls};
 ghost use Rattle.volume_desk.specs.Turns.{IsBlockAt, IsHeld, NoBlock, TurnsTo};
 
 use device_session::Session;

@@ -4,11 +4,12 @@ ghost use Rattle.sdbt_base.specs.Arrays.{Device, Session as OpenSession, mounted
 ghost use Rattle.byte_arrays.specs.Ranges.{blocks_from};
 ghost use Rattle.device_course.specs.States.{IsAt};
 ghost use Rattle.device_session.specs.Open.{IsOpen, blocks_of};
-ghost use Rattle.nbd_terms.specs.Held.{trim_all};
+ghost use Rattle.device_course.specs.Held.{trim_all};
 ghost use Rattle.session_calls.specs.Along.{Drawn, drawn_by};
-ghost use Rattle.session_calls.specs.Damage.{IsMounted};
+ghost use Rattle.session_calls.specs.Damage.{IsMounted, MeetsDamage};
 ghost use Rattle.volume_table.specs.Tables.{IsInside, table_bytes};
-ghost use Rattle.volume_desk.specs.Calling.{Calls, ChangesTo, MeetsDamage};
+ghost use Rattle.volume_desk.specs.Turns.{ChangesTo};
+ghost use Rattle.session_calls.specs.Calling.{Calls};
 
 use device_session::Session;
 use platform::Platform;

@@ -3,16 +3,16 @@ ghost use Rattle.std.specs.Prelude.{◌≡◌, ◌+◌, ℕ, List, IsOk, IfOk, I
 ghost use Rattle.sdbt_base.specs.Counts.{counts};
 ghost use Rattle.device_course.specs.States.{around};
 ghost use Rattle.device_session.specs.Open.{IsOpen, blocks_of};
-ghost use Rattle.nbd_terms.specs.Held.{Held};
+ghost use Rattle.device_course.specs.Held.{Held};
 ghost use Rattle.session_calls.specs.Along.{drawn_by};
 ghost use Rattle.session_calls.specs.Blame.{IsBlamed};
-ghost use Rattle.session_calls.specs.Damage.{IsMounted};
+ghost use Rattle.session_calls.specs.Damage.{IsMounted, MeetsDamage};
 ghost use Rattle.volume_table.specs.Tables.{IsTable};
 ghost use Rattle.volume_table.specs.declared.volume.Volume.{Volume};
 ghost use Rattle.volume_lines.specs.Lines as lines;
 ghost use Rattle.volume_lines.specs.Replies.{IsWords};
-ghost use Rattle.volume_desk.specs.Calling.{Calls, MeetsDamage};
-ghost use Rattle.volume_desk.specs.Carrying.{Carries, IsReady};
+ghost use Rattle.session_calls.specs.Calling.{Calls};
+ghost use Rattle.session_calls.specs.Carrying.{Carries, IsReady};
 ghost use Rattle.volume_desk.specs.Turns.{IsHeld, ServesAs, TakesOut, commit_reply, destroy_reply, goes_on};
 
 use crate::changing::change;

@@ -1,16 +1,16 @@
 //! Creates volumes.
 ghost use Rattle.std.specs.Prelude.{◌≡◌, ◌↔◌, ◌+◌, ◌≤◌, ℕ, List, true, false, IfOk, IfErr, IsTrue};
 ghost use Rattle.device_session.specs.Open.{IsOpen, blocks_of};
-ghost use Rattle.nbd_terms.specs.Held.{Held};
+ghost use Rattle.device_course.specs.Held.{Held};
 ghost use Rattle.session_calls.specs.Along.{drawn_by};
-ghost use Rattle.session_calls.specs.Damage.{IsMounted};
+ghost use Rattle.session_calls.specs.Damage.{IsMounted, MeetsDamage};
 ghost use Rattle.volume_table.specs.Names.{IsName};
 ghost use Rattle.volume_table.specs.Tables.{IsTable, Lacks};
 ghost use Rattle.volume_table.specs.declared.volume.Volume.{Volume};
 ghost use Rattle.volume_lines.specs.Replies.{IsWords};
 ghost use Rattle.volume_terms.specs.Turn.{Creates};
 ghost use Rattle.volume_terms.specs.Volumes.{IsCount, IsNamed};
-ghost use Rattle.volume_desk.specs.Calling.{Calls, MeetsDamage};
+ghost use Rattle.session_calls.specs.Calling.{Calls};
 ghost use Rattle.volume_desk.specs.Turns.{IsHeld, TurnsTo};
 
 use crate::changing::change;

@@ -9,16 +9,17 @@ use Rattle.sdbt_base.proofs.ToldLaws.{Got-nothing, Got-then}
 use Rattle.platform.specs.Image.{Image}
 use Rattle.platform.specs.History.{History}
 use Rattle.device_course.specs.States.{IsLater, Outside}
-use Rattle.device_course.proofs.MadeLaws.{made_start, made_then, shut}
+use Rattle.device_course.proofs.MadeLaws.{made_again, made_start, made_then, shut}
 use Rattle.device_session.specs.Sessions.{Session}
 use Rattle.line_run.specs.Puts.{HasPut}
 use Rattle.line_run.specs.Stops.{Ending, IsOfLine}
 use Rattle.line_run.specs.declared.stop.Stop.{Stop}
 use Rattle.line_run.specs.declared.stop.Stop.TheVariants as stops
-use Rattle.line_run.proofs.LineLaws.{Handling}
-use Rattle.nbd_terms.specs.Held.{Held}
-use Rattle.nbd_terms.specs.Leading.{Led, last_of, marks_of}
-use Rattle.nbd_terms.proofs.LeadingLaws.{last_of-append, leads_append, leads_longer}
+use Rattle.line_run.proofs.ReadingLaws.{Replying}
+use Rattle.volume_serving.specs.Ran.{replies_in}
+use Rattle.device_course.specs.Held.{Held, device_of}
+use Rattle.device_course.specs.Leading.{Led, last_of, marks_of}
+use Rattle.device_course.proofs.LeadingLaws.{last_of-append, leads_append, leads_longer}
 use Rattle.std.proofs.lemmas.List.{map-append}
 use Rattle.session_calls.specs.declared.stops.DeviceStop.{DeviceStop}
 use Rattle.session_calls.specs.declared.stops.DeviceStop.TheVariants as device
@@ -28,8 +29,8 @@ use Rattle.volume_lines.specs.Lines.{Line}
 use Rattle.volume_lines.specs.Replies.{Reply, Bad, line_of}
 use Rattle.volume_terms.specs.Turn.{Turn}
 use Rattle.volume_terms.specs.Volumes.{IsTabled}
-use Rattle.volume_desk.specs.Turns.{IsHeld, MadeBetween, Served, Stopped, StopsAt, device_of}
-use Rattle.volume_desk.proofs.TurnLaws.{made_again}
+use Rattle.device_course.specs.Course.{MadeBetween}
+use Rattle.volume_desk.specs.Turns.{IsHeld, Served, Stopped, StopsAt}
 use Rattle.volume_serving.specs.World.{World, IsOn}
 use Rattle.volume_serving.specs.Handled.{ending_of, goes_on, AreMany, EndsOn, Handled, IfNext, OnLines, Replied}
 
@@ -217,13 +218,6 @@ handled_longer tells old new stop lines more a b line p =
       };
     }
 
-pub handling : (tells : Type 0) → Handling World (λ w. w.outside.head ≤ w.outside.capacity) (Handled tells)
-handling tells = record {
-  nothing = λ w written fits. handled_nothing tells w written fits;
-  behind = λ old mid new ending lines more a b c p q. handled_then tells old mid new ending lines more a b c p q;
-  longer = λ old new stop lines more a b line p. handled_longer tells old new stop lines more a b line p;
-}
-
 -- ---- one line
 
 -- from a state it leads to the next one
@@ -359,22 +353,7 @@ line_told tells old outside now table_now text reply (Err stops.Source) a b late
 line_told tells old outside now table_now text reply (Err stops.Limit) a b later turns same put = absurd put
 line_told tells old outside now table_now text reply (Err (stops.Device stop)) a b later turns same put = absurd put
 
--- ---- the same lines, and an input that failed behind them
-
-pub handled_lines : (tells : Type 0) (old new : World) (ending : Ending) (lines others : List (List ℕ)) (a b : Option (List ℕ)) → lines ≡ others → Handled tells old new ending lines a b → Handled tells old new ending others a b
-handled_lines tells old new ending lines others a b same p = let r = p.replied in record {
-  put = p.put;
-  got = p.got;
-  replied = record {
-    replies = r.replies;
-    part = r.part;
-    put_is = r.put_is;
-    behind = r.behind;
-    many = subst (λ (ls : List (List ℕ)). AreMany (length r.replies) (length ls) ending) same r.many;
-    later = r.later;
-    led = λ told entry on. subst (λ (ls : List (List ℕ)). OnLines old new entry ls r.replies r.part ending) same (r.led told entry on);
-  };
-}
+-- ---- an input that failed behind lines
 
 on_cut : (old new : World) (entry : Held) (lines : List (List ℕ)) (replies : List Reply) (part : List ℕ) → OnLines old new entry lines replies part (Ok tt)
     → OnLines old new entry lines replies part (Err stops.Source) × OnLines old new entry lines replies part (Err stops.Limit)
@@ -412,14 +391,9 @@ handled_cut tells old new lines a b p = let r = p.replied in (
 
 -- ---- how many replies there are
 
-pub count_lines : (tells : Type 0) (old new : World) (ending : Ending) (lines others : List (List ℕ)) (a b : Option (List ℕ))
-    → (same : lines ≡ others) (p : Handled tells old new ending lines a b) → length p.replied.replies ≤ length (handled_lines tells old new ending lines others a b same p).replied.replies
-unfolding handled_lines
-count_lines tells old new ending lines others a b same p = omega arith
-
 pub count_then : (tells : Type 0) (old mid new : World) (ending : Ending) (lines more : List (List ℕ)) (a b c : Option (List ℕ))
     → (p : Handled tells old mid (Ok tt) lines a b) (q : Handled tells mid new ending more b c)
-    → length p.replied.replies + length q.replied.replies ≤ length (handled_then tells old mid new ending lines more a b c p q).replied.replies
+    → length p.replied.replies ≤ length (handled_then tells old mid new ending lines more a b c p q).replied.replies
 unfolding handled_then replied_then
 count_then tells old mid new ending lines more a b c p q = omega (arith, length-append p.replied.replies q.replied.replies)
 
@@ -427,3 +401,17 @@ pub count_cut : (tells : Type 0) (old new : World) (lines : List (List ℕ)) (a 
     → (length p.replied.replies ≤ length (handled_cut tells old new lines a b p).0.replied.replies) × (length p.replied.replies ≤ length (handled_cut tells old new lines a b p).1.replied.replies)
 unfolding handled_cut
 count_cut tells old new lines a b p = (omega arith, omega arith)
+
+-- what is said of lines adds up
+pub replying : (tells : Type 0) → Replying World (λ w. w.outside.head ≤ w.outside.capacity) (Handled tells) (replies_in tells)
+replying tells = record {
+  handling = record {
+    nothing = λ w written fits. handled_nothing tells w written fits;
+    behind = λ old mid new ending lines more a b c p q. handled_then tells old mid new ending lines more a b c p q;
+    longer = λ old new stop lines more a b line p. handled_longer tells old new stop lines more a b line p;
+  };
+  each = λ old new lines a b p. p.replied.many;
+  behind = λ old mid new ending lines more a b c p q. count_then tells old mid new ending lines more a b c p q;
+  failed = λ old new lines a b p. ((handled_cut tells old new lines a b p).0, (count_cut tells old new lines a b p).0);
+  limit = λ old new lines a b p. ((handled_cut tells old new lines a b p).1, (count_cut tells old new lines a b p).1);
+}

@@ -1,4 +1,2 @@
 pub mod HandledLaws
 pub mod ServingLaws
-pub mod BlameLaws
-pub mod Reading

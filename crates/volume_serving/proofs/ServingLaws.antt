@@ -6,8 +6,8 @@ use Rattle.device_course.specs.States.{Outside}
 use Rattle.device_session.specs.Sessions.{Session}
 use Rattle.line_run.specs.Pending.{IsPending}
 use Rattle.line_run.specs.declared.stop.Stop.{Stop}
-use Rattle.volume_desk.specs.Carrying.{Carries}
-use Rattle.volume_desk.proofs.CarryLaws.{carries_end, carries_going}
+use Rattle.session_calls.specs.Carrying.{Carries}
+use Rattle.session_calls.proofs.CarryLaws.{carries_end, carries_going}
 use Rattle.volume_serving.specs.Handled.{goes_on}
 
 pub carries_told : (tells : Type 0) (old new : Outside) (session now : Session) (Was : Type 0) (result : Result Session Stop) → Was → IfOk result (λ s. s ≡ now) → Carries tells old new session (Some now) Was

@@ -7,12 +7,12 @@ use Rattle.line_run.specs.Stops.{Ending}
 use Rattle.line_run.specs.declared.stop.Stop.{Stop}
 use Rattle.line_run.specs.declared.stop.Stop.TheVariants as stops
 use Rattle.device_session.specs.Sessions.{Session}
-use Rattle.nbd_terms.specs.Held.{Held}
-use Rattle.nbd_terms.specs.Leading.{Led, last_of}
+use Rattle.device_course.specs.Held.{Held, device_of}
+use Rattle.device_course.specs.Leading.{Led, last_of}
 use Rattle.session_calls.specs.declared.stops.DeviceStop.TheVariants as device
 use Rattle.volume_lines.specs.Replies.{Reply, line_of}
 use Rattle.volume_terms.specs.Turn.{Turn}
-use Rattle.volume_desk.specs.Turns.{MadeBetween, device_of}
+use Rattle.device_course.specs.Course.{MadeBetween}
 use Rattle.volume_serving.specs.World.{World, IsOn}
 
 -- of the line behind those that have replies

@@ -5,7 +5,7 @@ use Rattle.sdbt_base.specs.declared.tapes.Tape.{Ghosts as TapeGhosts}
 use Rattle.platform.specs.declared.platforms.Platform.{Ghosts as PlatformGhosts}
 use Rattle.device_course.specs.States.{Outside, around}
 use Rattle.device_session.specs.Sessions.{Session}
-use Rattle.nbd_terms.specs.Held.{Held}
+use Rattle.device_course.specs.Held.{Held}
 use Rattle.volume_table.specs.declared.volume.Volume.{Volume}
 use Rattle.volume_desk.specs.Turns.{IsHeld}
 

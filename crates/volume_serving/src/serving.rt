@@ -12,7 +12,7 @@ ghost use Rattle.volume_table.specs.Tables.{IsTable};
 ghost use Rattle.volume_lines.specs.Grammar.{IsBad, Spells};
 ghost use Rattle.volume_lines.specs.Lines.{FitsBlock as FitsLine, asked};
 ghost use Rattle.volume_lines.specs.Replies.{CanWrite, FitsBlock, line_of, said};
-ghost use Rattle.volume_desk.specs.Carrying.{Carries, IsReady};
+ghost use Rattle.session_calls.specs.Carrying.{Carries, IsReady};
 ghost use Rattle.volume_serving.specs.Handled.{Handled, ending_of, goes_on};
 ghost use Rattle.volume_serving.specs.Ran.{Ran};
 ghost use Rattle.volume_serving.specs.World.{world};

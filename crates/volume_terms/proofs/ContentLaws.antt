@@ -7,7 +7,7 @@ use Rattle.std.specs.Cmp.{nat_cmp_total, unsigned_tied}
 use Rattle.std.proofs.lemmas.Bool.{ne_eqb, eq-eqb, cases_lt}
 use Rattle.sdbt_base.specs.Arrays.{Blocks, Device, Session, content_of, committed_if, padded, written, unmapped}
 use Rattle.byte_arrays.specs.Ranges.{blocks_from}
-use Rattle.nbd_terms.specs.Held.{trim_all}
+use Rattle.device_course.specs.Held.{trim_all}
 
 -- ---- one block
 

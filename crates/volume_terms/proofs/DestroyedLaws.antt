@@ -6,8 +6,8 @@ use Rattle.std.specs.FinMap as map
 use Rattle.std.proofs.lemmas.Bool.{cases_lt}
 use Rattle.sdbt_base.specs.Arrays.{Blocks, Device, Session, committed_if, written, unmapped}
 use Rattle.byte_arrays.specs.Ranges.{blocks_from}
-use Rattle.nbd_terms.specs.Held.{Held, after_commit, trim_all}
-use Rattle.nbd_terms.specs.Leading.{Leads}
+use Rattle.device_course.specs.Held.{Held, after_commit, trim_all}
+use Rattle.device_course.specs.Leading.{Leads}
 use Rattle.volume_table.specs.Tables.{IsTable, table_bytes}
 use Rattle.volume_table.specs.declared.volume.Volume.{Volume}
 use Rattle.volume_lines.specs.Lines.{Line, Create, Read, Write, Trim, Destroy, Commit}

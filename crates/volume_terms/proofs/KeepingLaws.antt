@@ -5,7 +5,7 @@ use Rattle.std.specs.List.{Contains}
 use Rattle.std.specs.FinMap as map
 use Rattle.std.proofs.lemmas.Bool.{cases_lt}
 use Rattle.sdbt_base.specs.Arrays.{Blocks, Session, written, unmapped}
-use Rattle.nbd_terms.specs.Held.{Held, Needs, after_commit}
+use Rattle.device_course.specs.Held.{Held, Needs, after_commit}
 use Rattle.volume_table.specs.Tables.{IsTable, table_bytes}
 use Rattle.volume_table.specs.declared.volume.Volume.{Volume}
 use Rattle.volume_lines.specs.Lines.{Line, Create, Read, Write, Trim, Destroy, Commit}

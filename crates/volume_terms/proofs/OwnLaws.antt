@@ -6,8 +6,8 @@ use Rattle.std.proofs.lemmas.Bool.{cases_eq}
 use Rattle.std.proofs.lemmas.List.Elements.{All-nil, All-cons, Contains-append_left, Contains-append_right, Contains-push}
 use Rattle.sdbt_base.specs.Arrays.{content_of, padded}
 use Rattle.script_lang.specs.Arrays.{trimmed}
-use Rattle.nbd_terms.specs.Held.{Held}
-use Rattle.nbd_terms.specs.Leading.{Leads, last_of}
+use Rattle.device_course.specs.Held.{Held}
+use Rattle.device_course.specs.Leading.{Leads, last_of}
 use Rattle.volume_table.specs.Tables.{Lacks}
 use Rattle.volume_table.specs.declared.volume.Volume.{Volume}
 use Rattle.volume_lines.specs.Lines.{Line, Create, Read, Write, Trim, Destroy, Commit}

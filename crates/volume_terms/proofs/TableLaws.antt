@@ -12,7 +12,7 @@ use Rattle.volume_table.specs.Tables.{IsTable, IsInside, EndsBefore, IsPlaced, L
 use Rattle.volume_table.specs.declared.volume.Volume.{Volume}
 use Rattle.volume_table.proofs.EntryLaws.{length-volume_bytes}
 use Rattle.volume_table.proofs.TableLaws.{All-insert, All-remove, one_table, removed}
-use Rattle.nbd_terms.specs.Held.{Held}
+use Rattle.device_course.specs.Held.{Held}
 use Rattle.volume_terms.specs.Volumes.{IsTabled, IsNamed, IsTaken, IsBlockOf}
 
 -- ---- the bytes of a table

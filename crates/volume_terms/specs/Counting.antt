@@ -1,6 +1,6 @@
 -- How many pages lines need, and that enough are free.
 use Rattle.std.specs.Prelude.{◌≢◌, ◌+◌, ◌*◌, ◌≤◌, ℕ}
-use Rattle.nbd_terms.specs.Held.{Held}
+use Rattle.device_course.specs.Held.{Held}
 use Rattle.volume_lines.specs.Replies.{Reply, Full, Uncommitted}
 
 -- what a line needs at most: a page for each update, and 41 with its commit; it updates the table and each block of a volume at most

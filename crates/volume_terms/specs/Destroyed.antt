@@ -1,7 +1,7 @@
 -- What a destroyed volume leaves.
 use Rattle.std.specs.Prelude.{◌≡◌, ◌≢◌, ◌⊎◌, ℕ, List, [], ◌∷◌, None, Contains}
 use Rattle.std.specs.FinMap as map
-use Rattle.nbd_terms.specs.Held.{Held}
+use Rattle.device_course.specs.Held.{Held}
 use Rattle.volume_table.specs.declared.volume.Volume.{Volume}
 use Rattle.volume_lines.specs.Grammar.{Spells}
 use Rattle.volume_lines.specs.Lines.{Destroy}

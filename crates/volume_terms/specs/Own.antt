@@ -6,7 +6,7 @@ use Rattle.script_lang.specs.Arrays.{trimmed}
 use Rattle.volume_lines.specs.Lines.{Line, Create, Read, Write, Trim, Destroy, Commit}
 use Rattle.volume_lines.specs.Grammar.{Spells}
 use Rattle.volume_lines.specs.Replies.{Reply, Created, Exists, NoRoom, Unknown, Content, Done, Range, Full, Destroyed, Uncommitted}
-use Rattle.nbd_terms.specs.Held.{Held}
+use Rattle.device_course.specs.Held.{Held}
 use Rattle.volume_terms.specs.Volumes.{IsCount, VolumeIn}
 
 -- no volume, or its array of blocks

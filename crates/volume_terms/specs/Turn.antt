@@ -2,7 +2,7 @@
 use Rattle.std.specs.Prelude.{◌≡◌, ◌≢◌, ◌+◌, ◌-◌, ◌<◌, ◌≤◌, ◌⊎◌, ℕ, List}
 use Rattle.sdbt_base.specs.Arrays.{content_of, written, unmapped}
 use Rattle.script_lang.specs.Arrays.{trimmed}
-use Rattle.nbd_terms.specs.Held.{Held, Needs, after_commit}
+use Rattle.device_course.specs.Held.{Held, Needs, after_commit}
 use Rattle.volume_table.specs.Tables.{Lacks}
 use Rattle.volume_table.specs.declared.volume.Volume.{Volume}
 use Rattle.volume_lines.specs.Lines.{Line, Create, Read, Write, Trim, Destroy, Commit}

@@ -3,7 +3,7 @@ use Rattle.std.specs.Prelude.{◌≡◌, ◌+◌, ◌<◌, ◌≤◌, ◌⊎◌,
 use Rattle.std.specs.List.{remove}
 use Rattle.sdbt_base.specs.Arrays.{Blocks, content_of, written}
 use Rattle.byte_arrays.specs.Ranges.{blocks_from}
-use Rattle.nbd_terms.specs.Held.{Held, trim_all}
+use Rattle.device_course.specs.Held.{Held, trim_all}
 use Rattle.volume_table.specs.Tables.{IsTable, IsLeastStart, IsPlaced, FitsAt, Lacks, table_bytes}
 use Rattle.volume_table.specs.declared.volume.Volume.{Volume}
 

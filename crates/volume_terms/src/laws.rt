@@ -1,7 +1,7 @@
 //! What the definitions say of one another: functions that do nothing, whose clauses are laws.
 ghost use Rattle.std.specs.Prelude.{◌≡◌, ◌≢◌, ◌+◌, ◌*◌, ◌<◌, ◌≤◌, ◌^◌, ℕ, List, All, length};
-ghost use Rattle.nbd_terms.specs.Held.{Held};
-ghost use Rattle.nbd_terms.specs.Leading.{Leads, last_of};
+ghost use Rattle.device_course.specs.Held.{Held};
+ghost use Rattle.device_course.specs.Leading.{Leads, last_of};
 ghost use Rattle.volume_table.specs.declared.volume.Volume.{Volume};
 ghost use Rattle.volume_lines.specs.Lines.{Line};
 ghost use Rattle.volume_lines.specs.Replies.{Reply, Destroyed};

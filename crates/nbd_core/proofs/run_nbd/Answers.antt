@@ -2,7 +2,7 @@ use Rattle.std.proofs.Common.{◌≡◌, arith, inl, inr, Ok, Err, ℕ, refl, sy
 use Rattle.std.specs.Prelude.{string_bytes}
 use Rattle.std.proofs.lemmas.Bool.{eqb-true}
 use Rattle.device_course.specs.States.{around}
-use Rattle.nbd_core.specs.Serving.{counts_of}
+use Rattle.session_calls.specs.Blame.{counts_of}
 use Rattle.device_course.proofs.ProgramLaws.{keeps_ledger, ended_not}
 use Rattle.device_course.proofs.ReachingLaws.{discloses}
 use Rattle.nbd_core.specs.Halts.{status_at}

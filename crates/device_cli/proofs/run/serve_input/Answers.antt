@@ -1,49 +1,18 @@
-use Rattle.std.proofs.Common.{◌≡◌, ℕ, ◌+◌, ◌-◌, ◌≤◌, List, [], ◌++◌, None, Some, refl, take, drop, length, sym, ◌∙◌, ap, subst, arith, length-take, length-append}
-use Rattle.std.proofs.lemmas.List.{take-append-le}
+use Rattle.std.proofs.Common.{◌≡◌, ℕ, ◌-◌, List, refl, take, drop, sym, ◌∙◌, subst, arith}
 use Rattle.std.proofs.lemmas.Grind.{common_steps}
-use Rattle.std.specs.Prelude.{◌↔◌, Option, IfSome}
-use Rattle.sdbt_base.specs.Told.{Gave, IsAtEnd}
+use Rattle.std.specs.Prelude.{Option}
+use Rattle.sdbt_base.specs.Told.{IsAtEnd}
 use Rattle.text_lines.specs.Lines.{rest_of}
 use Rattle.device_cli.specs.World.{World, world_by}
-use Rattle.device_cli.proofs.Reading.{IsReading, IsReading-start, IsReading-more, IsReading-stop, IsReading-end, IsReading-failed, IsReading-limit}
-use Rattle.std.proofs.Common.{inl, inr, Err}
+use Rattle.device_cli.proofs.Serving.{HandledBy, replying}
+use Rattle.line_run.proofs.ReadingLaws.{IsReading, IsReading-start, IsReading-more, IsReading-stop, IsReading-end, IsReading-failed, IsReading-limit}
+use Rattle.std.proofs.Common.{Err}
 use Rattle.sdbt_base.specs.Counts.{counts}
-use Rattle.line_run.specs.Stops.{Ending}
-use Rattle.line_run.proofs.StopLaws.{ArePart}
-use Rattle.device_cli.proofs.BlameLaws.{blamed_then, blamed_wide, fell_not}
+use Rattle.line_run.proofs.BlameLaws.{blamed_behind, blamed_take, fell_not}
+use Rattle.line_run.proofs.TakeLaws.{none_given, nothing_left, taken_of}
 use Rattle.device_cli.proofs.CellLaws.{served_at, handled_through}
 use Rattle.device_course.proofs.KeysLaws.{on_start, on_done, on_then}
 use Rattle.device_cli.proofs.run.serve_input.Goals as goal
-
--- nothing given leaves all
-none_given : (a b : Option (List ℕ)) (bytes : List ℕ) (count : ℕ) → count ≡ 0 → Gave a (take count bytes) b → a ≡ b
-none_given a None bytes count e gave = gave
-none_given a (Some rest) bytes count e gave = gave ∙ ap (λ (front : List ℕ). Some (front ++ rest)) (ap (λ (n : ℕ). take n bytes) e)
-
--- the front of what was taken is within it
-front : (into behind : List ℕ) (count : ℕ) → count ≤ length into → take count into ≡ take count (into ++ behind)
-front into behind count bound = sym (take-append-le count into behind bound)
-
--- what one take gave: no more than the limit leaves, and than a piece has
-record Taken (left count : ℕ) (before after : Option (List ℕ)) (piece : List ℕ) : Type 0 where
-  gave : Gave before piece after
-  short : length piece ≤ left
-  few : length piece ≤ 4096
-  less : left ≡ length piece + (left - count)
-
-taken_of : (into behind : List ℕ) (count left : ℕ) (before after : Option (List ℕ)) → count ≤ length into → length into ≤ left → length into ≤ 4096 → Gave before (take count into) after
-    → Taken left count before after (take count (into ++ behind))
-taken_of into behind count left before after bound long size gave = record {
-  gave = subst (λ (bytes : List ℕ). Gave before bytes after) (front into behind count bound) gave;
-  short = omega (arith, length-take count (into ++ behind), length-append into behind, bound, long);
-  few = omega (arith, length-take count (into ++ behind), length-append into behind, bound, size);
-  less = omega (arith, length-take count (into ++ behind), length-append into behind, bound, long);
-}
-
--- and where something is left, it is given
-nothing_left : (a : Option (List ℕ)) (count : ℕ) → count ≡ 0 → IfSome a (λ rest. (count ≡ 0) ↔ (rest ≡ [])) → IsAtEnd a
-nothing_left None count e end = tt
-nothing_left (Some rest) count e end = end.0 e
 
 pub loop-left-init : goal.loop-left-init
 loop-left-init g c =
@@ -54,7 +23,7 @@ loop-left-init g c =
       mounted = c.requires.mounted;
       keeps = on_start _ _ _ c.args.desk.now.session _ _;
       quiet = refl;
-      reading = IsReading-start P.tells (world_by P g.T.Tape c.args.desk.now.session c.args.platform.now c.args.tape.now) (g.I.Source.left c.args.input.now)
+      reading = IsReading-start _ (HandledBy P.tells) (replying P.tells).handling (world_by P g.T.Tape c.args.desk.now.session c.args.platform.now c.args.tape.now) (g.I.Source.left c.args.input.now)
           (g.O.Sink.written c.args.output.now) c.new-pending.result _ (g.met.P.Platform.has_room c.args.platform.now) c.new-pending.ensures (omega arith);
     }
 
@@ -66,8 +35,8 @@ returns-in_default-clause-ran g c =
     let old : World = world_by P g.T.Tape c.args.desk.now.session c.args.platform.now c.args.tape.now in
     let mid : World = world_by P g.T.Tape c.loop-left.desk.session c.loop-left.platform c.loop-left.tape in
     let same : left c.take.new.self ≡ left c.loop-left.input = c.in_default.ensures.nothing_taken in
-    IsReading-failed P.tells old mid (left c.args.input.now) (left c.take.new.self) (written c.args.output.now) (written c.loop-left.output) c.loop-left.pending c.loop-left.left
-    (subst (λ (l : Option (List ℕ)). IsReading P.tells old mid (left c.args.input.now) l (written c.args.output.now) (written c.loop-left.output) c.loop-left.pending c.loop-left.left)
+    IsReading-failed (replying P.tells) old mid (left c.args.input.now) (left c.take.new.self) (written c.args.output.now) (written c.loop-left.output) c.loop-left.pending c.loop-left.left
+    (subst (λ (l : Option (List ℕ)). IsReading (HandledBy P.tells) old mid (left c.args.input.now) l (written c.args.output.now) (written c.loop-left.output) c.loop-left.pending c.loop-left.left)
     (sym same) c.loop-left.invariant.reading)
     c.loop-left-test.true
 
@@ -81,10 +50,10 @@ returns-then-count-eq0-clause-ran g c =
     let new : World = world_by P g.T.Tape c.serve_end.new.desk.session c.serve_end.new.platform c.serve_end.new.tape in
     let into : List ℕ = c.take.new.into in
     let same : left c.loop-left.input ≡ left c.take.new.self = none_given (left c.loop-left.input) (left c.take.new.self) into c.in-Ok.count c.if-count-eq0.true c.in-Ok.ensures.taken in
-    let reading = subst (λ (l : Option (List ℕ)). IsReading P.tells old mid (left c.args.input.now) l (written c.args.output.now) (written c.loop-left.output) c.loop-left.pending c.loop-left.left)
+    let reading = subst (λ (l : Option (List ℕ)). IsReading (HandledBy P.tells) old mid (left c.args.input.now) l (written c.args.output.now) (written c.loop-left.output) c.loop-left.pending c.loop-left.left)
     same c.loop-left.invariant.reading in
     let end = subst (λ (l : Option (List ℕ)). IsAtEnd l) same (nothing_left (left c.loop-left.input) c.in-Ok.count c.if-count-eq0.true c.in-Ok.ensures.end) in
-    IsReading-end P.tells old mid new c.serve_end.result (left c.args.input.now) (left c.take.new.self) (written c.args.output.now) (written c.loop-left.output) (written c.serve_end.new.output)
+    IsReading-end (replying P.tells) old mid new c.serve_end.result (left c.args.input.now) (left c.take.new.self) (written c.args.output.now) (written c.loop-left.output) (written c.serve_end.new.output)
     c.loop-left.pending c.loop-left.left reading c.loop-left-test.true end c.serve_end.ensures.after.stops
     (c.serve_end.ensures.handled (rest_of reading.taken) reading.unfinished)
 
@@ -99,7 +68,7 @@ returns-in-Err-clause-ran g c =
     let reading = c.loop-left.invariant.reading in
     let took = taken_of c.take.new.into (drop c.min-room.result c.loop-left.piece) c.in-Ok.count c.loop-left.left (left c.loop-left.input) (left c.take.new.self)
     (omega (arith, c.in-Ok.ensures.bound, c.take.auto.into)) (grind (arith, common_steps, c.take.auto.into, c.min-room.ensures)) (grind (arith, common_steps, c.take.auto.into, c.min-room.ensures)) c.in-Ok.ensures.taken in
-    IsReading-stop P.tells old mid new (left c.args.input.now) (left c.loop-left.input) (left c.take.new.self) (written c.args.output.now) (written c.loop-left.output) (written c.serve_piece.new.output)
+    IsReading-stop (replying P.tells) old mid new (left c.args.input.now) (left c.loop-left.input) (left c.take.new.self) (written c.args.output.now) (written c.loop-left.output) (written c.serve_piece.new.output)
     c.loop-left.pending c.loop-left.left _ c.in-Err.stop reading took.gave took.short took.few c.in-Err.ensures.after.stops
     (c.in-Err.ensures.handled (rest_of reading.taken) reading.unfinished)
 
@@ -125,7 +94,7 @@ loop-left-preserved g c =
           let served = c.in-Ok-serve_piece.ensures.blame.quiet in
           let taken : g.I.Source.faults c.take.new.self ≡ g.I.Source.faults c.loop-left.input = c.in-Ok.ensures.cause in
           (λ k. counts (served k).platform (served k).tape (taken k) (served k).output (served k).ledger) ∙ c.loop-left.invariant.quiet;
-      reading = IsReading-more P.tells old mid new (left c.args.input.now) (left c.loop-left.input) (left c.take.new.self) (written c.args.output.now) (written c.loop-left.output) (written c.serve_piece.new.output)
+      reading = IsReading-more (replying P.tells) old mid new (left c.args.input.now) (left c.loop-left.input) (left c.take.new.self) (written c.args.output.now) (written c.loop-left.output) (written c.serve_piece.new.output)
           c.loop-left.pending c.serve_piece.new.pending c.loop-left.left (c.loop-left.left - c.in-Ok.count) _ reading took.gave took.less
           (c.in-Ok-serve_piece.ensures.pending (rest_of reading.taken) reading.unfinished) (c.in-Ok-serve_piece.ensures.handled (rest_of reading.taken) reading.unfinished);
     }
@@ -135,7 +104,7 @@ returns-clause-ran g c =
     let P = g.P.Platform in
     let old : World = world_by P g.T.Tape c.args.desk.now.session c.args.platform.now c.args.tape.now in
     let mid : World = world_by P g.T.Tape c.loop-left.desk.session c.loop-left.platform c.loop-left.tape in
-    IsReading-limit P.tells old mid (g.I.Source.left c.args.input.now) (g.I.Source.left c.loop-left.input) (g.O.Sink.written c.args.output.now) (g.O.Sink.written c.loop-left.output)
+    IsReading-limit (replying P.tells) old mid (g.I.Source.left c.args.input.now) (g.I.Source.left c.loop-left.input) (g.O.Sink.written c.args.output.now) (g.O.Sink.written c.loop-left.output)
     c.loop-left.pending c.loop-left.left c.loop-left.invariant.reading (let none = c.loop-left-test.false in omega arith)
 
 pub serve_end-requires : goal.serve_end-requires
@@ -167,35 +136,13 @@ pub returns-clause-keeps : goal.returns-clause-keeps
 returns-clause-keeps g c = on_done _ _ _ _ _ c.args.desk.now.session _ _ _ _ _ _ c.loop-left.invariant.keeps (λ never. tt) (λ keys h. tt)
 
 pub returns-in_default-clause-blame : goal.returns-in_default-clause-blame
-returns-in_default-clause-blame g c =
-    let P = g.P.Platform in let T = g.T.Tape in let I = g.I.Source in let O = g.O.Sink in let L = g.L.Sink in
-    let l = c.loop-left in
-    let mid = counts (P.faults l.platform) (T.faults l.tape) (I.faults l.input) (O.faults l.output) (L.faults l.ledger) in
-    let now = counts (P.faults l.platform) (T.faults l.tape) (I.faults c.take.new.self) (O.faults l.output) (L.faults l.ledger) in
-    blamed_then _ mid now _ l.invariant.quiet (record {
-      fell = record { platform = omega arith; tape = omega arith; input = c.take.ensures.count; output = omega arith; ledger = omega arith };
-      quiet = tt;
-      cause = (c.in_default.ensures.cause, refl);
-    })
+returns-in_default-clause-blame g c = blamed_take _ _ _ _ _ _ _ c.loop-left.invariant.quiet c.take.ensures.count c.in_default.ensures.cause
 
 pub returns-then-count-eq0-clause-blame : goal.returns-then-count-eq0-clause-blame
-returns-then-count-eq0-clause-blame g c =
-    let P = g.P.Platform in let T = g.T.Tape in let I = g.I.Source in let O = g.O.Sink in let L = g.L.Sink in
-    let l = c.loop-left in let e = c.serve_end.new in
-    let part : ArePart (counts (P.faults l.platform) (T.faults l.tape) 0 (O.faults l.output) (L.faults l.ledger)) (counts (P.faults e.platform) (T.faults e.tape) 0 (O.faults e.output) (L.faults e.ledger))
-    (counts (P.faults l.platform) (T.faults l.tape) (I.faults l.input) (O.faults l.output) (L.faults l.ledger)) (counts (P.faults e.platform) (T.faults e.tape) (I.faults c.take.new.self) (O.faults e.output) (L.faults e.ledger))
-    = record { platform = inr (refl, refl); tape = inr (refl, refl); input = inl (refl, refl, c.in-Ok.ensures.cause); output = inr (refl, refl); ledger = inr (refl, refl) } in
-    blamed_then _ _ _ c.serve_end.result l.invariant.quiet (blamed_wide _ _ _ _ c.serve_end.result part c.serve_end.ensures.blame)
+returns-then-count-eq0-clause-blame g c = blamed_behind _ _ _ _ _ _ _ _ _ _ _ c.serve_end.result c.loop-left.invariant.quiet c.in-Ok.ensures.cause c.serve_end.ensures.blame
 
 pub returns-in-Err-clause-blame : goal.returns-in-Err-clause-blame
-returns-in-Err-clause-blame g c =
-    let P = g.P.Platform in let T = g.T.Tape in let I = g.I.Source in let O = g.O.Sink in let L = g.L.Sink in
-    let l = c.loop-left in let e = c.serve_piece.new in
-    let part : ArePart (counts (P.faults l.platform) (T.faults l.tape) 0 (O.faults l.output) (L.faults l.ledger)) (counts (P.faults e.platform) (T.faults e.tape) 0 (O.faults e.output) (L.faults e.ledger))
-    (counts (P.faults l.platform) (T.faults l.tape) (I.faults l.input) (O.faults l.output) (L.faults l.ledger)) (counts (P.faults e.platform) (T.faults e.tape) (I.faults c.take.new.self) (O.faults e.output) (L.faults e.ledger))
-    = record { platform = inr (refl, refl); tape = inr (refl, refl); input = inl (refl, refl, c.in-Ok.ensures.cause); output = inr (refl, refl); ledger = inr (refl, refl) } in
-    let stopped : Ending = Err c.in-Err.stop in
-    blamed_then _ _ _ stopped l.invariant.quiet (blamed_wide _ _ _ _ stopped part c.in-Err.ensures.blame)
+returns-in-Err-clause-blame g c = blamed_behind _ _ _ _ _ _ _ _ _ _ _ (Err c.in-Err.stop) c.loop-left.invariant.quiet c.in-Ok.ensures.cause c.in-Err.ensures.blame
 
 pub returns-clause-blame : goal.returns-clause-blame
 returns-clause-blame g c = record { fell = fell_not _ _ c.loop-left.invariant.quiet; quiet = tt; cause = c.loop-left.invariant.quiet }

@@ -1,8 +1,8 @@
 use Rattle.std.proofs.Common.{ℕ, List, Err, ◌++◌, ◌∙◌, refl}
 use Rattle.device_cli.specs.World.{World, world_by}
-use Rattle.device_cli.proofs.Serving.{HandledBy, handling}
+use Rattle.device_cli.proofs.Serving.{HandledBy, replying}
 use Rattle.line_run.proofs.LineLaws.{IsServing-start, IsServing-line, IsServing-stop, IsServing-end}
-use Rattle.device_cli.proofs.BlameLaws.{blamed_then, fell_not}
+use Rattle.line_run.proofs.BlameLaws.{blamed_then, fell_not}
 use Rattle.device_cli.proofs.CellLaws.{served_at, answered_through}
 use Rattle.device_course.proofs.KeysLaws.{on_start, on_done, on_then}
 use Rattle.device_cli.proofs.run.serve_piece.Goals as goal
@@ -17,7 +17,7 @@ loop-front-init g c =
       keeps = on_start _ _ _ c.args.desk.now.session _ _;
       stands = λ told entry at. (entry, at);
       quiet = refl;
-      serving = λ rest pending. IsServing-start _ (HandledBy P.tells) (handling P.tells) (world_by P g.T.Tape c.args.desk.now.session c.args.platform.now c.args.tape.now)
+      serving = λ rest pending. IsServing-start _ (HandledBy P.tells) (replying P.tells).handling (world_by P g.T.Tape c.args.desk.now.session c.args.platform.now c.args.tape.now)
           (g.O.Sink.written c.args.output.now) c.args.pending.now rest c.args.piece.now (g.met.P.Platform.has_room c.args.platform.now) pending;
     }
 
@@ -43,7 +43,7 @@ loop-front-preserved g c =
           let so_far = c.loop-front.invariant.serving rest pending in
           let line : List ℕ = so_far.line ++ c.in-Some.front.now in
           let kept = c.complete-line.ensures so_far.line so_far.unfinished.is_pending in
-          IsServing-line _ (HandledBy P.tells) (handling P.tells) old mid new (written c.args.output.now) (written c.loop-front.output) (written c.answer.new.output) (rest ++ c.args.piece.now)
+          IsServing-line _ (HandledBy P.tells) (replying P.tells).handling old mid new (written c.args.output.now) (written c.loop-front.output) (written c.answer.new.output) (rest ++ c.args.piece.now)
           c.loop-front.pending c.clear.new.self c.loop-front.rest.now c.in-Some.front.now c.in-Some.behind.now
           so_far c.in-Some.ensures.found.0 c.in-Some.ensures.found.1 c.clear.ensures (c.in_default-answer.ensures.handled line kept);
     }
@@ -58,7 +58,7 @@ returns-in-Err-clause-handled g c rest pending =
     let so_far = c.loop-front.invariant.serving rest pending in
     let line : List ℕ = so_far.line ++ c.in-Some.front.now in
     let kept = c.complete-line.ensures so_far.line so_far.unfinished.is_pending in
-    IsServing-stop _ (HandledBy P.tells) (handling P.tells) old mid new (written c.args.output.now) (written c.loop-front.output) (written c.answer.new.output) (rest ++ c.args.piece.now)
+    IsServing-stop _ (HandledBy P.tells) (replying P.tells).handling old mid new (written c.args.output.now) (written c.loop-front.output) (written c.answer.new.output) (rest ++ c.args.piece.now)
     c.loop-front.pending c.loop-front.rest.now c.in-Some.front.now c.in-Some.behind.now c.in-Err.stop
     so_far c.in-Some.ensures.found.0 c.in-Some.ensures.found.1 c.in-Err.ensures.after.stops (c.in-Err.ensures.handled line kept)
 

@@ -1,8 +1,8 @@
 use Rattle.std.proofs.Common.{◌≡◌, ◌≤◌, ◌+◌, ◌∙◌, ℕ, List, ap, arith, length, length-take, refl, take}
 use Rattle.byte_arrays.specs.Arrays.{bytes_at}
-use Rattle.nbd_terms.specs.Held.{array_of}
+use Rattle.nbd_terms.specs.Bytes.{array_of}
 use Rattle.session_calls.proofs.AlongLaws.{along_start}
-use Rattle.nbd_core.proofs.CallLaws.{draws_none, no_draw, platform_quiet}
+use Rattle.session_calls.proofs.CallLaws.{draws_none, no_draw, platform_quiet}
 use Rattle.nbd_core.proofs.BlameLaws.{blame_done, blame_platform, stop_halts}
 use Rattle.nbd_core.proofs.DamageLaws.{damage_after, done_sound, memory_sound}
 use Rattle.nbd_core.proofs.TurnLaws.{held_still, read_halted, read_room}

@@ -1,11 +1,11 @@
 use Rattle.std.proofs.Common.{Err, refl, ◌∙◌, sym, ap, length, ℕ, ◌+◌, ◌*◌}
 use Rattle.sdbt_base.specs.Arrays.{content_of}
 use Rattle.byte_arrays.specs.Arrays.{bytes_at}
-use Rattle.nbd_terms.specs.Held.{array_of}
+use Rattle.nbd_terms.specs.Bytes.{array_of}
 use Rattle.byte_arrays.proofs.ArrayLaws.{length-bytes_at}
 use Rattle.nbd_core.proofs.ArrayLaws.{reads_stopped, reads_whole}
-use Rattle.nbd_core.proofs.CallLaws.{calls_of}
-use Rattle.nbd_core.proofs.DamageLaws.{read_meets}
+use Rattle.session_calls.proofs.CallLaws.{calls_of}
+use Rattle.session_calls.proofs.DamageLaws.{read_meets}
 use Rattle.nbd_core.proofs.reading.read_part.Goals as goal
 
 pub returns-then-is_whole-clause-calls : goal.returns-then-is_whole-clause-calls

@@ -2,11 +2,11 @@ use Rattle.std.proofs.Common.{List, [], ap, arith, inl, length, refl, sym, ℕ, 
 use Rattle.std.proofs.lemmas.List.{take_all}
 use Rattle.std.proofs.lemmas.Slice.{take-put_mid}
 use Rattle.byte_arrays.specs.Arrays.{bytes_at}
-use Rattle.nbd_terms.specs.Held.{array_of}
+use Rattle.nbd_terms.specs.Bytes.{array_of}
 use Rattle.session_calls.proofs.AlongLaws.{along_start, along_then}
 use Rattle.nbd_core.proofs.ArrayLaws.{range_stopped, read_more}
 use Rattle.sdbt_base.specs.Counts.{counts}
-use Rattle.nbd_core.proofs.CallLaws.{calls_then, no_draw, platform_quiet}
+use Rattle.session_calls.proofs.CallLaws.{calls_then, no_draw, platform_quiet}
 use Rattle.nbd_core.proofs.reading.read_range.Goals as goal
 
 pub loop-done-init : goal.loop-done-init

@@ -2,7 +2,7 @@ use Rattle.std.specs.Prelude.{◌≡◌, Some, take, ◌≤◌, ◌-◌, length}
 use Rattle.sdbt_base.specs.Arrays.{Device, Session as OpenSession, mounted}
 use Rattle.byte_arrays.specs.Arrays.{bytes_at}
 use Rattle.device_course.specs.States.{IsAt}
-use Rattle.nbd_terms.specs.Held.{array_of}
+use Rattle.nbd_terms.specs.Bytes.{array_of}
 use Rattle.session_calls.specs.Along.{Along, Drawn}
 use Rattle.nbd_core.proofs.reading.read_range.Given as goal
 

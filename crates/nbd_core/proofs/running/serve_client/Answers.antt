@@ -1,10 +1,10 @@
 use Rattle.std.proofs.Common.{inl, inr, refl, ap, arith, ◌∙◌, ◌≡◌, ◌*◌, Ok}
 use Rattle.device_session.specs.Open.{blocks_of}
-use Rattle.nbd_core.proofs.CarryLaws.{carries_start, carries_end}
+use Rattle.session_calls.proofs.CarryLaws.{carries_start, carries_end}
 use Rattle.nbd_core.proofs.ServedLaws.{late_of}
 use Rattle.device_terms.proofs.MomentLaws.{still}
 use Rattle.nbd_core.proofs.SpanLaws.{conversed_of}
-use Rattle.nbd_core.proofs.TurnLaws.{made_kept}
+use Rattle.device_course.proofs.MadeLaws.{made_kept}
 use Rattle.nbd_core.proofs.running.serve_client.Goals as goal
 
 pub returns-in_default-clause-carries : goal.returns-in_default-clause-carries

@@ -1,7 +1,7 @@
 use Rattle.std.proofs.Common.{List, ℕ, ap, arith, refl}
 use Rattle.sdbt_base.specs.Counts.{counts}
 use Rattle.nbd_core.proofs.BlameLaws.{blame_as, blame_done, blame_sink, blame_then}
-use Rattle.nbd_core.proofs.CarryLaws.{carries_end}
+use Rattle.session_calls.proofs.CarryLaws.{carries_end}
 use Rattle.nbd_core.specs.Serving.{bytes_of_reply}
 use Rattle.nbd_core.proofs.ServedLaws.{answer_cut, answer_halted, is_reply, sink_no_limit}
 use Rattle.nbd_core.proofs.TurnLaws.{turned_last}

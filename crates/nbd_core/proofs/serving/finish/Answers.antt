@@ -4,7 +4,7 @@ use Rattle.nbd_lang.specs.contracts.replies.Outcome.{the_type}
 use Rattle.nbd_lang.specs.declared.replies.Outcome.{Outcome}
 use Rattle.nbd_lang.specs.declared.replies.Outcome.TheVariants.{Done}
 use Rattle.nbd_core.proofs.BlameLaws.{blame_as, blame_on}
-use Rattle.nbd_core.proofs.CarryLaws.{carries_end}
+use Rattle.session_calls.proofs.CarryLaws.{carries_end}
 use Rattle.nbd_core.proofs.ServedLaws.{flush_ends, flush_finished}
 use Rattle.nbd_core.proofs.ShortLaws.{not_done}
 use Rattle.nbd_core.proofs.TurnLaws.{flush_ended, flush_halted, flush_unfinished}

@@ -1,4 +1,4 @@
-use Rattle.nbd_core.proofs.CarryLaws.{carries_committed, carries_stopped, carries_going}
+use Rattle.session_calls.proofs.CarryLaws.{carries_committed, carries_stopped, carries_going}
 use Rattle.nbd_core.proofs.BlameLaws.{blame_commit, blame_committed, commit_halts, of_commit}
 use Rattle.platform.proofs.Moments.{During-now}
 use Rattle.device_terms.specs.Served.{IsServedImage}

@@ -1,6 +1,6 @@
 use Rattle.std.proofs.Common.{◌≡◌, ◌*◌, ◌∙◌, ℕ, true, false, refl, sym, arith, ap}
 use Rattle.nbd_lang.specs.Requests.{bytes_behind}
-use Rattle.nbd_core.proofs.CarryLaws.{carries_along, carries_end, carries_going}
+use Rattle.session_calls.proofs.CarryLaws.{carries_along, carries_end, carries_going}
 use Rattle.device_session.specs.Open.{blocks_of}
 use Rattle.nbd_lang.specs.Refusals.{refusal}
 use Rattle.device_session.specs.Sessions.{Session}

@@ -4,7 +4,7 @@ use Rattle.sdbt_base.specs.Counts.{counts}
 use Rattle.nbd_lang.specs.declared.requests.Request.{Request}
 use Rattle.nbd_core.specs.Requests.{HeadCame}
 use Rattle.nbd_core.proofs.BlameLaws.{blame_as, blame_on, blame_then}
-use Rattle.nbd_core.proofs.CarryLaws.{carries_start, carries_then, carries_end, carries_going}
+use Rattle.session_calls.proofs.CarryLaws.{carries_start, carries_then, carries_end, carries_going}
 use Rattle.nbd_core.proofs.RequestLaws.{less_of_head}
 use Rattle.device_session.specs.Open.{blocks_of}
 use Rattle.nbd_core.proofs.ServedLaws.{answered_on, less_of_answer, replied_more, replied_nothing, served_goodbye, served_halted, served_over, served_stopped}

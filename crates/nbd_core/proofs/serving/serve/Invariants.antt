@@ -4,7 +4,8 @@ use Rattle.device_session.specs.Open.{blocks_of}
 use Rattle.nbd_core.specs.Exchanges.{Exchange}
 use Rattle.nbd_core.proofs.ServedLaws.{Replied}
 use Rattle.nbd_core.specs.Turns.{IsFrom}
-use Rattle.nbd_core.specs.Serving.{Carries, counts_of}
+use Rattle.session_calls.specs.Blame.{counts_of}
+use Rattle.session_calls.specs.Carrying.{Carries}
 use Rattle.nbd_core.proofs.serving.serve.Given as goal
 
 abbrev pub invariant-requests : goal.invariant-requests

@@ -2,7 +2,7 @@ use Rattle.std.proofs.Common.{ap, arith, length, sym, []}
 use Rattle.byte_arrays.specs.Ranges.{covered_blocks, touched_blocks}
 use Rattle.nbd_lang.specs.declared.requests.RequestKind.TheVariants.{Trim, Write}
 use Rattle.nbd_core.specs.Ample.{blocks_of_range, unless_refused}
-use Rattle.nbd_core.proofs.CallLaws.{along_more}
+use Rattle.session_calls.proofs.CallLaws.{along_more}
 use Rattle.nbd_core.proofs.ShortLaws.{cost_is, read_short, refused_short, trim_short, write_short}
 use Rattle.nbd_lang.specs.Requests.{bytes_behind}
 use Rattle.session_calls.specs.Along.{drawn_by}

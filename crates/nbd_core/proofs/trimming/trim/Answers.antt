@@ -4,15 +4,16 @@ use Rattle.byte_arrays.specs.Ranges.{blocks_from, covered_blocks}
 use Rattle.byte_arrays.proofs.RangeLaws.{covered_is, length-blocks_from}
 use Rattle.device_course.specs.States.{IsAt}
 use Rattle.device_session.specs.Open.{needed_by}
-use Rattle.nbd_terms.specs.Held.{trim_all}
+use Rattle.device_course.specs.Held.{trim_all}
 use Rattle.session_calls.specs.Along.{Along}
 use Rattle.session_calls.proofs.AlongLaws.{along_start, along_then}
 use Rattle.nbd_lang.specs.declared.replies.Outcome.TheVariants.{Done}
 use Rattle.nbd_core.proofs.ArrayLaws.{trim_halted, trim_step, trimmed_some}
-use Rattle.nbd_core.proofs.DamageLaws.{damage_after, done_sound, trim_meets}
+use Rattle.session_calls.proofs.DamageLaws.{trim_meets}
+use Rattle.nbd_core.proofs.DamageLaws.{damage_after, done_sound}
 use Rattle.nbd_core.proofs.TurnLaws.{trims_lead}
 use Rattle.nbd_core.proofs.BlameLaws.{blame_done, blame_platform, blame_then, stop_halts}
-use Rattle.nbd_core.proofs.CallLaws.{along_more, draws_none, no_draw, platform_quiet}
+use Rattle.session_calls.proofs.CallLaws.{along_more, draws_none, no_draw, platform_quiet}
 use Rattle.nbd_core.proofs.trimming.trim.Goals as goal
 
 pub loop-block-init : goal.loop-block-init

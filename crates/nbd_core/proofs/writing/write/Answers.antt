@@ -3,7 +3,7 @@ use Rattle.byte_arrays.specs.Ranges.{touched_blocks}
 use Rattle.byte_arrays.proofs.RangeLaws.{length-blocks_from}
 use Rattle.session_calls.specs.Along.{drawn_by}
 use Rattle.session_calls.proofs.AlongLaws.{along_start}
-use Rattle.nbd_core.proofs.CallLaws.{along_more}
+use Rattle.session_calls.proofs.CallLaws.{along_more}
 use Rattle.nbd_core.proofs.DamageLaws.{space_sound}
 use Rattle.nbd_core.proofs.ShortLaws.{never_short}
 use Rattle.nbd_core.proofs.DataLaws.{data_did}

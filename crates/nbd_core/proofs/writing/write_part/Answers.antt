@@ -1,8 +1,8 @@
 use Rattle.std.proofs.Common.{Err, ◌∙◌, ap, length, refl, arith}
 use Rattle.session_calls.specs.Along.{drawn_by}
 use Rattle.nbd_core.proofs.ArrayLaws.{adds_behind, adds_none, adds_one, on_stop, writes_patched, writes_unread, writes_whole}
-use Rattle.nbd_core.proofs.DamageLaws.{read_meets, write_meets}
-use Rattle.nbd_core.proofs.CallLaws.{calls_of, calls_then, calls_stopped, platform_quiet}
+use Rattle.session_calls.proofs.DamageLaws.{read_meets, write_meets}
+use Rattle.session_calls.proofs.CallLaws.{calls_of, calls_then, calls_stopped, platform_quiet}
 use Rattle.nbd_core.proofs.writing.write_part.Goals as goal
 
 pub returns-then-is_whole-clause-calls : goal.returns-then-is_whole-clause-calls

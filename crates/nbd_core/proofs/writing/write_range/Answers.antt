@@ -8,7 +8,7 @@ use Rattle.session_calls.specs.Along.{drawn_by}
 use Rattle.session_calls.proofs.AlongLaws.{along_start, along_then}
 use Rattle.nbd_core.proofs.ArrayLaws.{front_of, range_halted, range_step, wrote_range}
 use Rattle.nbd_core.proofs.BlameLaws.{blame_done, blame_take, blame_then, cause_wide, same_blocks, same_fell}
-use Rattle.nbd_core.proofs.CallLaws.{along_more, platform_quiet, tape_quiet}
+use Rattle.session_calls.proofs.CallLaws.{along_more, platform_quiet, tape_quiet}
 use Rattle.nbd_core.proofs.ShortLaws.{done_no_space, stop_no_space}
 use Rattle.nbd_core.proofs.CameLaws.{came_nothing, length-gone}
 use Rattle.nbd_core.proofs.DamageLaws.{damage_given, done_sound}

@@ -4,7 +4,7 @@ use Rattle.byte_arrays.specs.Arrays.{with_bytes}
 use Rattle.byte_arrays.specs.Parts.{IsAtPart}
 use Rattle.byte_arrays.specs.Ranges.{blocks_from, touched_blocks}
 use Rattle.device_course.specs.States.{IsAt}
-use Rattle.nbd_terms.specs.Held.{array_of, write_all}
+use Rattle.nbd_terms.specs.Bytes.{array_of, write_all}
 use Rattle.session_calls.specs.Along.{Along, drawn_by}
 use Rattle.nbd_core.specs.Room.{Came, IsShorter}
 use Rattle.nbd_core.proofs.writing.write_range.Given as goal

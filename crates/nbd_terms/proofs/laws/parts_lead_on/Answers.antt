@@ -1,8 +1,8 @@
 use Rattle.std.proofs.Common.{◌∙◌, sym, ap}
 use Rattle.std.specs.Prelude.{Some}
 use Rattle.nbd_terms.specs.Turn.{Turn}
-use Rattle.nbd_terms.specs.Leading.{EndsAt, last_of}
-use Rattle.nbd_terms.proofs.LeadingLaws.{led_then, last_of-append}
+use Rattle.device_course.specs.Leading.{EndsAt, last_of}
+use Rattle.device_course.proofs.LeadingLaws.{led_then, last_of-append}
 use Rattle.nbd_terms.proofs.laws.parts_lead_on.Goals as goal
 
 pub returns : goal.returns

@@ -2,8 +2,9 @@ use Rattle.std.proofs.Common.{◌≡◌, ◌≢◌, ℕ, Ok, Err, ap, refl, arit
 use Rattle.session_calls.specs.Along.{drawn_by}
 use Rattle.volume_terms.specs.Turn.{Writes}
 use Rattle.volume_terms.proofs.KeepingLaws.{wrote}
-use Rattle.volume_desk.proofs.CallLaws.{calls_of, calls_stopped}
-use Rattle.volume_desk.proofs.DeskLaws.{calls_done, calls_none, changed_none, held_wrote, no_block, write_damage, write_sound}
+use Rattle.session_calls.proofs.CallLaws.{calls_done, calls_none, calls_of, calls_stopped}
+use Rattle.session_calls.proofs.DamageLaws.{write_meets}
+use Rattle.volume_desk.proofs.DeskLaws.{changed_none, held_wrote, no_block, write_sound}
 use Rattle.volume_desk.proofs.blocks.write.Goals as goal
 
 pub returns-in-Err-clause-calls : goal.returns-in-Err-clause-calls
@@ -48,4 +49,4 @@ returns-in-Err-write_block-clause-turns g c told entry buffer held =
     write_sound (g.P.Platform.history c.write_block.new.platform).present c.write_block.new.session entry.device entry.session c.in-Ok.at c.args.content.now c.in-Err-write_block.stop (c.in-Err-write_block.ensures.leads told entry.device entry.session held.at)
 
 pub returns-in-Err-write_block-clause-damage : goal.returns-in-Err-write_block-clause-damage
-returns-in-Err-write_block-clause-damage g c told mounted = write_damage _ (g.P.Platform.history c.args.platform.now).present (g.P.Platform.history c.write_block.new.platform).present c.args.session.now c.in-Ok.at c.in-Err-write_block.stop c.in-Err-write_block.ensures.any (told, mounted)
+returns-in-Err-write_block-clause-damage g c told mounted = write_meets _ (g.P.Platform.history c.args.platform.now).present (g.P.Platform.history c.write_block.new.platform).present c.args.session.now c.in-Ok.at (Err c.in-Err-write_block.stop) c.in-Err-write_block.ensures.any (told, mounted)

@@ -1,11 +1,12 @@
 use Rattle.std.proofs.Common.{Err, ◌+◌, ℕ, List, subst, ◌∙◌, arith}
 use Rattle.sdbt_base.specs.Arrays.{written}
 use Rattle.byte_arrays.specs.Ranges.{blocks_from}
-use Rattle.nbd_terms.specs.Held.{trim_all}
+use Rattle.device_course.specs.Held.{trim_all}
 use Rattle.session_calls.specs.Along.{drawn_by}
-use Rattle.volume_desk.specs.Calling.{ChangesTo}
-use Rattle.volume_desk.proofs.CallLaws.{calls_of, calls_stopped, calls_then, platform_quiet, tape_quiet}
-use Rattle.volume_desk.proofs.DeskLaws.{on_ok, write_damage, write_sound}
+use Rattle.volume_desk.specs.Turns.{ChangesTo}
+use Rattle.session_calls.proofs.CallLaws.{calls_of, calls_stopped, calls_then, platform_quiet, tape_quiet}
+use Rattle.session_calls.proofs.DamageLaws.{write_meets}
+use Rattle.volume_desk.proofs.DeskLaws.{on_ok, write_sound}
 use Rattle.volume_desk.proofs.changing.change.Goals as goal
 
 pub returns-in-Ok-clause-calls : goal.returns-in-Ok-clause-calls
@@ -35,4 +36,4 @@ pub returns-in-Err-clause-leads : goal.returns-in-Err-clause-leads
 returns-in-Err-clause-leads g c told device array at = write_sound (g.P.Platform.history c.write_block.new.platform).present c.write_block.new.session device array 0 c.encode.new.out c.in-Err.stop (c.in-Err.ensures.leads told device array at)
 
 pub returns-in-Err-clause-damage : goal.returns-in-Err-clause-damage
-returns-in-Err-clause-damage g c told mounted = write_damage _ (g.P.Platform.history c.args.platform.now).present (g.P.Platform.history c.write_block.new.platform).present c.args.session.now 0 c.in-Err.stop c.in-Err.ensures.any (told, mounted)
+returns-in-Err-clause-damage g c told mounted = write_meets _ (g.P.Platform.history c.args.platform.now).present (g.P.Platform.history c.write_block.new.platform).present c.args.session.now 0 (Err c.in-Err.stop) c.in-Err.ensures.any (told, mounted)

@@ -2,13 +2,15 @@ use Rattle.std.proofs.Common.{Err, ◌≡◌, ◌+◌, ℕ, Some, ap, refl, subs
 use Rattle.sdbt_base.specs.Arrays.{Session as OpenSession, mounted}
 use Rattle.sdbt_base.specs.Counts.{counts}
 use Rattle.byte_arrays.specs.Ranges.{blocks_from}
+use Rattle.byte_arrays.proofs.RangeLaws.{blocks_from-more}
 use Rattle.device_course.specs.States.{IsAt}
-use Rattle.nbd_terms.specs.Held.{trim_all}
-use Rattle.nbd_terms.proofs.WritingLaws.{trim_more}
+use Rattle.device_course.specs.Held.{trim_all}
+use Rattle.device_course.proofs.HeldLaws.{trim_all-more}
 use Rattle.session_calls.specs.Along.{Along}
 use Rattle.session_calls.proofs.AlongLaws.{along_start, along_then}
-use Rattle.volume_desk.proofs.CallLaws.{calls_of, calls_stopped, calls_then, no_draw, platform_quiet}
-use Rattle.volume_desk.proofs.DeskLaws.{trim_damage, trim_sound}
+use Rattle.session_calls.proofs.CallLaws.{calls_of, calls_stopped, calls_then, no_draw, platform_quiet}
+use Rattle.session_calls.proofs.DamageLaws.{trim_meets}
+use Rattle.volume_desk.proofs.DeskLaws.{trim_sound}
 use Rattle.volume_desk.proofs.changing.trim_range.Goals as goal
 
 pub loop-i-init : goal.loop-i-init
@@ -27,7 +29,8 @@ loop-i-preserved g c =
     record {
       along = λ drawn. along_then P c.loop-i.i 1 _ _ _ drawn drawn drawn _ _ _ (so_far.along drawn) (c.in-Ok.ensures.goes drawn).along;
       trims = λ told device array at.
-          subst (λ (a : OpenSession). IsAt (P.history c.trim_block.new.platform).present (Some c.trim_block.new.session) (mounted device a)) (sym (trim_more array first c.loop-i.i))
+          subst (λ (a : OpenSession). IsAt (P.history c.trim_block.new.platform).present (Some c.trim_block.new.session) (mounted device a))
+          (sym (ap (trim_all array) (blocks_from-more first c.loop-i.i) ∙ trim_all-more array (blocks_from first c.loop-i.i) (first + c.loop-i.i)))
           (c.in-Ok.ensures.leads told device (trim_all array (blocks_from first c.loop-i.i)) (so_far.trims told device array at));
       head = c.in-Ok.ensures.head ∙ so_far.head;
       quiet = platform_quiet _ _ (c.in-Ok.ensures.goes no_draw).quiet ∙ so_far.quiet;
@@ -53,7 +56,7 @@ pub returns-in-Err-clause-leads : goal.returns-in-Err-clause-leads
 returns-in-Err-clause-leads g c told device array at = trim_sound (g.P.Platform.history c.trim_block.new.platform).present c.trim_block.new.session device (trim_all array (blocks_from c.args.volume.now.start c.loop-i.i)) (c.args.volume.now.start + c.loop-i.i) c.in-Err.stop (c.in-Err.ensures.leads told device _ (c.loop-i.invariant.trims told device array at))
 
 pub returns-in-Err-clause-damage : goal.returns-in-Err-clause-damage
-returns-in-Err-clause-damage g c told mounted = trim_damage _ (g.P.Platform.history c.loop-i.platform).present (g.P.Platform.history c.trim_block.new.platform).present c.loop-i.session (c.args.volume.now.start + c.loop-i.i) c.in-Err.stop c.in-Err.ensures.any (told, (c.loop-i.invariant.along no_draw).mounted told mounted)
+returns-in-Err-clause-damage g c told mounted = trim_meets _ (g.P.Platform.history c.loop-i.platform).present (g.P.Platform.history c.trim_block.new.platform).present c.loop-i.session (c.args.volume.now.start + c.loop-i.i) (Err c.in-Err.stop) c.in-Err.ensures.any (told, (c.loop-i.invariant.along no_draw).mounted told mounted)
 
 pub returns-clause-calls : goal.returns-clause-calls
 returns-clause-calls g c drawn =

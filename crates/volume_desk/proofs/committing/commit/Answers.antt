@@ -1,11 +1,13 @@
 use Rattle.std.proofs.Common.{inl, inr, refl}
 use Rattle.platform.proofs.Moments.{During-now}
 use Rattle.device_terms.specs.Served.{IsServedImage}
+use Rattle.device_course.specs.Held.{after_commit}
+use Rattle.session_calls.proofs.HeldLaws.{commit_stopped}
 use Rattle.volume_lines.specs.Lines.{Commit}
 use Rattle.volume_lines.specs.Replies.{Committed}
 use Rattle.volume_desk.specs.Turns.{StopsAt}
-use Rattle.volume_desk.proofs.CarryLaws.{carries_committed, carries_going, carries_stopped}
-use Rattle.volume_desk.proofs.TurnLaws.{commit_halted, commit_served, committed_to}
+use Rattle.session_calls.proofs.CarryLaws.{carries_committed, carries_going, carries_stopped}
+use Rattle.volume_desk.proofs.TurnLaws.{array_held, commit_served, committed_to}
 use Rattle.volume_desk.proofs.committing.commit.Goals as goal
 
 pub returns-in-Ok-clause-carries : goal.returns-in-Ok-clause-carries
@@ -23,7 +25,8 @@ returns-in-Ok-clause-serves g c told entry table buffer held =
 
 pub returns-in-Err-clause-serves : goal.returns-in-Err-clause-serves
 returns-in-Err-clause-serves g c told entry table buffer held =
-    let stopped = commit_halted g.P.Platform g.T.Tape g.L.Sink _ _ _ _ c.args.ledger.now c.commit_session.new.ledger _ c.in-Err.stop table entry (λ ahead stop. StopsAt (g.P.Platform.capacity c.args.platform.now) table entry Commit ahead stop)
-    (inl refl, refl, refl, refl) (λ number next is. inr (Committed number, next, refl, is)) c.requires.ready.is_open held c.in-Err.ensures.answers
-    (During-now _ _ IsServedImage (c.in-Err.ensures.goes.keeps.serves told held.at.served)) (c.in-Err.ensures.leads told entry.device entry.session held.at) in
+    let stopped = commit_stopped g.P.Platform g.T.Tape _ _ _ _ _ c.in-Err.stop entry (λ ahead stop. StopsAt (g.P.Platform.capacity c.args.platform.now) table entry Commit ahead stop) (inl refl, refl, refl, refl)
+    (λ needed needs room. inr (Committed (after_commit entry needed).device.number, after_commit entry needed, refl, (needed, needs, room, refl, refl)))
+    c.requires.ready.is_open (array_held _ _ _ table entry held) c.in-Err.ensures.answers (During-now _ _ IsServedImage (c.in-Err.ensures.goes.keeps.serves told held.at.served))
+    (c.in-Err.ensures.leads told entry.device entry.session held.at) in
     record { ahead = stopped.0; is = stopped.1; made = stopped.2 }

@@ -5,8 +5,9 @@ use Rattle.device_course.specs.States.{around}
 use Rattle.device_session.specs.Open.{blocks_of}
 use Rattle.volume_lines.specs.Lines.{Destroy}
 use Rattle.volume_terms.specs.Volumes.{changed}
-use Rattle.volume_desk.proofs.CarryLaws.{carries_along, carries_committed, carries_end, carries_going, carries_stopped, carries_then}
-use Rattle.volume_desk.proofs.TurnLaws.{changed_served, committed_to, destroy_served, destroy_stopped, made_kept, stopped_kept, takes_none, takes_some}
+use Rattle.session_calls.proofs.CarryLaws.{carries_along, carries_committed, carries_end, carries_going, carries_stopped, carries_then}
+use Rattle.device_course.proofs.MadeLaws.{made_kept}
+use Rattle.volume_desk.proofs.TurnLaws.{changed_served, committed_to, destroy_served, destroy_stopped, stopped_kept, takes_none, takes_some}
 use Rattle.volume_desk.proofs.committing.destroy.Goals as goal
 
 pub returns-in-Some-clause-carries : goal.returns-in-Some-clause-carries

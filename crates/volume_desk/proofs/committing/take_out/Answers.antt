@@ -3,8 +3,8 @@ use Rattle.std.proofs.lemmas.Option.{slice_get_within}
 use Rattle.device_session.specs.Open.{blocks_of}
 use Rattle.session_calls.specs.Along.{drawn_by}
 use Rattle.volume_terms.proofs.TableLaws.{inside_of}
-use Rattle.volume_desk.proofs.CallLaws.{calls_stopped}
-use Rattle.volume_desk.proofs.DeskLaws.{calls_done, calls_none, changed_none, held_changed, named_at}
+use Rattle.session_calls.proofs.CallLaws.{calls_done, calls_none, calls_stopped}
+use Rattle.volume_desk.proofs.DeskLaws.{changed_none, held_changed, named_at}
 use Rattle.volume_desk.proofs.committing.take_out.Goals as goal
 
 pub returns-in_default-clause-calls : goal.returns-in_default-clause-calls

@@ -2,7 +2,8 @@ use Rattle.std.proofs.Common.{◌≡◌, ◌≢◌, ℕ, refl, sym, subst, ◌�
 use Rattle.std.proofs.lemmas.Bool.{false≢true}
 use Rattle.session_calls.specs.Along.{drawn_by}
 use Rattle.volume_terms.specs.Volumes.{IsCount, changed}
-use Rattle.volume_desk.proofs.DeskLaws.{calls_none, changed_none, held_changed, is_new, no_room, out_of_range}
+use Rattle.session_calls.proofs.CallLaws.{calls_none}
+use Rattle.volume_desk.proofs.DeskLaws.{changed_none, held_changed, is_new, no_room, out_of_range}
 use Rattle.volume_desk.proofs.TurnLaws.{blocks_held}
 use Rattle.volume_desk.proofs.creating.create.Goals as goal
 

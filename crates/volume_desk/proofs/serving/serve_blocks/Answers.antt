@@ -2,7 +2,7 @@ use Rattle.std.proofs.Common.{◌+◌, arith}
 use Rattle.device_session.specs.Open.{blocks_of}
 use Rattle.session_calls.specs.Along.{drawn_by}
 use Rattle.volume_lines.specs.declared.lines.Line.TheVariants as parsed
-use Rattle.volume_desk.proofs.DeskLaws.{calls_more}
+use Rattle.session_calls.proofs.CallLaws.{calls_more}
 use Rattle.volume_desk.proofs.TurnLaws.{turns_as}
 use Rattle.volume_desk.proofs.serving.serve_blocks.Goals as goal
 

@@ -2,7 +2,7 @@ use Rattle.std.proofs.Common.{◌+◌}
 use Rattle.device_session.specs.Open.{blocks_of}
 use Rattle.volume_lines.specs.Lines.{asked}
 use Rattle.volume_lines.specs.declared.lines.Line.TheVariants as parsed
-use Rattle.volume_desk.proofs.CarryLaws.{carries_along, carries_end, carries_going}
+use Rattle.session_calls.proofs.CarryLaws.{carries_along, carries_end, carries_going}
 use Rattle.volume_desk.proofs.TurnLaws.{changed_served, serves_as, stopped_kept}
 use Rattle.volume_desk.proofs.serving.serve_line.Goals as goal
 

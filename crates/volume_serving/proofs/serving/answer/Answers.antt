@@ -5,7 +5,7 @@ use Rattle.volume_lines.specs.Replies.{Bad, said}
 use Rattle.volume_serving.specs.World.{World, world}
 use Rattle.volume_serving.proofs.HandledLaws.{bad_turn, later_none, line_stop, line_told, served_turn}
 use Rattle.std.specs.Prelude.{option_copied}
-use Rattle.volume_desk.proofs.CarryLaws.{carries_start}
+use Rattle.session_calls.proofs.CarryLaws.{carries_start}
 use Rattle.volume_serving.proofs.ServingLaws.{carries_told, some_text}
 use Rattle.volume_serving.proofs.serving.answer.Goals as goal
 

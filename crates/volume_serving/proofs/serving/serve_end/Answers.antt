@@ -5,10 +5,10 @@ use Rattle.line_run.specs.Pending.{IsPending}
 use Rattle.line_run.specs.Stops.{Ending}
 use Rattle.line_run.specs.declared.stop.Stop.{Stop}
 use Rattle.text_lines.specs.Lines.{last_line as line_at_end}
-use Rattle.volume_desk.proofs.CarryLaws.{carries_end, carries_start}
+use Rattle.session_calls.proofs.CarryLaws.{carries_end, carries_start}
 use Rattle.volume_serving.specs.Handled.{Handled, ending_of, goes_on}
 use Rattle.volume_serving.specs.World.{World, world}
-use Rattle.volume_serving.proofs.HandledLaws.{handled_lines, handled_nothing}
+use Rattle.volume_serving.proofs.HandledLaws.{handled_nothing}
 use Rattle.volume_serving.proofs.serving.serve_end.Goals as goal
 
 -- a last line is one where something is left
@@ -47,5 +47,5 @@ returns-clause-handled g c rest pending =
     let kept = subst (λ (p : Option (List ℕ)). IsPending p rest) (sym c.line.ensures) pending.is_pending in (
       goes_on c.answer.result,
       subst (λ (ending : Ending). Handled P.tells old new ending (line_at_end rest) (written c.args.output.now) (written c.answer.new.output)) (sym c.close.ensures.ending)
-          (handled_lines P.tells old new (ending_of c.answer.result) (rest ∷ []) (line_at_end rest) _ _ (at_end rest some) (c.answer.ensures.handled rest kept)),
+          (subst (λ (lines : List (List ℕ)). Handled P.tells old new (ending_of c.answer.result) lines (written c.args.output.now) (written c.answer.new.output)) (at_end rest some) (c.answer.ensures.handled rest kept)),
     )

@@ -1,47 +1,16 @@
-use Rattle.std.proofs.Common.{◌≡◌, ℕ, ◌+◌, ◌-◌, ◌≤◌, List, [], ◌++◌, Option, None, Some, Err, inl, inr, refl, take, drop, length, sym, ◌∙◌, ap, subst, arith, length-take, length-append}
-use Rattle.std.proofs.lemmas.List.{take-append-le}
+use Rattle.std.proofs.Common.{◌≡◌, ℕ, ◌-◌, List, Option, None, Some, Err, refl, take, drop, sym, ◌∙◌, subst, arith}
 use Rattle.std.proofs.lemmas.Grind.{common_steps}
-use Rattle.std.specs.Prelude.{◌↔◌, IfSome}
 use Rattle.sdbt_base.specs.Counts.{counts}
-use Rattle.sdbt_base.specs.Told.{Gave, IsAtEnd}
+use Rattle.sdbt_base.specs.Told.{IsAtEnd}
 use Rattle.text_lines.specs.Lines.{rest_of}
-use Rattle.line_run.specs.Stops.{Ending}
-use Rattle.line_run.proofs.StopLaws.{ArePart}
-use Rattle.volume_desk.proofs.CarryLaws.{carries_end, carries_going, carries_start, carries_then}
+use Rattle.session_calls.proofs.CarryLaws.{carries_end, carries_going, carries_start, carries_then}
 use Rattle.volume_serving.specs.World.{World, world}
-use Rattle.volume_serving.proofs.BlameLaws.{blamed_then, blamed_wide, fell_not}
-use Rattle.volume_serving.proofs.Reading.{IsReading, IsReading-start, IsReading-more, IsReading-stop, IsReading-end, IsReading-failed, IsReading-limit}
+use Rattle.line_run.proofs.BlameLaws.{blamed_behind, blamed_take, fell_not}
+use Rattle.line_run.proofs.TakeLaws.{none_given, nothing_left, taken_of}
+use Rattle.volume_serving.specs.Handled.{Handled}
+use Rattle.volume_serving.proofs.HandledLaws.{replying}
+use Rattle.line_run.proofs.ReadingLaws.{IsReading, IsReading-start, IsReading-more, IsReading-stop, IsReading-end, IsReading-failed, IsReading-limit}
 use Rattle.volume_serving.proofs.serving.serve_input.Goals as goal
-
--- nothing given leaves all
-none_given : (a b : Option (List ℕ)) (bytes : List ℕ) (count : ℕ) → count ≡ 0 → Gave a (take count bytes) b → a ≡ b
-none_given a None bytes count e gave = gave
-none_given a (Some rest) bytes count e gave = gave ∙ ap (λ (front : List ℕ). Some (front ++ rest)) (ap (λ (n : ℕ). take n bytes) e)
-
--- the front of what was taken is within it
-front : (into behind : List ℕ) (count : ℕ) → count ≤ length into → take count into ≡ take count (into ++ behind)
-front into behind count bound = sym (take-append-le count into behind bound)
-
--- what one take gave: no more than the limit leaves, and than a piece has
-record Taken (left count : ℕ) (before after : Option (List ℕ)) (piece : List ℕ) : Type 0 where
-  gave : Gave before piece after
-  short : length piece ≤ left
-  few : length piece ≤ 4096
-  less : left ≡ length piece + (left - count)
-
-taken_of : (into behind : List ℕ) (count left : ℕ) (before after : Option (List ℕ)) → count ≤ length into → length into ≤ left → length into ≤ 4096 → Gave before (take count into) after
-    → Taken left count before after (take count (into ++ behind))
-taken_of into behind count left before after bound long size gave = record {
-  gave = subst (λ (bytes : List ℕ). Gave before bytes after) (front into behind count bound) gave;
-  short = omega (arith, length-take count (into ++ behind), length-append into behind, bound, long);
-  few = omega (arith, length-take count (into ++ behind), length-append into behind, bound, size);
-  less = omega (arith, length-take count (into ++ behind), length-append into behind, bound, long);
-}
-
--- and where something is left, it is given
-nothing_left : (a : Option (List ℕ)) (count : ℕ) → count ≡ 0 → IfSome a (λ rest. (count ≡ 0) ↔ (rest ≡ [])) → IsAtEnd a
-nothing_left None count e end = tt
-nothing_left (Some rest) count e end = end.0 e
 
 pub loop-left-init : goal.loop-left-init
 loop-left-init g c =
@@ -50,7 +19,7 @@ loop-left-init g c =
       table = c.requires.table;
       carries = carries_start _ _ c.args.first c.requires.ready;
       quiet = refl;
-      reading = IsReading-start P.tells (world P g.T.Tape g.L.Sink (Some c.args.first) c.args.desk.now.table c.args.platform.now c.args.tape.now c.args.ledger.now) (g.I.Source.left c.args.input.now)
+      reading = IsReading-start _ (Handled P.tells) (replying P.tells).handling (world P g.T.Tape g.L.Sink (Some c.args.first) c.args.desk.now.table c.args.platform.now c.args.tape.now c.args.ledger.now) (g.I.Source.left c.args.input.now)
           (g.O.Sink.written c.args.output.now) c.new-pending.result _ (g.met.P.Platform.has_room c.args.platform.now) c.new-pending.ensures (omega arith);
     }
 
@@ -63,8 +32,8 @@ returns-in_default-clause-ran g c =
     let mid : World = world P T L (Some l.session) l.desk.table l.platform l.tape l.ledger in
     let same : left c.take.new.self ≡ left l.input = c.in_default.ensures.nothing_taken in (
       Some l.session,
-      IsReading-failed P.tells old mid (left c.args.input.now) (left c.take.new.self) (written c.args.output.now) (written l.output) l.pending l.left
-          (subst (λ (o : Option (List ℕ)). IsReading P.tells old mid (left c.args.input.now) o (written c.args.output.now) (written l.output) l.pending l.left) (sym same) l.invariant.reading)
+      IsReading-failed (replying P.tells) old mid (left c.args.input.now) (left c.take.new.self) (written c.args.output.now) (written l.output) l.pending l.left
+          (subst (λ (o : Option (List ℕ)). IsReading (Handled P.tells) old mid (left c.args.input.now) o (written c.args.output.now) (written l.output) l.pending l.left) (sym same) l.invariant.reading)
           c.loop-left-test.true,
     )
 
@@ -77,11 +46,11 @@ returns-then-count-eq0-clause-ran g c =
     let mid : World = world P T L (Some l.session) l.desk.table l.platform l.tape l.ledger in
     let into : List ℕ = c.take.new.into in
     let same : left l.input ≡ left c.take.new.self = none_given (left l.input) (left c.take.new.self) into c.in-Ok.count c.if-count-eq0.true c.in-Ok.ensures.taken in
-    let reading = subst (λ (o : Option (List ℕ)). IsReading P.tells old mid (left c.args.input.now) o (written c.args.output.now) (written l.output) l.pending l.left) same l.invariant.reading in
+    let reading = subst (λ (o : Option (List ℕ)). IsReading (Handled P.tells) old mid (left c.args.input.now) o (written c.args.output.now) (written l.output) l.pending l.left) same l.invariant.reading in
     let end = subst (λ (o : Option (List ℕ)). IsAtEnd o) same (nothing_left (left l.input) c.in-Ok.count c.if-count-eq0.true c.in-Ok.ensures.end) in
     let ended = c.serve_end.ensures.handled (rest_of reading.taken) reading.unfinished in (
       ended.0,
-      IsReading-end P.tells old mid (world P T L ended.0 e.desk.table e.platform e.tape e.ledger) c.serve_end.result (left c.args.input.now) (left c.take.new.self) (written c.args.output.now) (written l.output) (written e.output)
+      IsReading-end (replying P.tells) old mid (world P T L ended.0 e.desk.table e.platform e.tape e.ledger) c.serve_end.result (left c.args.input.now) (left c.take.new.self) (written c.args.output.now) (written l.output) (written e.output)
           l.pending l.left reading c.loop-left-test.true end c.serve_end.ensures.stops ended.1,
     )
 
@@ -97,7 +66,7 @@ returns-in-Err-clause-ran g c =
     let took = taken_of c.take.new.into (drop c.min-room.result l.piece) c.in-Ok.count l.left (left l.input) (left c.take.new.self)
     (omega (arith, c.in-Ok.ensures.bound, c.take.auto.into)) (grind (arith, common_steps, c.take.auto.into, c.min-room.ensures)) (grind (arith, common_steps, c.take.auto.into, c.min-room.ensures)) c.in-Ok.ensures.taken in (
       None,
-      IsReading-stop P.tells old mid new (left c.args.input.now) (left l.input) (left c.take.new.self) (written c.args.output.now) (written l.output) (written e.output)
+      IsReading-stop (replying P.tells) old mid new (left c.args.input.now) (left l.input) (left c.take.new.self) (written c.args.output.now) (written l.output) (written e.output)
           l.pending l.left _ c.in-Err.stop reading took.gave took.short took.few c.in-Err.ensures.stops
           (c.in-Err.ensures.handled (rest_of reading.taken) reading.unfinished),
     )
@@ -120,7 +89,7 @@ loop-left-preserved g c =
           let served = ok.ensures.blame.quiet in
           let taken : g.I.Source.faults c.take.new.self ≡ g.I.Source.faults l.input = c.in-Ok.ensures.cause in
           (λ k. counts (served k).platform (served k).tape (taken k) (served k).output (served k).ledger) ∙ l.invariant.quiet;
-      reading = IsReading-more P.tells old mid new (left c.args.input.now) (left l.input) (left c.take.new.self) (written c.args.output.now) (written l.output) (written e.output)
+      reading = IsReading-more (replying P.tells) old mid new (left c.args.input.now) (left l.input) (left c.take.new.self) (written c.args.output.now) (written l.output) (written e.output)
           l.pending e.pending l.left (l.left - c.in-Ok.count) _ reading took.gave took.less
           (ok.ensures.pending (rest_of reading.taken) reading.unfinished) (ok.ensures.handled (rest_of reading.taken) reading.unfinished);
     }
@@ -131,7 +100,7 @@ returns-clause-ran g c =
     let old : World = world P T L (Some c.args.first) c.args.desk.now.table c.args.platform.now c.args.tape.now c.args.ledger.now in
     let mid : World = world P T L (Some l.session) l.desk.table l.platform l.tape l.ledger in (
       Some l.session,
-      IsReading-limit P.tells old mid (g.I.Source.left c.args.input.now) (g.I.Source.left l.input) (g.O.Sink.written c.args.output.now) (g.O.Sink.written l.output)
+      IsReading-limit (replying P.tells) old mid (g.I.Source.left c.args.input.now) (g.I.Source.left l.input) (g.O.Sink.written c.args.output.now) (g.O.Sink.written l.output)
           l.pending l.left l.invariant.reading (let none = c.loop-left-test.false in omega arith),
     )
 
@@ -154,36 +123,15 @@ pub returns-clause-carries : goal.returns-clause-carries
 returns-clause-carries g c = carries_end _ _ _ _ _ _ _ (λ never. tt) c.loop-left.invariant.carries
 
 pub returns-in_default-clause-blame : goal.returns-in_default-clause-blame
-returns-in_default-clause-blame g c =
-    let P = g.P.Platform in let T = g.T.Tape in let I = g.I.Source in let O = g.O.Sink in let L = g.L.Sink in
-    let l = c.loop-left in
-    let mid = counts (P.faults l.platform) (T.faults l.tape) (I.faults l.input) (O.faults l.output) (L.faults l.ledger) in
-    let now = counts (P.faults l.platform) (T.faults l.tape) (I.faults c.take.new.self) (O.faults l.output) (L.faults l.ledger) in
-    blamed_then _ mid now _ l.invariant.quiet (record {
-      fell = record { platform = omega arith; tape = omega arith; input = c.take.ensures.count; output = omega arith; ledger = omega arith };
-      quiet = tt;
-      cause = (c.in_default.ensures.cause, refl);
-    })
+returns-in_default-clause-blame g c = blamed_take _ _ _ _ _ _ _ c.loop-left.invariant.quiet c.take.ensures.count c.in_default.ensures.cause
 
 pub returns-then-count-eq0-clause-blame : goal.returns-then-count-eq0-clause-blame
-returns-then-count-eq0-clause-blame g c =
-    let P = g.P.Platform in let T = g.T.Tape in let I = g.I.Source in let O = g.O.Sink in let L = g.L.Sink in
-    let l = c.loop-left in let e = c.serve_end.new in
-    let part : ArePart (counts (P.faults l.platform) (T.faults l.tape) 0 (O.faults l.output) (L.faults l.ledger)) (counts (P.faults e.platform) (T.faults e.tape) 0 (O.faults e.output) (L.faults e.ledger))
-    (counts (P.faults l.platform) (T.faults l.tape) (I.faults l.input) (O.faults l.output) (L.faults l.ledger)) (counts (P.faults e.platform) (T.faults e.tape) (I.faults c.take.new.self) (O.faults e.output) (L.faults e.ledger))
-    = record { platform = inr (refl, refl); tape = inr (refl, refl); input = inl (refl, refl, c.in-Ok.ensures.cause); output = inr (refl, refl); ledger = inr (refl, refl) } in
-    blamed_then _ _ _ c.serve_end.result l.invariant.quiet (blamed_wide _ _ _ _ c.serve_end.result part c.serve_end.ensures.blame)
+returns-then-count-eq0-clause-blame g c = blamed_behind _ _ _ _ _ _ _ _ _ _ _ c.serve_end.result c.loop-left.invariant.quiet c.in-Ok.ensures.cause c.serve_end.ensures.blame
 
 pub returns-in-Err-clause-blame : goal.returns-in-Err-clause-blame
 returns-in-Err-clause-blame g c =
-    let P = g.P.Platform in let T = g.T.Tape in let I = g.I.Source in let O = g.O.Sink in let L = g.L.Sink in
-    let l = c.loop-left in let e = c.serve_piece.new in
-    let part : ArePart (counts (P.faults l.platform) (T.faults l.tape) 0 (O.faults l.output) (L.faults l.ledger)) (counts (P.faults e.platform) (T.faults e.tape) 0 (O.faults e.output) (L.faults e.ledger))
-    (counts (P.faults l.platform) (T.faults l.tape) (I.faults l.input) (O.faults l.output) (L.faults l.ledger)) (counts (P.faults e.platform) (T.faults e.tape) (I.faults c.take.new.self) (O.faults e.output) (L.faults e.ledger))
-    = record { platform = inr (refl, refl); tape = inr (refl, refl); input = inl (refl, refl, c.in-Ok.ensures.cause); output = inr (refl, refl); ledger = inr (refl, refl) } in
-    let stopped : Ending = Err c.in-Err.stop in
     let one = c.in-Err.ensures.blame in
-    blamed_then _ _ _ stopped l.invariant.quiet (blamed_wide _ _ _ _ stopped part (record { fell = one.fell; quiet = tt; cause = one.cause }))
+    blamed_behind _ _ _ _ _ _ _ _ _ _ _ (Err c.in-Err.stop) c.loop-left.invariant.quiet c.in-Ok.ensures.cause (record { fell = one.fell; quiet = tt; cause = one.cause })
 
 pub returns-clause-blame : goal.returns-clause-blame
 returns-clause-blame g c = record { fell = fell_not _ _ c.loop-left.invariant.quiet; quiet = tt; cause = c.loop-left.invariant.quiet }

@@ -3,9 +3,10 @@ use Rattle.sdbt_base.specs.Counts.{counts}
 use Rattle.device_course.specs.States.{around}
 use Rattle.device_session.specs.Open.{blocks_of}
 use Rattle.volume_table.specs.Tables.{IsTable}
-use Rattle.volume_desk.specs.Carrying.{Carries}
+use Rattle.session_calls.specs.Carrying.{Carries}
 use Rattle.volume_serving.specs.World.{world}
-use Rattle.volume_serving.proofs.Reading.{IsReading}
+use Rattle.line_run.proofs.ReadingLaws.{IsReading}
+use Rattle.volume_serving.specs.Handled.{Handled}
 use Rattle.volume_serving.proofs.serving.serve_input.Given as goal
 
 abbrev pub invariant-loop-left : goal.invariant-loop-left
@@ -19,7 +20,7 @@ invariant-loop-left g l =
       table : IsTable (blocks_of l.session) l.desk.table;
       carries : Carries P.tells (around P T L l.fn.platform l.fn.tape l.fn.ledger) (around P T L l.platform l.tape l.ledger) l.fn.first (Some l.session) (Unit {0});
       quiet : counts (P.faults l.platform) (T.faults l.tape) (I.faults l.input) (O.faults l.output) (L.faults l.ledger) ≡ counts (P.faults l.fn.platform) (T.faults l.fn.tape) (I.faults l.fn.input) (O.faults l.fn.output) (L.faults l.fn.ledger);
-      reading : IsReading P.tells (world P T L (Some l.fn.first) l.fn.desk.table l.fn.platform l.fn.tape l.fn.ledger) (world P T L (Some l.session) l.desk.table l.platform l.tape l.ledger)
+      reading : IsReading (Handled P.tells) (world P T L (Some l.fn.first) l.fn.desk.table l.fn.platform l.fn.tape l.fn.ledger) (world P T L (Some l.session) l.desk.table l.platform l.tape l.ledger)
           (I.left l.fn.input) (I.left l.input) (O.written l.fn.output) (O.written l.output) l.pending l.left;
     }
 

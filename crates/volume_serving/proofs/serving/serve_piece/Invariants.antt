@@ -5,7 +5,7 @@ use Rattle.device_session.specs.Open.{blocks_of}
 use Rattle.line_run.specs.Pending.{IsUnfinished}
 use Rattle.line_run.proofs.LineLaws.{IsServing}
 use Rattle.volume_table.specs.Tables.{IsTable}
-use Rattle.volume_desk.specs.Carrying.{Carries}
+use Rattle.session_calls.specs.Carrying.{Carries}
 use Rattle.volume_serving.specs.Handled.{Handled}
 use Rattle.volume_serving.specs.World.{world}
 use Rattle.volume_serving.proofs.serving.serve_piece.Given as goal

@@ -3,7 +3,7 @@ use Rattle.std.proofs.Common.{◌≡◌, List, [], ◌∷◌, ◌++◌, length, 
 use Rattle.std.proofs.lemmas.List.{map-append}
 use Rattle.std.specs.Prelude.{Some}
 use Rattle.sdbt_base.specs.Arrays.{Device}
-use Rattle.nbd_terms.specs.Leading.{Leads, last_of, marks_of, Led}
+use Rattle.device_course.specs.Leading.{Leads, last_of, marks_of, Led}
 
 pub last_of-append : {S : Type 0} (entry : S) (one two : List S) → last_of entry (one ++ two) ≡ last_of (last_of entry one) two
 last_of-append entry [] two = refl

@@ -1,8 +1,10 @@
 -- Whose count of faults rose in a part of a run, by what its calls tell.
-use Rattle.std.proofs.Common.{◌≡◌, ◌≤◌, inl, inr, ℕ, Result, sym, subst, arith}
-use Rattle.sdbt_base.specs.Counts.{Counts, NoneFell}
+use Rattle.std.proofs.Common.{◌≡◌, ◌≤◌, inl, inr, ℕ, Result, Err, refl, sym, subst, arith}
+use Rattle.sdbt_base.specs.Counts.{Counts, NoneFell, counts}
+use Rattle.sdbt_base.specs.Faults.{Rose}
 use Rattle.line_run.specs.Stops.{IsBlamedOn}
 use Rattle.line_run.specs.declared.stop.Stop.{Stop}
+use Rattle.line_run.specs.declared.stop.Stop.TheVariants as stops
 use Rattle.line_run.proofs.StopLaws.{ArePart, IsPart, NoneFell-nothing, cause_wide, done_wide}
 
 -- counts that are as they were did not fall
@@ -36,3 +38,21 @@ blamed_wide before now wide wide_now result part blamed = record {
 -- calls that left the counts, and then a part
 pub blamed_then : {T : Type 0} (before mid now : Counts) (result : Result T Stop) → mid ≡ before → IsBlamedOn mid now result → IsBlamedOn before now result
 blamed_then before mid now result same = subst (λ (c : Counts). IsBlamedOn c now result) same
+
+-- the same of a part that isn't handed the input, of which a take had told no fault
+pub blamed_behind : {T : Type 0} (before : Counts) (platform platform_now tape tape_now input input_now output output_now ledger ledger_now : ℕ) (result : Result T Stop) → counts platform tape input output ledger ≡ before → input_now ≡ input
+    → IsBlamedOn (counts platform tape 0 output ledger) (counts platform_now tape_now 0 output_now ledger_now) result → IsBlamedOn before (counts platform_now tape_now input_now output_now ledger_now) result
+blamed_behind before platform platform_now tape tape_now input input_now output output_now ledger ledger_now result quiet taken blamed =
+    let part : ArePart (counts platform tape 0 output ledger) (counts platform_now tape_now 0 output_now ledger_now) (counts platform tape input output ledger) (counts platform_now tape_now input_now output_now ledger_now)
+    = record { platform = inr (refl, refl); tape = inr (refl, refl); input = inl (refl, refl, taken); output = inr (refl, refl); ledger = inr (refl, refl) } in
+    blamed_then before (counts platform tape input output ledger) (counts platform_now tape_now input_now output_now ledger_now) result quiet (blamed_wide _ _ _ _ result part blamed)
+
+-- calls that left the counts, and then a take that failed
+pub blamed_take : {T : Type 0} (before : Counts) (platform tape input input_now output ledger : ℕ) → counts platform tape input output ledger ≡ before → input ≤ input_now → Rose input input_now
+    → IsBlamedOn {T = T} before (counts platform tape input_now output ledger) (Err stops.Source)
+blamed_take before platform tape input input_now output ledger quiet fell rose =
+    blamed_then before (counts platform tape input output ledger) (counts platform tape input_now output ledger) (Err stops.Source) quiet (record {
+      fell = record { platform = omega arith; tape = omega arith; input = fell; output = omega arith; ledger = omega arith };
+      quiet = tt;
+      cause = (rose, refl);
+    })

@@ -1,15 +1,16 @@
 -- Calls for blocks, one after another.
-use Rattle.std.proofs.Common.{◌≡◌, ◌≤◌, ◌+◌, ◌∙◌, ℕ, Result, Ok, Err, ap, subst, arith}
+use Rattle.std.proofs.Common.{◌≡◌, ◌≤◌, ◌+◌, ◌∙◌, ℕ, None, Result, Ok, Err, ap, refl, subst, arith}
 use Rattle.std.specs.Prelude.{IfErr, OnOk}
 use Rattle.platform.specs.declared.platforms.Platform.{Ghosts as PlatformGhosts}
+use Rattle.device_session.specs.Open.{IsOpen}
 use Rattle.device_session.specs.Sessions.{Session}
 use Rattle.session_calls.specs.Along.{Along, Drawn}
 use Rattle.sdbt_base.specs.Counts.{Counts, counts}
 use Rattle.session_calls.specs.Blame.{HasCause}
 use Rattle.session_calls.specs.Goes.{Goes}
 use Rattle.session_calls.specs.declared.stops.DeviceStop.{DeviceStop}
-use Rattle.session_calls.proofs.AlongLaws.{along_then}
-use Rattle.nbd_core.specs.Serving.{Calls}
+use Rattle.session_calls.proofs.AlongLaws.{along_start, along_then}
+use Rattle.session_calls.specs.Calling.{Calls}
 
 -- more updates are enough too
 pub along_more : {S : Type 0} (P : PlatformGhosts S) (some more : ℕ) (platform platform_now : S) (drawn drawn_now : Drawn) (session now : Session) → some ≤ more → Along P some platform platform_now drawn drawn_now session now → Along P more platform platform_now drawn drawn_now session now
@@ -59,6 +60,23 @@ calls_then P some more first second third drawn mid drawn_now session between no
       cause = subst (λ (c : Counts). IfErr result (HasCause c (counts (P.faults third) drawn_now.faults 0 0 0))) same two.cause;
     }
 
+-- no call
+pub calls_none : {S X : Type 0} (P : PlatformGhosts S) (updates : ℕ) (platform : S) (drawn : Drawn) (session : Session) (x : X) → IsOpen session (P.head platform) → Calls P updates platform platform drawn drawn session session (Ok x)
+calls_none P updates platform drawn session x there_open =
+    record { along = along_more P 0 updates platform platform drawn drawn session session (omega arith) (along_start P platform drawn session there_open); stops = tt; quiet = refl; cause = tt }
+
+-- that were done, whatever is answered
+pub calls_done : {S X Y : Type 0} (P : PlatformGhosts S) (some more : ℕ) (platform platform_now : S) (drawn drawn_now : Drawn) (session now : Session) (x : X) (y : Y) → some ≤ more
+    → Calls P some platform platform_now drawn drawn_now session now (Ok x) → Calls P more platform platform_now drawn drawn_now session now (Ok y)
+calls_done P some more platform platform_now drawn drawn_now session now x y le calls =
+    record { along = along_more P some more platform platform_now drawn drawn_now session now le calls.along; stops = tt; quiet = calls.quiet; cause = tt }
+
+-- what is said of some updates holds of more
+pub calls_more : {S X : Type 0} (P : PlatformGhosts S) (some more : ℕ) (platform platform_now : S) (drawn drawn_now : Drawn) (session now : Session) (result : Result X DeviceStop) → some ≤ more
+    → Calls P some platform platform_now drawn drawn_now session now result → Calls P more platform platform_now drawn drawn_now session now result
+calls_more P some more platform platform_now drawn drawn_now session now result le calls =
+    record { along = along_more P some more platform platform_now drawn drawn_now session now le calls.along; stops = calls.stops; quiet = calls.quiet; cause = calls.cause }
+
 -- no count rose where a call was done
 pub platform_quiet : (before now : Counts) → now ≡ before → now.platform ≡ before.platform
 platform_quiet before now same = ap (λ (c : Counts). c.platform) same
@@ -68,8 +86,8 @@ tape_quiet before now same = ap (λ (c : Counts). c.tape) same
 
 -- nothing that a call draws
 abbrev pub no_draw : Drawn
-no_draw = record { keys = Rattle.std.proofs.Common.None; faults = 0 }
+no_draw = record { keys = None; faults = 0 }
 
 -- with so many faults of a tape
 abbrev pub draws_none : ℕ → Drawn
-draws_none faults = record { keys = Rattle.std.proofs.Common.None; faults = faults }
+draws_none faults = record { keys = None; faults = faults }

@@ -1,4 +1,4 @@
--- How parts of the serving of requests compose, and which calls are such parts.
+-- How parts of a run over a session compose, and which calls are such parts.
 use Rattle.std.proofs.Common.{◌≡◌, ◌++◌, ℕ, List, [], ◌∷◌, Option, None, Some, Ok, Err, inl, inr, refl, subst, ◌∙◌, arith}
 use Rattle.std.specs.Prelude.{IfSome, IsOk}
 use Rattle.sdbt_base.specs.Arrays.{Device, Session as OpenSession, State, closed, mounted}
@@ -23,7 +23,7 @@ use Rattle.session_calls.specs.declared.committing.Committed.{Committed}
 use Rattle.session_calls.specs.declared.stops.DeviceStop.{DeviceStop}
 use Rattle.session_calls.proofs.CommitLaws.{reply_made, stop_made}
 use Rattle.session_calls.proofs.StateLaws.{with_array}
-use Rattle.nbd_core.specs.Serving.{Carries, IsReady}
+use Rattle.session_calls.specs.Carrying.{Carries, IsReady}
 
 -- nothing happened
 pub carries_start : (tells : Type 0) (here : Outside) (session : Session) → IsReady tells here session → Carries tells here here session (Some session) (Unit {0})
