@@ -1,0 +1,5 @@
+pub mod SpanLaws
+pub mod StatusLaws
+pub mod StartLaws
+pub mod EndLaws
+pub mod ProgramLaws

@@ -1,0 +1,26 @@
+use Rattle.std.proofs.Common.{Some, Ok, Err, inl, inr, refl, sym, arith, ◌≤◌, ◌∙◌, ap}
+use Rattle.session_calls.specs.Along.{drawn_by}
+use Rattle.volume_desk.proofs.CallLaws.{no_draw}
+use Rattle.volume_desk.proofs.CarryLaws.{carries_along, carries_end, carries_going, carries_then}
+use Rattle.volumes.proofs.StartLaws.{answers_behind, silent_table}
+use Rattle.volumes.proofs.StatusLaws.{blames_done, blames_halt, blames_lines, blames_then, of_platform}
+use Rattle.volumes.proofs.running.serve_volumes.Goals as goal
+
+pub returns-in-Err-clause-carries : goal.returns-in-Err-clause-carries
+returns-in-Err-clause-carries g c =
+    carries_end _ _ _ _ _ _ _ (λ going. tt)
+    (carries_along g.P.Platform g.T.Tape g.L.Sink 0 c.args.platform.now c.read_table.new.platform c.args.tape.now c.args.tape.now c.args.ledger.now _ _ c.requires (c.read_table.ensures.along (drawn_by g.T.Tape c.args.tape.now)))
+
+pub returns-in-Err-clause-blame : goal.returns-in-Err-clause-blame
+returns-in-Err-clause-blame g c = blames_halt _ _ _ _ c.in-Err.halt (of_platform _ _ _ _ _ _) c.in-Err.ensures.blame
+
+pub returns-in-Err-clause-serves : goal.returns-in-Err-clause-serves
+returns-in-Err-clause-serves g c = inl (c.in-Err.halt, refl, silent_table _ _ _ c.args.first _ c.in-Err.halt _ _ c.in-Err.ensures.early (c.read_table.ensures.along no_draw).cell c.in-Err.ensures.finds)
+
+pub returns-in-Err-clause-idle : goal.returns-in-Err-clause-idle
+returns-in-Err-clause-idle g c told of =
+    let along = c.read_table.ensures.along no_draw in
+    (record { undrawn = refl; untaken = refl; unlisted = refl; pages = omega (arith, along.rises, along.adds); cell = along.cell }, refl)
+
+pub returns-in-Err-clause-damage : goal.returns-in-Err-clause-damage
+returns-in-Err-clause-damage g c told = c.in-Err.ensures.damage told (c.requires.mounted told)

@@ -1,0 +1,4 @@
+pub mod Halts
+pub mod Starting
+pub mod Running
+pub mod Program
