@@ -95,9 +95,7 @@ impl Row {
             Given::Script(script) => script.bytes(),
             Given::Client(client) => client.said(),
         };
-        let ran = self
-            .scene
-            .run(run.server, &run.words, input, self.step)?;
+        let ran = self.scene.run(run.server, &run.words, input, self.step)?;
         match &run.input {
             Given::Script(_) => self.write_output(&ran)?,
             Given::Client(client) => {

@@ -1,35 +1,27 @@
 -- What a run says last, what its exit status tells of its end, and that it completes.
-use Rattle.std.proofs.Common.{◌≡◌, ◌≢◌, ◌≤◌, ◌<◌, ◌+◌, ◌*◌, ◌^◌, ◌++◌, ◌∙◌, ◌⊎◌, ℕ, List, [], Option, None, Some, Result, Ok, Err, inl, inr, refl, sym, ap, subst, length, append-nil, length-append, arith}
-use Rattle.std.specs.Prelude.{All, IfErr}
-use Rattle.std.specs.List.{flat_map}
+use Rattle.std.proofs.Common.{◌≡◌, ◌≢◌, ◌∙◌, ◌⊎◌, ℕ, List, [], Option, None, Some, Result, Ok, Err, inl, inr, refl, sym, ap, subst, length, arith}
+use Rattle.std.specs.Prelude.{IfErr}
 use Rattle.sdbt_base.specs.Counts.{Counts, NoneRose}
-use Rattle.sdbt_base.specs.Told.{Gave, Got, IsAtEnd}
+use Rattle.sdbt_base.specs.Told.{Gave, Got}
 use Rattle.sdbt_base.proofs.ToldLaws.{Gave-nothing}
-use Rattle.text_lines.specs.Lines.{lines_of}
 use Rattle.platform.specs.Image.{Image}
 use Rattle.page_store.specs.Roots.{IsRootWithin}
 use Rattle.device_terms.specs.Served.{IsServedCell, IsServedImage}
 use Rattle.device_course.specs.States.{Outside}
 use Rattle.line_run.specs.Stops.{Ending, TookUntil}
-use Rattle.line_run.specs.declared.stop.Stop.{Stop}
 use Rattle.line_run.specs.declared.stop.Stop.TheVariants as stops
 use Rattle.nbd_terms.specs.Held.{Held}
 use Rattle.session_calls.specs.Mounts.{IsMountStop}
 use Rattle.session_calls.specs.declared.stops.DeviceStop.{DeviceStop}
 use Rattle.session_calls.proofs.MountLaws.{bad_served}
 use Rattle.session_calls.specs.declared.stops.DeviceStop.TheVariants as device
-use Rattle.volume_table.specs.declared.volume.Volume.{Volume}
-use Rattle.volume_lines.specs.Replies.{Reply, line_of}
-use Rattle.volume_terms.specs.Counting.{IsNotShort, needed_for_line}
-use Rattle.volume_terms.specs.Volumes.{IsTabled}
-use Rattle.volume_terms.proofs.CountingLaws.{none_short}
-use Rattle.volumes.specs.Halts.{Blames, EndsAs, HasCause, HasLastLine, IsTold, exit_of, last_line_of, status_at}
-use Rattle.volumes.specs.Program.{IsAmple, IsComplete, IsUnlessFault, Took}
-use Rattle.volumes.specs.Running.{Answers, IsEarly, IsSilent, Looked, OnVolumes, Ran, Serves, halting}
-use Rattle.volumes.specs.Starting.{EndsEarly, HaltsAtDamage, HaltsBehind, HasNoTable, IsRefusal, IsStart}
+use Rattle.volumes.specs.Halts.{HasCause, IsTold, last_line_of, status_at}
+use Rattle.volumes.specs.Program.{Took}
+use Rattle.volumes.specs.Running.{IsEarly, Looked, Serves, halting}
+use Rattle.volumes.specs.Starting.{HaltsAtDamage, HaltsBehind}
 use Rattle.volumes.specs.declared.halts.Halt.{Halt}
 use Rattle.volumes.specs.declared.halts.Halt.TheVariants as halts
-use Rattle.volumes.proofs.StatusLaws.{at_eight, at_ten, at_three, at_twelve, never_two, never_zero}
+use Rattle.volumes.proofs.StatusLaws.{at_ten, at_three, at_twelve, never_two, never_zero}
 
 -- ---- what a mount finds
 
@@ -92,7 +84,7 @@ not_sink : (ended : Halt) (due : ℕ) → status_at ended ≡ due → due ≢ 4 
 not_sink ended due is other sink = other (sym is ∙ ap status_at sink)
 
 -- the halt behind a status that is none of a fault of the output
-halted_at : (halted ended : Halt) (due : ℕ) (written written_now : Option (List ℕ)) → IsTold halted ended written written_now → status_at ended ≡ due → due ≢ 4 → ended ≡ halted
+pub halted_at : (halted ended : Halt) (due : ℕ) (written written_now : Option (List ℕ)) → IsTold halted ended written written_now → status_at ended ≡ due → due ≢ 4 → ended ≡ halted
 halted_at halted ended due written written_now told is other = (ended_as halted ended written written_now told (not_sink ended due is other)).0
 
 pub took_halted : (From : Held → Type 0) (old new : Outside) (halted ended : Halt) (left left_now written written_then written_now : Option (List ℕ)) → Serves From old new (Err halted) left left_now written written_then → IsTold halted ended written_then written_now
@@ -126,13 +118,13 @@ took_halted From old new halted ended left left_now written written_then written
     nothing = λ which. elim which [
       | inl two ↦ absurd (never_two ended two)
       | inr ten ↦
-        let same : ended ≡ halted = halted_at halted ended 10 written_then written_now told ten (λ x. omega (arith, x)) in
-        absurd (lines_never ending halted is (elim (at_ten ended ten) [ inl e ↦ inl (sym same ∙ e) | inr e ↦ inr (sym same ∙ e) ]))
+          let same : ended ≡ halted = halted_at halted ended 10 written_then written_now told ten (λ x. omega (arith, x)) in
+          absurd (lines_never ending halted is (elim (at_ten ended ten) [ inl e ↦ inl (sym same ∙ e) | inr e ↦ inr (sym same ∙ e) ]))
     ];
   },
 )
 
-ok_ending : (ending : Ending) → Ok {T = Unit {0}} {E = Halt} tt ≡ halting ending → ending ≡ Ok tt
+pub ok_ending : (ending : Ending) → Ok tt ≡ halting ending → ending ≡ Ok tt
 ok_ending (Ok done) is = refl
 ok_ending (Err stop) is = cc
 

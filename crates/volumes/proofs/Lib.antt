@@ -3,3 +3,4 @@ pub mod StatusLaws
 pub mod StartLaws
 pub mod EndLaws
 pub mod ProgramLaws
+pub mod ReachLaws

@@ -1,34 +1,30 @@
 -- When a run is refused, and when it completes.
-use Rattle.std.proofs.Common.{◌≡◌, ◌≢◌, ◌≤◌, ◌<◌, ◌+◌, ◌*◌, ◌^◌, ◌++◌, ◌∙◌, ◌⊎◌, ℕ, List, [], Option, None, Some, Result, Ok, Err, inl, inr, refl, sym, ap, subst, length, append-nil, length-append, arith}
-use Rattle.std.specs.Prelude.{All, IfErr}
+use Rattle.std.proofs.Common.{◌≡◌, ◌≤◌, ◌+◌, ◌*◌, ◌++◌, ◌∙◌, ◌⊎◌, ℕ, List, Option, None, Some, Result, Ok, Err, inl, inr, refl, sym, ap, subst, length, append-nil, length-append, arith}
+use Rattle.std.specs.Prelude.{IfErr}
 use Rattle.std.specs.List.{flat_map}
 use Rattle.sdbt_base.specs.Counts.{Counts, NoneRose}
 use Rattle.sdbt_base.specs.Told.{Gave, Got, IsAtEnd}
 use Rattle.text_lines.specs.Lines.{lines_of}
-use Rattle.platform.specs.Image.{Image}
 use Rattle.device_terms.specs.Served.{IsServedImage}
 use Rattle.device_course.specs.States.{Outside}
-use Rattle.line_run.specs.Puts.{AreLines, IsBehind, no_line}
-use Rattle.line_run.specs.Stops.{Ending, TookUntil}
+use Rattle.line_run.specs.Stops.{Ending}
 use Rattle.line_run.specs.declared.stop.Stop.{Stop}
 use Rattle.line_run.specs.declared.stop.Stop.TheVariants as stops
 use Rattle.nbd_terms.specs.Held.{Held}
-use Rattle.session_calls.specs.declared.stops.DeviceStop.{DeviceStop}
 use Rattle.session_calls.specs.declared.stops.DeviceStop.TheVariants as device
 use Rattle.volume_table.specs.declared.volume.Volume.{Volume}
-use Rattle.volume_lines.specs.Replies.{Reply, line_of}
-use Rattle.volume_serving.specs.Handled.{AreMany}
-use Rattle.volume_terms.specs.Counting.{IsNotShort, needed_for_line}
+use Rattle.volume_lines.specs.Replies.{line_of}
+use Rattle.volume_terms.specs.Counting.{needed_for_line}
 use Rattle.volume_terms.specs.Volumes.{IsTabled}
 use Rattle.volume_terms.proofs.CountingLaws.{none_short}
-use Rattle.volumes.specs.Halts.{Blames, EndsAs, HasCause, HasLastLine, IsTold, exit_of, last_line_of, status_at}
+use Rattle.volumes.specs.Halts.{EndsAs, HasCause, IsTold, last_line_of, status_at}
 use Rattle.volumes.specs.Program.{IsAmple, IsComplete, IsUnlessFault}
-use Rattle.volumes.specs.Running.{Answers, IsSilent, Looked, OnVolumes, Ran, Serves, halting}
+use Rattle.volumes.specs.Running.{Answers, Looked, Ran, Serves, halting}
 use Rattle.volumes.specs.Starting.{EndsEarly, HasNoTable, IsRefusal, IsStart}
 use Rattle.volumes.specs.declared.halts.Halt.{Halt}
 use Rattle.volumes.specs.declared.halts.Halt.TheVariants as halts
 use Rattle.volumes.proofs.EndLaws.{halted_at, ok_ending}
-use Rattle.volumes.proofs.StatusLaws.{at_eight, at_ten, never_two, never_zero}
+use Rattle.volumes.proofs.StatusLaws.{at_eight, at_ten}
 
 -- ---- how a run halted that ended with a halt
 
@@ -127,8 +123,12 @@ unless_fault : (halted ended : Halt) (due : ℕ) (written written_now : Option (
 unless_fault halted ended due written written_now (inl (same, got)) is = inl (ap status_at same ∙ is)
 unless_fault halted ended due written written_now (inr (sink, has, part)) is = inr (ap status_at sink)
 
+-- a run that halted so
+abbrev Halted : Halt → Result (Unit {0}) Halt
+Halted halt = Err halt
+
 due_or_platform : (halted ended due_halt : Halt) (due : ℕ) (written written_now : Option (List ℕ)) → IsTold halted ended written written_now → status_at due_halt ≡ due
-    → (Err {T = Unit {0}} halted ≡ Err due_halt) ⊎ (Err {T = Unit {0}} halted ≡ Err (halts.Stopped (stops.Device device.Platform))) → IsUnlessFault due (status_at ended)
+    → (Halted halted ≡ Halted due_halt) ⊎ (Halted halted ≡ Halted (halts.Stopped (stops.Device device.Platform))) → IsUnlessFault due (status_at ended)
 due_or_platform halted ended due_halt due written written_now told is (inl e) =
     let same : halted ≡ due_halt = cc in
     elim (unless_fault halted ended due written written_now told (ap status_at same ∙ is)) [ inl x ↦ inl x | inr x ↦ inr (inl x) ]
@@ -167,11 +167,11 @@ pub no_table_due : (tells : Type 0) (old new : Outside) (Idle : Type 0) (left le
     → (entry : Held) → IsStart tells old entry → HasNoTable entry → IsUnlessFault 10 (status_at ended) ⊎ (status_at ended ≡ 11)
 no_table_due tells old new Idle left left_now written written_now ended h entry start none = elim h.serves [
   | inl (halt, is, silent) ↦
-    let same : h.halted ≡ halt = let e : Err h.halted ≡ Err halt = is in cc in
-    due_early h.halted ended halt entry h.written_then written_now same h.told (silent.stayed entry start).1
+      let same : h.halted ≡ halt = let e : Err h.halted ≡ Err halt = is in cc in
+      due_early h.halted ended halt entry h.written_then written_now same h.told (silent.stayed entry start).1
   | inr (ending, is, answers) ↦
-    let there = answers.led entry start in
-    absurd (none there.table there.tabled)
+      let there = answers.led entry start in
+      absurd (none there.table there.tabled)
 ]
 
 -- none is served
@@ -179,8 +179,8 @@ pub done_tabled : (tells : Type 0) (old new : Outside) (left left_now written wr
 done_tabled tells old new left left_now written written_now d entry start none = elim d.serves [
   | inl (halt, is, silent) ↦ (let e : Ok tt ≡ Err halt = is in cc)
   | inr (ending, is, answers) ↦
-    let there = answers.led entry start in
-    none there.table there.tabled
+      let there = answers.led entry start in
+      none there.table there.tabled
 ]
 
 -- ---- a run that completes
@@ -264,8 +264,8 @@ complete_halted tells old new Idle before now left left_now written written_now 
     let cause_then : HasCause before now h.halted = subst (HasCause before now) same cause in
     ap status_at (same ∙ (elim h.serves [
       | inl (halt, is, silent) ↦
-        let e : h.halted ≡ halt = let f : Err h.halted ≡ Err halt = is in cc in
-        e ∙ lacked_early before now halt entry table tabled (subst (HasCause before now) e cause_then) quiet (silent.stayed entry start).1
+          let e : h.halted ≡ halt = let f : Err h.halted ≡ Err halt = is in cc in
+          e ∙ lacked_early before now halt entry table tabled (subst (HasCause before now) e cause_then) quiet (silent.stayed entry start).1
       | inr (ending, is, answers) ↦ by ending is answers cause_then
     ]))
   where
@@ -280,6 +280,6 @@ pub complete_done : (tells : Type 0) (old new : Outside) (left left_now written 
 complete_done tells old new left left_now written written_now d entry start text ample = elim d.serves [
   | inl (halt, is, silent) ↦ (let e : Ok tt ≡ Err halt = is in cc)
   | inr (ending, is, answers) ↦
-    subst (λ (w : Option (List ℕ)). IsComplete text written w) (sym d.unput)
-    (complete_lines tells old new left left_now written d.written_then entry text start ample (subst (λ (e : Ending). Answers (IsStart tells old) old new e left left_now written d.written_then) (ok_ending ending is) answers))
+      subst (λ (w : Option (List ℕ)). IsComplete text written w) (sym d.unput)
+      (complete_lines tells old new left left_now written d.written_then entry text start ample (subst (λ (e : Ending). Answers (IsStart tells old) old new e left left_now written d.written_then) (ok_ending ending is) answers))
 ]

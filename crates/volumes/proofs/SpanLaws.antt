@@ -1,5 +1,5 @@
 -- What a whole run does beside its replies, from its mount on.
-use Rattle.std.proofs.Common.{◌≡◌, ◌≤◌, ℕ, List, [], Option, None, Some, Result, Ok, Err, refl, sym, subst, ◌∙◌, ap, arith}
+use Rattle.std.proofs.Common.{◌≡◌, ◌≤◌, ℕ, List, [], Option, None, Some, Result, Ok, refl, sym, subst, ◌∙◌, arith}
 use Rattle.std.specs.Prelude.{IsOk, IfOk}
 use Rattle.sdbt_base.specs.Arrays.{Device, State, closed, mounted, session_on}
 use Rattle.platform.specs.Image.{Image}
@@ -8,7 +8,6 @@ use Rattle.page_store.specs.Stands.{Stands}
 use Rattle.device_terms.specs.Served.{IsServedImage}
 use Rattle.device_course.specs.Course.{Made}
 use Rattle.device_course.specs.Keys.{KeepsOn}
-use Rattle.device_course.specs.Marks.{last_mark}
 use Rattle.device_course.specs.States.{IsAt, IsListed, Outside}
 use Rattle.device_course.proofs.KeysLaws.{on_look, on_then}
 use Rattle.device_course.proofs.MadeLaws.{made_closed, made_then, shut}

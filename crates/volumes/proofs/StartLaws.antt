@@ -1,18 +1,17 @@
 -- From which states a run goes on: behind its mount, and behind the look at its table.
-use Rattle.std.proofs.Common.{◌≡◌, ◌≢◌, ◌≤◌, ◌<◌, ◌*◌, ◌^◌, ◌∷◌, ◌++◌, ℕ, List, [], Option, None, Some, Result, Ok, Err, inl, inr, refl, sym, subst, ◌∙◌, ap, arith}
-use Rattle.std.specs.Prelude.{◌⊎◌, IfErr, IfOk, length}
-use Rattle.std.specs.List.{flat_map}
-use Rattle.sdbt_base.specs.Arrays.{Device, Session as OpenSession, State, closed, content_of, mounted, session_on}
-use Rattle.sdbt_base.specs.Told.{Gave, Got}
+use Rattle.std.proofs.Common.{◌≡◌, ◌≢◌, ◌≤◌, ◌<◌, ◌^◌, ◌++◌, ℕ, List, [], Option, None, Some, Result, Ok, Err, inl, inr, refl, sym, subst, ◌∙◌, ap, arith}
+use Rattle.std.specs.Prelude.{IfErr, IfOk, length}
+use Rattle.sdbt_base.specs.Arrays.{Device, Session as OpenSession, State, closed, mounted, session_on}
+use Rattle.sdbt_base.specs.Told.{Got}
 use Rattle.platform.specs.Calls.{Looks}
 use Rattle.platform.specs.Image.{Image}
 use Rattle.platform.specs.History.{CellStays, History}
 use Rattle.platform.specs.declared.platforms.Platform.{Ghosts as PlatformGhosts}
-use Rattle.root_codec.specs.declared.root.Root.{Root}
 use Rattle.root_codec.specs.RootRecord.{root_bytes}
 use Rattle.page_store.specs.Roots.{IsRootWithin}
 use Rattle.page_store.specs.Stands.{Stands}
 use Rattle.device_terms.specs.Served.{IsServedCell, IsServedImage}
+use Rattle.device_terms.proofs.MomentLaws.{stays_then}
 use Rattle.device_course.specs.States.{IsAt, Outside}
 use Rattle.device_course.proofs.MadeLaws.{made_then, shut}
 use Rattle.device_session.specs.Open.{blocks_of, needed_by}
@@ -21,7 +20,7 @@ use Rattle.device_session.proofs.CountLaws.{needs_none}
 use Rattle.line_run.specs.Stops.{Ending}
 use Rattle.line_run.specs.declared.stop.Stop.TheVariants as stops
 use Rattle.nbd_terms.specs.Held.{Held, state_of}
-use Rattle.nbd_terms.specs.Leading.{Led, Leads, last_of, marks_of}
+use Rattle.nbd_terms.specs.Leading.{Leads, last_of, marks_of}
 use Rattle.session_calls.specs.Damage.{ReadsAny}
 use Rattle.session_calls.specs.Goes.{ReadsBlock}
 use Rattle.session_calls.specs.Mounts.{IsFound, IsMountStop, MountLeads}
@@ -30,17 +29,16 @@ use Rattle.session_calls.specs.declared.stops.DeviceStop.TheVariants as device
 use Rattle.session_calls.proofs.MountLaws.{bad_served}
 use Rattle.volume_table.specs.Tables.{IsTable, table_bytes}
 use Rattle.volume_table.specs.declared.volume.Volume.{Volume}
-use Rattle.volume_lines.specs.Replies.{Reply, line_of}
+use Rattle.volume_lines.specs.Replies.{Reply}
 use Rattle.volume_terms.specs.Turn.{Turn}
 use Rattle.volume_terms.specs.Volumes.{IsTabled}
 use Rattle.volume_terms.proofs.OwnLaws.{are_some, own_replies, volume_there}
 use Rattle.volume_desk.specs.Turns.{IsHeld, MadeBetween, device_of}
 use Rattle.volume_desk.proofs.TurnLaws.{made_kept}
-use Rattle.volume_serving.specs.Handled.{EndsOn, OnLines}
+use Rattle.volume_serving.specs.Handled.{EndsOn}
 use Rattle.volume_serving.specs.Ran.{Ran as RanLines}
-use Rattle.volume_serving.specs.World.{IsOn, World}
-use Rattle.volumes.specs.Running.{Answers, IsEarly, IsSilent, OnVolumes, Serves, halting}
-use Rattle.volumes.specs.Starting.{EndsEarly, FindsTable, HasNoTable, IsFrom, IsOfTable, IsStart}
+use Rattle.volumes.specs.Running.{Answers, IsEarly, IsIdle, IsSilent, OnVolumes, Serves}
+use Rattle.volumes.specs.Starting.{EndsEarly, FindsTable, IsFrom, IsOfTable, IsRefusal, IsStart}
 use Rattle.volumes.specs.declared.halts.Halt.{Halt}
 use Rattle.volumes.specs.declared.halts.Halt.TheVariants as halts
 use Rattle.volumes.proofs.SpanLaws.{led_of}
@@ -144,7 +142,11 @@ found_served P platform platform_now session result is told pages looks finds =
     let within : IsRootWithin (length (P.history platform).present.recorded) session.root = subst (λ (n : ℕ). IsRootWithin n session.root) (looks.head ∙ sym pages) found.0.is_open.served in
     subst (λ (cell : Option (List ℕ)). IsServedCell cell (length (P.history platform).present.recorded)) (sym (found.0.found told)) (session.root, within, refl)
 
--- and a full one
+-- one that found none found an empty cell
+pub found_none : {S : Type 0} (P : PlatformGhosts S) (platform platform_now : S) (result : Result (Option Session) DeviceStop) → result ≡ Ok None → IfOk result (IsFound P 256 platform platform_now) → P.tells → (P.history platform).present.cell ≡ None
+found_none P platform platform_now result is finds = subst (λ (r : Result (Option Session) DeviceStop). IfOk r (IsFound P 256 platform platform_now)) is finds
+
+-- and that of a session a full one
 pub found_full : {S : Type 0} (P : PlatformGhosts S) (platform platform_now : S) (session : Session) (result : Result (Option Session) DeviceStop) → result ≡ Ok (Some session) → P.tells → IfOk result (IsFound P 256 platform platform_now)
     → (P.history platform).present.cell ≡ None → ⊥
 found_full P platform platform_now session result is told finds empty =
@@ -319,3 +321,13 @@ read_halt Known image after session block bytes device.Tape any = absurd any
 read_halt Known image after session block bytes device.Ledger any = absurd any
 read_halt Known image after session block bytes device.BadRoot any = absurd any
 read_halt Known image after session block bytes (device.BadRecord addr) any = tt
+
+-- ---- a refusal left all as it was
+
+pub idle_since : {R I L : Type 0} (tells Put : Type 0) (tape tape_now : R) (input input_now : I) (ledger ledger_now : L) (head mid_head head_now : ℕ) (old mid new : History) (result : Result (Unit {0}) Halt) → mid_head ≡ head → (tells → CellStays old mid)
+    → IfErr result (λ halt. IsRefusal halt → IsIdle tells tape tape_now input input_now ledger ledger_now mid_head head_now mid new × Put)
+    → IfErr result (λ halt. IsRefusal halt → IsIdle tells tape tape_now input input_now ledger ledger_now head head_now old new × Put)
+idle_since tells Put tape tape_now input input_now ledger ledger_now head mid_head head_now old mid new (Ok done) same stays idle = tt
+idle_since tells Put tape tape_now input input_now ledger ledger_now head mid_head head_now old mid new (Err halt) same stays idle = λ of.
+    let i = (idle of).0 in
+    (record { undrawn = i.undrawn; untaken = i.untaken; unlisted = i.unlisted; pages = i.pages ∙ same; cell = λ told. stays_then old mid new (stays told) (i.cell told) }, (idle of).1)

@@ -1,6 +1,6 @@
 -- The exit status of a run, and what it says.
-use Rattle.std.proofs.Common.{◌≡◌, ◌≤◌, ◌∙◌, ◌⊎◌, ℕ, List, [], ◌∷◌, Option, Result, Ok, Err, inl, inr, refl, sym, ap, subst, length, arith}
-use Rattle.std.specs.Prelude.{map}
+use Rattle.std.proofs.Common.{◌≡◌, ◌≤◌, ◌∙◌, ◌⊎◌, ℕ, List, [], ◌∷◌, Result, Ok, Err, inl, inr, refl, sym, ap, subst, length, arith}
+use Rattle.std.specs.Prelude.{◌==◌, false, map}
 use Rattle.sdbt_base.specs.Counts.{Counts, NoneFell, counts}
 use Rattle.line_run.specs.Stops.{IsBlamedOn}
 use Rattle.line_run.specs.declared.stop.Stop.{Stop}
@@ -184,4 +184,20 @@ of_platform platform platform_now tape input output ledger = record {
   input = inl (refl, refl, refl);
   output = inl (refl, refl, refl);
   ledger = inl (refl, refl, refl);
+}
+
+-- some words
+pub some_words : {A B : Type 0} (spelled : A → B) (words : List A) → (length words == 0) ≡ false → map spelled words ≡ [] → ⊥
+some_words spelled [] none same = cc
+some_words spelled (word ∷ words) none same = cc
+
+pub blamed_two : (here : Counts) → IsBlamedAt 2 here here
+blamed_two here = record {
+  none_fell = record { platform = omega arith; tape = omega arith; input = omega arith; output = omega arith; ledger = omega arith };
+  input = λ is. absurd (omega (arith, is));
+  output = λ is. absurd (omega (arith, is));
+  platform = λ is. absurd (omega (arith, is));
+  tape = λ is. absurd (omega (arith, is));
+  ledger = λ is. absurd (omega (arith, is));
+  quiet = λ outside. refl;
 }

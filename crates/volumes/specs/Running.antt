@@ -1,5 +1,5 @@
 -- A run, from the mount on.
-use Rattle.std.specs.Prelude.{◌≡◌, ◌⊎◌, ℕ, List, [], ◌++◌, Option, None, Some, Result, Ok, Err, IfErr, flat_map, length}
+use Rattle.std.specs.Prelude.{◌≡◌, ◌⊎◌, ℕ, List, [], ◌++◌, Option, None, Result, Ok, Err, IfErr, flat_map, length}
 use Rattle.sdbt_base.specs.Arrays.{Device, closed}
 use Rattle.sdbt_base.specs.Told.{Gave, Got}
 use Rattle.platform.specs.Image.{Image}
@@ -13,7 +13,6 @@ use Rattle.device_course.specs.States.{IsLater, Outside}
 use Rattle.device_session.specs.Sessions.{Session}
 use Rattle.line_run.specs.Puts.{AreLines, IsBehind, IsPrompt, no_line}
 use Rattle.line_run.specs.Stops.{Ending, TookUntil}
-use Rattle.line_run.specs.declared.stop.Stop.{Stop}
 use Rattle.line_run.specs.declared.stop.Stop.TheVariants as stops
 use Rattle.nbd_terms.specs.Held.{Held}
 use Rattle.nbd_terms.specs.Leading.{last_of}
@@ -24,7 +23,6 @@ use Rattle.volume_terms.specs.Own.{HasOwn}
 use Rattle.volume_terms.specs.Volumes.{IsTabled}
 use Rattle.volume_desk.specs.Turns.{MadeBetween}
 use Rattle.volume_serving.specs.Handled.{AreMany, OnLines}
-use Rattle.volume_serving.specs.World.{World}
 use Rattle.volumes.specs.Halts.{EndsAs}
 use Rattle.volumes.specs.Starting.{EndsEarly, HaltsAtDamage, IsRefusal, IsStart}
 use Rattle.volumes.specs.declared.halts.Halt.{Halt}

@@ -1,5 +1,5 @@
 -- From what a run over volumes begins: a device with a session just mounted on it, and the table in its block 0.
-use Rattle.std.specs.Prelude.{◌≡◌, ◌≢◌, ◌≤◌, ◌*◌, ◌⊎◌, List, None, Some, Result, Ok, Err, IfErr}
+use Rattle.std.specs.Prelude.{◌≡◌, ◌≢◌, ◌≤◌, ◌*◌, List, Some, Result, Ok, Err}
 use Rattle.sdbt_base.specs.Arrays.{Device, Session as OpenSession, content_of, mounted, session_on}
 use Rattle.platform.specs.Image.{Image}
 use Rattle.page_store.specs.Stands.{Stands}

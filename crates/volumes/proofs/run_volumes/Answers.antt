@@ -1,4 +1,4 @@
-use Rattle.std.proofs.Common.{◌≡◌, arith, inl, inr, Ok, Err, ℕ, refl, sym, subst, ap, ◌∙◌}
+use Rattle.std.proofs.Common.{arith, inl, inr, Ok, Err, ℕ, [], refl, sym, subst, ◌∙◌}
 use Rattle.std.specs.Prelude.{string_bytes}
 use Rattle.std.proofs.lemmas.Bool.{eqb-true}
 use Rattle.sdbt_base.specs.Counts.{counts}
@@ -9,7 +9,7 @@ use Rattle.device_course.proofs.ReachingLaws.{discloses}
 use Rattle.volumes.specs.Program.{IsStatus, IsBlamedAt, IsUnlessFault, Took}
 use Rattle.volumes.proofs.EndLaws.{took_done, took_halted}
 use Rattle.volumes.proofs.ProgramLaws.{bad_root_at, bad_root_due, complete_done, complete_halted, doing_of, done_tabled, halting_of, idle_at, no_device_due, no_table_due, refused_at}
-use Rattle.volumes.proofs.StatusLaws.{blamed, blamed_none, never_two, never_zero, no_words, status_is}
+use Rattle.volumes.proofs.StatusLaws.{blamed, blamed_none, never_two, never_zero, no_words, some_words, status_is, blamed_two}
 use Rattle.volumes.proofs.run_volumes.Goals as goal
 
 pub returns-in-Ok-clause-forgets : goal.returns-in-Ok-clause-forgets
@@ -118,3 +118,11 @@ returns-in-Err-clause-refuses g c =
         | inr eleven ↦ inr (status ∙ eleven)
       ];
     }
+
+pub returns-then-not-is_empty-clause-exits : goal.returns-then-not-is_empty-clause-exits
+returns-then-not-is_empty-clause-exits g c = record {
+  is = inr (inl refl);
+  refused = (λ two. some_words string_bytes c.args.words.now (sym c.if-not-is_empty.ensures), λ other. refl);
+  blame = blamed_two _;
+  taken = ([], Gave-nothing _, record { most = omega arith; whole = λ zero. absurd (omega (arith, zero)); failed = λ three. omega arith; limit = λ twelve. absurd (omega (arith, twelve)); nothing = λ which. refl });
+}

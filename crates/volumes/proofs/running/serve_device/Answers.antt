@@ -1,7 +1,6 @@
-use Rattle.std.proofs.Common.{inl, inr, refl, ◌∙◌, ap, Ok, Err, sym}
-use Rattle.device_terms.proofs.MomentLaws.{stays_then}
+use Rattle.std.proofs.Common.{inl, refl, ◌∙◌, ap, Ok}
 use Rattle.volumes.proofs.SpanLaws.{spans_look, spans_mounted}
-use Rattle.volumes.proofs.StartLaws.{found_full, found_served, serves_since, silent_none, silent_stop, since_mount}
+use Rattle.volumes.proofs.StartLaws.{found_full, found_none, found_served, idle_since, serves_since, silent_none, silent_stop, since_mount}
 use Rattle.volumes.proofs.EndLaws.{damage_behind, looked_behind, looked_none, looked_stop}
 use Rattle.volumes.proofs.running.serve_device.Goals as goal
 
@@ -29,7 +28,7 @@ returns-in-Ok-Some-clause-serves g c =
     c.serve_volumes.ensures.serves
 
 pub returns-in-Ok-None-clause-serves : goal.returns-in-Ok-None-clause-serves
-returns-in-Ok-None-clause-serves g c = inl (_, refl, silent_none _ _ _ _ _ c.in-Ok.ensures.finds)
+returns-in-Ok-None-clause-serves g c = inl (_, refl, silent_none _ _ _ _ _ (found_none g.P.Platform c.args.platform.now c.mount_session.new.platform c.mount_session.result (c.in-Ok-None.is ∙ ap Ok c.in-Ok-None.field-0-is) c.mount_session.ensures.finds))
 
 pub returns-in-Err-clause-serves : goal.returns-in-Err-clause-serves
 returns-in-Err-clause-serves g c =
@@ -42,10 +41,15 @@ returns-in-Ok-Some-clause-looked g c =
     (λ told. found_full g.P.Platform c.args.platform.now c.mount_session.new.platform c.in-Ok-Some.session c.mount_session.result is told c.mount_session.ensures.finds) c.serve_volumes.ensures.damage
 
 pub returns-in-Ok-None-clause-looked : goal.returns-in-Ok-None-clause-looked
-returns-in-Ok-None-clause-looked g c = looked_none _ _ c.in-Ok.ensures.finds
+returns-in-Ok-None-clause-looked g c = looked_none _ _ (found_none g.P.Platform c.args.platform.now c.mount_session.new.platform c.mount_session.result (c.in-Ok-None.is ∙ ap Ok c.in-Ok-None.field-0-is) c.mount_session.ensures.finds)
 
 pub returns-in-Err-clause-looked : goal.returns-in-Err-clause-looked
 returns-in-Err-clause-looked g c = looked_stop _ _ _ c.in-Err.stop (λ told. g.met.P.Platform.counts_pages told c.args.platform.now) c.in-Err.ensures.stops
 
 pub returns-in-Ok-Some-clause-damage : goal.returns-in-Ok-Some-clause-damage
 returns-in-Ok-Some-clause-damage g c told = damage_behind _ c.serve_volumes.result (c.serve_volumes.ensures.damage told)
+
+pub returns-in-Ok-Some-clause-idle : goal.returns-in-Ok-Some-clause-idle
+returns-in-Ok-Some-clause-idle g c told =
+    let looks = c.mount_session.ensures.looks in
+    idle_since _ _ _ _ _ _ _ _ _ _ _ _ _ _ c.serve_volumes.result looks.head looks.time (c.serve_volumes.ensures.idle told)
