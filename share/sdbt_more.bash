@@ -13,10 +13,13 @@ _sdbt_more() {
     local word=${COMP_WORDS[COMP_CWORD]} place=$COMP_CWORD
     COMPREPLY=()
     if [ "$place" = 1 ]; then
-        COMPREPLY=($(compgen -W 'nbd -h --help --version' -- "$word"))
+        COMPREPLY=($(compgen -W 'nbd volumes -h --help --version' -- "$word"))
         return
     fi
-    test "${COMP_WORDS[1]}" = nbd || return
+    case ${COMP_WORDS[1]} in
+    nbd | volumes) ;;
+    *) return ;;
+    esac
     if [ "$place" = 2 ]; then
         COMPREPLY=($(compgen -W '--root' -- "$word"))
         test "${#COMPREPLY[@]}" != 0 && test -n "$word" || _sdbt_more_folders "$word"

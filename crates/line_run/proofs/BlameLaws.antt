@@ -17,7 +17,7 @@ least_wide : (before now wide wide_now : ℕ) → IsPart before now wide wide_no
 least_wide before now wide wide_now (inl (zero, zero_now, same)) fell = omega (arith, same)
 least_wide before now wide wide_now (inr (same, same_now)) fell = omega (arith, same, same_now, fell)
 
-fell_wide : (before now wide wide_now : Counts) → ArePart before now wide wide_now → NoneFell before now → NoneFell wide wide_now
+pub fell_wide : (before now wide wide_now : Counts) → ArePart before now wide wide_now → NoneFell before now → NoneFell wide wide_now
 fell_wide before now wide wide_now part fell = record {
   platform = least_wide before.platform now.platform wide.platform wide_now.platform part.platform fell.platform;
   tape = least_wide before.tape now.tape wide.tape wide_now.tape part.tape fell.tape;

@@ -21,9 +21,10 @@ pub(crate) struct Row {
     is_whole: bool,
 }
 
-/// The words of a run, and its input so far.
+/// The top call of a run, its words, and its input so far.
 #[derive(Drop)]
 struct Run {
+    server: Server,
     words: Vec<String>,
     input: Given,
 }
@@ -90,11 +91,11 @@ impl Row {
         let Some(run) = self.run.take() else {
             return Ok(());
         };
-        let (server, input) = match &run.input {
-            Given::Script(script) => (Server::Script, script.bytes()),
-            Given::Client(client) => (Server::Nbd, client.said()),
+        let input = match &run.input {
+            Given::Script(script) => script.bytes(),
+            Given::Client(client) => client.said(),
         };
-        let ran = self.scene.run(server, &run.words, input, self.step)?;
+        let ran = self.scene.run(run.server, &run.words, input, self.step)?;
         match &run.input {
             Given::Script(_) => self.write_output(&ran)?,
             Given::Client(client) => {
@@ -154,7 +155,9 @@ impl Row {
         if first.starts_with('#') {
             Ok(())
         } else if first == "run" {
-            self.begin_run(words)
+            self.begin_run(Server::Script, words)
+        } else if first == "volumes" {
+            self.begin_run(Server::Volumes, words)
         } else if first == "nbd" {
             self.begin_client(words)
         } else if first == "medium" {
@@ -193,9 +196,13 @@ impl Row {
         }
     }
 
-    /// `run WORD..`: a run with these words, of which `$NAME` stands for what that was let be, `''` for an empty word, and `<ledger` for a script that is the
+    /// `run WORD..` or `volumes WORD..`: a run of a script or of volumes with these words, of which `$NAME` stands for what that was let be, `''` for an empty word, and `<ledger` for a script that is the
     /// ledger so far.
-    fn begin_run(&mut self, words: &mut SplitWhitespace<'_>) -> Result<(), LineFault> {
+    fn begin_run(
+        &mut self,
+        server: Server,
+        words: &mut SplitWhitespace<'_>,
+    ) -> Result<(), LineFault> {
         let mut all = Vec::new(self.alloc);
         let mut script = Line::new(self.alloc);
         for word in words {
@@ -206,6 +213,7 @@ impl Row {
             }
         }
         self.run = Some(Run {
+            server,
             words: all,
             input: Given::Script(script),
         });
@@ -219,6 +227,7 @@ impl Row {
             all.push(String::from_str(self.alloc, self.meant_by(word))?)?;
         }
         self.run = Some(Run {
+            server: Server::Nbd,
             words: all,
             input: Given::Client(Client::new(self.alloc)?),
         });

@@ -5,6 +5,7 @@ use nbd_core::run_nbd;
 use platform::{Failure, MemPlatform, Platform};
 use sdbt_base::{Line, MemSink, MemSource, Memory, Tape};
 use std::alloc::Global;
+use volumes::run_volumes;
 
 /// Which top call serves a run.
 #[derive(Clone, Copy)]
@@ -13,6 +14,8 @@ pub(crate) enum Server {
     Script,
     /// That of a client of NBD.
     Nbd,
+    /// That of volumes.
+    Volumes,
 }
 
 /// What fails in the next run: calls of the platform, and by their numbers from 1 takes, draws, and puts to the output and to the
@@ -93,6 +96,7 @@ fn status_of<T: Tape>(
     match server {
         Server::Script => run_main(alloc, words, platform, tape, input, output, ledger),
         Server::Nbd => run_nbd(alloc, words, platform, tape, input, output, ledger),
+        Server::Volumes => run_volumes(alloc, words, platform, tape, input, output, ledger),
     }
 }
 

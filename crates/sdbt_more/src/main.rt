@@ -1,8 +1,8 @@
 //! The second program: makes the objects of the outside, and hands them to a server.
 //!
 //! `sdbt_more nbd FOLDER` serves the device in a folder to a client of NBD on standard input and
-//! output, and `sdbt_more nbd --root CELL FOLDER` one whose root record is in a folder of its own or
-//! in an index of a TPM.
+//! output, and `sdbt_more volumes FOLDER` serves lines of its volumes; `--root CELL` before FOLDER says
+//! that the root record is in a folder of its own or in an index of a TPM.
 #![tactic(auto)]
 
 mod texts;
@@ -19,6 +19,7 @@ use std::process::ExitCode;
 use std::rt::{Env, Files};
 use tpm_cell::open_in_tpm;
 use tpm_nv::{OnTpm, parse_cell};
+use volumes::run_volumes;
 
 /// The exit status of a faulty command line.
 const FAULTY: u8 = 2;
@@ -26,7 +27,8 @@ const FAULTY: u8 = 2;
 /// The exit status where the output failed.
 const OUTPUT_FAULT: u8 = 4;
 
-/// The exit status where there is no device, or too few pages are free.
+/// The exit status where there is no device; of NBD also where too few pages are free, of volumes where
+/// block 0 has no table.
 const NO_DEVICE: u8 = 10;
 
 /// The exit status where memory was refused.
@@ -38,6 +40,15 @@ const TOO_LONG: u8 = 12;
 /// The exit status where the client said what is none of its words, or not all of one.
 const BROKEN: u8 = 14;
 
+/// What serves the device.
+#[derive(Clone, Copy)]
+enum Server {
+    /// The server of a client of NBD.
+    Nbd,
+    /// That of lines of volumes.
+    Volumes,
+}
+
 fn main(rt: HostRuntime) -> ExitCode {
     let words = match words_of(&rt) {
         Ok(words) => words,
@@ -47,34 +58,47 @@ fn main(rt: HostRuntime) -> ExitCode {
             } else {
                 FAULTY
             };
-            return ended(&rt, status.into());
+            return ended(&rt, None, status.into());
         }
     };
-    ended(&rt, serve(&rt, words.as_slice()))
+    let server = server_of(words.as_slice());
+    ended(&rt, server, serve(&rt, server, words.as_slice()))
+}
+
+/// The server that the first word names.
+fn server_of(words: &[String]) -> Option<Server> {
+    match words.first()?.as_str() {
+        "nbd" => Some(Server::Nbd),
+        "volumes" => Some(Server::Volumes),
+        _ => None,
+    }
 }
 
 /// The exit status of a run, after standard error said why it ended so. At status 1 that was said before.
-fn ended(rt: &impl Eprint, run: Ended<'_>) -> ExitCode {
+fn ended(rt: &impl Eprint, server: Option<Server>, run: Ended<'_>) -> ExitCode {
     if run.status == FAULTY {
         let _ = eprint!(rt; "{USAGE}");
-    } else if let Some(reason) = reason_here(run.status) {
+    } else if let Some(reason) = reason_here(server, run.status) {
         run.tell(rt, NAME, reason);
     }
     ExitCode::from(run.status)
 }
 
-/// What failed where a run ended with this status.
-fn reason_here(status: u8) -> Option<&'static str> {
-    match status {
-        NO_DEVICE => Some("there is no device, or too few pages are free for the last commit"),
-        TOO_LONG => Some("2^40 bytes of input were taken before its end"),
-        BROKEN => Some("the client broke off, or is none of NBD"),
+/// What failed where a run of this server ended with this status.
+fn reason_here(server: Option<Server>, status: u8) -> Option<&'static str> {
+    match (server, status) {
+        (Some(Server::Nbd), NO_DEVICE) => {
+            Some("there is no device, or too few pages are free for the last commit")
+        }
+        (Some(Server::Nbd), TOO_LONG) => Some("2^40 bytes of input were taken before its end"),
+        (Some(Server::Nbd), BROKEN) => Some("the client broke off, or is none of NBD"),
+        (Some(Server::Volumes), NO_DEVICE) => Some("there is no device, or no table of volumes"),
         _ => reason_of(status),
     }
 }
 
-/// Does what the command line asks for.
-fn serve<'a, R>(rt: &R, words: &'a [String]) -> Ended<'a>
+/// Does what the command line asks for, of which the first word names this server.
+fn serve<'a, R>(rt: &R, server: Option<Server>, words: &'a [String]) -> Ended<'a>
 where
     R: Files + Alloc<A = Global> + Input + Print + Eprint + Clone + Drop,
     R::File: LockFile,
@@ -82,10 +106,12 @@ where
     let [first, others @ ..] = words else {
         return FAULTY.into();
     };
+    if let Some(server) = server {
+        return serve_device(rt, server, others);
+    }
     match first.as_str() {
         "-h" | "--help" => print(rt, &[USAGE, HELP]).into(),
         "--version" => print(rt, &[VERSION]).into(),
-        "nbd" => serve_nbd(rt, others),
         _ => FAULTY.into(),
     }
 }
@@ -98,8 +124,8 @@ fn print(rt: &impl Print, texts: &[&str]) -> u8 {
     }
 }
 
-/// Serves the device that the words behind `nbd` name.
-fn serve_nbd<'a, R>(rt: &R, words: &'a [String]) -> Ended<'a>
+/// Serves the device that the words behind a server's name.
+fn serve_device<'a, R>(rt: &R, server: Server, words: &'a [String]) -> Ended<'a>
 where
     R: Files + Alloc<A = Global> + Input + Print + Eprint + Clone + Drop,
     R::File: LockFile,
@@ -108,59 +134,74 @@ where
         return FAULTY.into();
     };
     if first.as_str() != "--root" {
-        return serve_folders(rt, first.as_str(), first.as_str(), others).into();
+        return serve_folders(rt, server, first.as_str(), first.as_str(), others).into();
     }
     match others {
-        [cell, folder, others @ ..] => serve_apart(rt, cell.as_str(), folder.as_str(), others),
+        [cell, folder, others @ ..] => {
+            serve_apart(rt, server, cell.as_str(), folder.as_str(), others)
+        }
         _ => FAULTY.into(),
     }
 }
 
-/// Serves a client over a device whose medium is in `folder`, and its root record in what `cell`
-/// names: a folder, or an index of a TPM.
-fn serve_apart<'a, R>(rt: &R, cell: &'a str, folder: &str, words: &[String]) -> Ended<'a>
+/// Serves a device whose medium is in `folder`, and its root record in what `cell` names: a folder, or
+/// an index of a TPM.
+fn serve_apart<'a, R>(
+    rt: &R,
+    server: Server,
+    cell: &'a str,
+    folder: &str,
+    words: &[String],
+) -> Ended<'a>
 where
     R: Files + Alloc<A = Global> + Input + Print + Eprint + Clone + Drop,
     R::File: LockFile,
 {
     let on_tpm = match parse_cell(cell) {
         Ok(Some(on_tpm)) => on_tpm,
-        Ok(None) => return serve_folders(rt, cell, folder, words).into(),
+        Ok(None) => return serve_folders(rt, server, cell, folder, words).into(),
         Err(_) => return FAULTY.into(),
     };
-    match run_in_tpm(rt, cell, &on_tpm, folder, words) {
+    match run_in_tpm(rt, server, cell, &on_tpm, folder, words) {
         Ok(run) => run,
         Err(not_ready) => not_ready.status_told(rt, NAME, cell, folder).into(),
     }
 }
 
-/// Serves a client over a device whose root record is in the folder `cell`, and its medium in
-/// `folder`. What is not ready is said on standard error.
-fn serve_folders<R>(rt: &R, cell: &str, folder: &str, words: &[String]) -> u8
+/// Serves a device whose root record is in the folder `cell`, and its medium in `folder`. What is not
+/// ready is said on standard error.
+fn serve_folders<R>(rt: &R, server: Server, cell: &str, folder: &str, words: &[String]) -> u8
 where
     R: Files + Alloc<A = Global> + Input + Print + Eprint + Clone + Drop,
     R::File: LockFile,
 {
-    match run_in_folders(rt, cell, folder, words) {
+    match run_in_folders(rt, server, cell, folder, words) {
         Ok(status) => status,
         Err(not_ready) => not_ready.status_told(rt, NAME, cell, folder),
     }
 }
 
-/// Serves a client over folders: see [`run_over`].
-fn run_in_folders<R>(rt: &R, cell: &str, folder: &str, words: &[String]) -> Result<u8, NotReady>
+/// Serves over folders: see [`run_over`].
+fn run_in_folders<R>(
+    rt: &R,
+    server: Server,
+    cell: &str,
+    folder: &str,
+    words: &[String],
+) -> Result<u8, NotReady>
 where
     R: Files + Alloc<A = Global> + Input + Print + Eprint + Clone + Drop,
     R::File: LockFile,
 {
     let platform = open_in_folders(rt.clone()?, cell, folder)?;
-    let (status, _) = run_over(rt, platform, folder, words)?;
+    let (status, _) = run_over(rt, server, platform, folder, words)?;
     Ok(status)
 }
 
 /// The same over a folder and an index of a TPM, which `cell` names.
 fn run_in_tpm<'a, R>(
     rt: &R,
+    server: Server,
     cell: &'a str,
     on_tpm: &OnTpm<'_>,
     folder: &str,
@@ -171,15 +212,16 @@ where
     R::File: LockFile,
 {
     let platform = open_in_tpm(rt, on_tpm, folder)?;
-    let (status, platform) = run_over(rt, platform, folder, words)?;
+    let (status, platform) = run_over(rt, server, platform, folder, words)?;
     Ok(Ended::over_index(status, cell, platform.into_files().failure()))
 }
 
-/// Serves a client over a platform whose ledger is in `folder`. It is refused before the words behind
-/// are looked at where a folder, a file in it, an index or the random source can't be made ready. The
-/// platform has its locks from before anything is changed until the run has ended.
+/// Serves over a platform whose ledger is in `folder`. It is refused before the words behind are looked
+/// at where a folder, a file in it, an index or the random source can't be made ready. The platform has
+/// its locks from before anything is changed until the run has ended.
 fn run_over<R, P>(
     rt: &R,
+    server: Server,
     mut platform: P,
     folder: &str,
     words: &[String],
@@ -192,14 +234,25 @@ where
     let mut ledger = open_ledger(rt, folder)?;
     let mut input = ReadSource::new(rt.reader());
     let mut output = WriteSink::new(io::writer(rt));
-    let status = run_nbd(
-        rt.alloc(),
-        words,
-        &mut platform,
-        &mut tape,
-        &mut input,
-        &mut output,
-        &mut ledger,
-    );
+    let status = match server {
+        Server::Nbd => run_nbd(
+            rt.alloc(),
+            words,
+            &mut platform,
+            &mut tape,
+            &mut input,
+            &mut output,
+            &mut ledger,
+        ),
+        Server::Volumes => run_volumes(
+            rt.alloc(),
+            words,
+            &mut platform,
+            &mut tape,
+            &mut input,
+            &mut output,
+            &mut ledger,
+        ),
+    };
     Ok((status, platform))
 }

@@ -1,3 +1,4 @@
 pub mod World
+pub mod Damage
 pub mod Handled
 pub mod Ran

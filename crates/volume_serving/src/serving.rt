@@ -13,6 +13,7 @@ ghost use Rattle.volume_lines.specs.Grammar.{IsBad, Spells};
 ghost use Rattle.volume_lines.specs.Lines.{FitsBlock as FitsLine, asked};
 ghost use Rattle.volume_lines.specs.Replies.{CanWrite, FitsBlock, line_of, said};
 ghost use Rattle.session_calls.specs.Carrying.{Carries, IsReady};
+ghost use Rattle.volume_serving.specs.Damage.{TellsDamage};
 ghost use Rattle.volume_serving.specs.Handled.{Handled, ending_of, goes_on};
 ghost use Rattle.volume_serving.specs.Ran.{Ran};
 ghost use Rattle.volume_serving.specs.World.{world};
@@ -45,6 +46,8 @@ pub fn serve_input<P: Platform, T: Tape, I: Source, O: Sink, L: Sink>(
         (around P.Platform T.Tape L.Sink platform.new tape.new ledger.new) first None (IsOk result) }
     ensures blame { IsBlamedOn (counts (P.faults platform.old) (T.faults tape.old) (I.faults input.old) (O.faults output.old) (L.faults ledger.old))
         (counts (P.faults platform.new) (T.faults tape.new) (I.faults input.new) (O.faults output.new) (L.faults ledger.new)) result }
+    // On any pages: what it stops at.
+    ensures damage { P.tells → IfErr result (TellsDamage (P.history platform.new).present) }
     ensures ran { (after : Option Session) × Ran P.tells
         (world P.Platform T.Tape L.Sink (Some first) desk.old.table platform.old tape.old ledger.old)
         (world P.Platform T.Tape L.Sink after desk.new.table platform.new tape.new ledger.new)
@@ -101,6 +104,8 @@ fn serve_piece<P: Platform, T: Tape, O: Sink, L: Sink>(
         (around P.Platform T.Tape L.Sink platform.new tape.new ledger.new) first (goes_on result) (IsOk result) }
     ensures blame { IsBlamedOn (counts (P.faults platform.old) (T.faults tape.old) 0 (O.faults output.old) (L.faults ledger.old))
         (counts (P.faults platform.new) (T.faults tape.new) 0 (O.faults output.new) (L.faults ledger.new)) result }
+    // On any pages: what it stops at.
+    ensures damage { P.tells → IfErr result (TellsDamage (P.history platform.new).present) }
     ensures table { IfOk result (λ now. IsTable (blocks_of now) desk.new.table) }
     ensures stops { IfErr result IsOfLine }
     ensures pending { (rest : List ℕ) → IsUnfinished pending.old rest → OnOk result (IsUnfinished pending.new (rest_of (rest ++ piece.now))) }
@@ -141,6 +146,8 @@ fn serve_end<P: Platform, T: Tape, O: Sink, L: Sink>(
         (around P.Platform T.Tape L.Sink platform.new tape.new ledger.new) session (None) (IsOk result) }
     ensures blame { IsBlamedOn (counts (P.faults platform.old) (T.faults tape.old) 0 (O.faults output.old) (L.faults ledger.old))
         (counts (P.faults platform.new) (T.faults tape.new) 0 (O.faults output.new) (L.faults ledger.new)) result }
+    // On any pages: what it stops at.
+    ensures damage { P.tells → IfErr result (TellsDamage (P.history platform.new).present) }
     ensures stops { IfErr result IsOfLine }
     ensures handled { (rest : List ℕ) → IsUnfinished pending.now rest → (after : Option Session) × Handled P.tells
         (world P.Platform T.Tape L.Sink (Some session) desk.old.table platform.old tape.old ledger.old)
@@ -189,6 +196,8 @@ fn answer<P: Platform, T: Tape, O: Sink, L: Sink>(
         (around P.Platform T.Tape L.Sink platform.new tape.new ledger.new) session (goes_on result) (IsOk result) }
     ensures blame { IsBlamedOn (counts (P.faults platform.old) (T.faults tape.old) 0 (O.faults output.old) (L.faults ledger.old))
         (counts (P.faults platform.new) (T.faults tape.new) 0 (O.faults output.new) (L.faults ledger.new)) result }
+    // On any pages: what it stops at.
+    ensures damage { P.tells → IfErr result (TellsDamage (P.history platform.new).present) }
     ensures table { IfOk result (λ now. IsTable (blocks_of now) desk.new.table) }
     ensures stops { IfErr result IsOfLine }
     ensures handled { (text : List ℕ) → IsPending (option_copied line.entry) text → Handled P.tells

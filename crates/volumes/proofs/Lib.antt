@@ -1,0 +1,6 @@
+pub mod SpanLaws
+pub mod StatusLaws
+pub mod StartLaws
+pub mod EndLaws
+pub mod ProgramLaws
+pub mod ReachLaws

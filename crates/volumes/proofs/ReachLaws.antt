@@ -1,0 +1,158 @@
+-- Of the data of a block that isn't mapped nothing is reached, at no later moment.
+use Rattle.std.proofs.Common.{◌≡◌, ◌≢◌, ◌≤◌, ◌<◌, ◌+◌, ◌-◌, ◌^◌, ◌++◌, ◌∷◌, ◌∙◌, ℕ, zero, suc, true, false, cond, List, [], Option, None, Some, refl, sym, ap, subst, length, append-nil, arith, map}
+use Rattle.std.specs.Prelude.{All, Contains, is_some, if◌then◌else◌}
+use Rattle.std.specs.Option.{option_map_or}
+use Rattle.std.proofs.lemmas.Option.{slice_get_within}
+use Rattle.std.specs.List.{AllByRecursion}
+use Rattle.std.specs.Ordering.{nat_cmp, eq_by_cmp, is_eq}
+use Rattle.std.specs.Cmp.{nat_cmp_total, tied_itself}
+use Rattle.std.specs.FinMap as maps
+use Rattle.std.specs.FinMap.{find, get-from_entries}
+use Rattle.std.proofs.lemmas.List.Elements.{All-append, All-cons, All-contains, All-head, All-nil, All-tail, All-weaker}
+use Rattle.sdbt_base.specs.Arrays.{Device}
+use Rattle.sdbt_base.specs.Traces.{DataOf, NodeOver}
+use Rattle.platform.specs.Image.{Image}
+use Rattle.platform.specs.History.{History, image_at, moment}
+use Rattle.platform.specs.Runs.{floor_at}
+use Rattle.platform.proofs.Moments.{earlier-now}
+use Rattle.key_graph.specs.Chains.{KeyPremises, OpensAt, link}
+use Rattle.key_graph.proofs.ChainLaws.{map_contains}
+use Rattle.node_codec.specs.declared.body.Entry.{Entry}
+use Rattle.node_codec.specs.Record.{DataRecord, NodeRecord}
+use Rattle.root_codec.specs.declared.root.Root.{Root}
+use Rattle.root_codec.specs.RootRecord.{FitsRoot, root_bytes}
+use Rattle.page_store.specs.declared.wants.Want.{Want}
+use Rattle.page_store.specs.Disclosing.{DisclosesBy}
+use Rattle.page_store.specs.Floors.{IsInTree, IsReached, floor_of, head_in, low_of}
+use Rattle.page_store.specs.Kept.{Kept, links_of}
+use Rattle.page_store.specs.Places.{FitsAt, IsRecordAt, child_want, root_want}
+use Rattle.page_store.specs.Stands.{Stands, StandsBy, pairs_of}
+use Rattle.page_store.specs.Tree.{EachChild, Mapped, Parts, Place, Subtree, Tree, bound_of, joined}
+use Rattle.page_store.proofs.FloorLaws.{place_at, place_of_stands}
+use Rattle.page_store.proofs.KeptLaws.{recorded_tree, root_of_stands}
+use Rattle.page_store.proofs.DisclosingLaws.{first_premises}
+use Rattle.page_store.proofs.RecordLaws.{one_record}
+use Rattle.page_store.proofs.RecordYields.{opens_record}
+use Rattle.page_store.proofs.TreeMaps.{tree_closed}
+use Rattle.volumes.specs.Destroyed.{IsDataPage}
+
+-- ---- a tree without a block
+
+-- under its key the page at a place is no data record of the block
+abbrev pub IsOther : List (List ℕ) → ℕ → Place → Type 0
+IsOther pages block place = (content : List ℕ) → IsRecordAt pages place.addr place.key (DataRecord block content) → ⊥
+
+-- none of these is the block
+abbrev pub AreOthers : ℕ → List Mapped → Type 0
+AreOthers block mapped = AllByRecursion (λ (m : Mapped). m.block ≢ block) mapped
+
+others_front : (block : ℕ) (ms more : List Mapped) → AreOthers block (ms ++ more) → AreOthers block ms
+others_front block [] more all = tt
+others_front block (m ∷ ms) more all = (all.0, others_front block ms more all.1)
+
+others_behind : (block : ℕ) (ms more : List Mapped) → AreOthers block (ms ++ more) → AreOthers block more
+others_behind block [] more all = all
+others_behind block (m ∷ ms) more all = others_behind block ms more all.1
+
+small_children : (pages : List (List ℕ)) (want : Want) (key : List ℕ) (level : ℕ) (entries : List Entry) → want.addr < 2 ^ 64 → FitsAt pages want key (NodeRecord level entries) → All (λ e. e.addr < 2 ^ 64) entries
+small_children pages want key level entries small fits =
+    All-weaker (λ (e : Entry). e.addr < want.addr) (λ (e : Entry). e.addr < 2 ^ 64) (λ e below. omega arith) entries fits.0.in_range.0.below
+
+same_block : (block other : ℕ) (content bytes : List ℕ) → DataRecord block content ≡ DataRecord other bytes → block ≡ other
+same_block block other content bytes is = cc
+
+no_node : (level block : ℕ) (entries : List Entry) (content : List ℕ) → NodeRecord level entries ≡ DataRecord block content → ⊥
+no_node level block entries content is = cc
+
+each_other : (pages : List (List ℕ)) (block : ℕ) (Below : Want → List ℕ → Parts → Type 0) (order level high : ℕ) (entries : List Entry) (children : List Parts)
+    → ((want : Want) (key : List ℕ) (parts : Parts) → want.addr < 2 ^ 64 → Below want key parts → AreOthers block parts.mapped → All (IsOther pages block) parts.places) → All (λ e. e.addr < 2 ^ 64) entries
+    → EachChild Below order level high entries children → AreOthers block (joined children).mapped → All (IsOther pages block) (joined children).places
+each_other pages block Below order level high [] [] other small each lacks = All-nil (IsOther pages block)
+each_other pages block Below order level high [] (parts ∷ children) other small each lacks = absurd each
+each_other pages block Below order level high (entry ∷ entries) [] other small each lacks = absurd each
+each_other pages block Below order level high (entry ∷ entries) (parts ∷ children) other small each lacks =
+    All-append (IsOther pages block) parts.places (joined children).places
+    (other (child_want order level entry (bound_of entries high)) entry.key parts (All-head (λ (e : Entry). e.addr < 2 ^ 64) entry entries small) each.0 (others_front block parts.mapped (joined children).mapped lacks))
+    (each_other pages block Below order level high entries children other (All-tail (λ (e : Entry). e.addr < 2 ^ 64) entry entries small) each.1 (others_behind block parts.mapped (joined children).mapped lacks))
+
+subtree_other : (pages : List (List ℕ)) (block order level : ℕ) (want : Want) (key : List ℕ) (parts : Parts) → want.addr < 2 ^ 64 → Subtree pages order level want key parts → AreOthers block parts.mapped → All (IsOther pages block) parts.places
+unfolding Subtree
+subtree_other pages block order zero want key parts small is lacks =
+    let here : Place = record { addr = want.addr; key = key; trace = DataOf want.low } in
+    let low : want.low ≢ block = (subst (λ (p : Parts). AreOthers block p.mapped) is.has lacks).0 in
+    subst (λ (p : Parts). All (IsOther pages block) p.places) (sym is.has) (All-cons (IsOther pages block) here []
+    (λ content there. low (same_block want.low block is.content content (one_record pages want.addr key (DataRecord want.low is.content) (DataRecord block content) small is.fits.0 there))) (All-nil (IsOther pages block)))
+subtree_other pages block order (suc level) want key parts small is lacks =
+    let here : Place = record { addr = want.addr; key = key; trace = NodeOver (map (λ (e : Entry). e.addr) is.entries) } in
+    let below = each_other pages block (Subtree pages order level) order level want.high is.entries is.children (subtree_other pages block order level) (small_children pages want key (suc level) is.entries small is.fits) is.each
+    (subst (λ (p : Parts). AreOthers block p.mapped) is.has lacks) in
+    subst (λ (p : Parts). All (IsOther pages block) p.places) (sym is.has) (All-cons (IsOther pages block) here (joined is.children).places
+    (λ content there. no_node (suc level) block is.entries content (one_record pages want.addr key (NodeRecord (suc level) is.entries) (DataRecord block content) small is.fits.0 there)) below)
+
+tree_other : (pages : List (List ℕ)) (block : ℕ) (root : Root) (parts : Parts) → FitsRoot root → Tree pages root parts → AreOthers block parts.mapped → All (IsOther pages block) parts.places
+tree_other pages block root parts fits is lacks = subtree_other pages block root.order root.level (root_want root) root.key parts (omega (arith, fits.addr, fits.head)) is lacks
+
+-- a device that doesn't map it
+lacks_found : (block : ℕ) (ms : List Mapped) → find nat_cmp block (map (λ (m : Mapped). (m.block, m.content)) ms) ≡ None → AreOthers block ms
+lacks_found block [] none = tt
+lacks_found block (m ∷ ms) none = elim (eq_by_cmp nat_cmp block m.block) as (λ b. eq_by_cmp nat_cmp block m.block ≡ b → cond b (Some m.content) (find nat_cmp block (map (λ (k : Mapped). (k.block, k.content)) ms)) ≡ None → AreOthers block (m ∷ ms)) [
+  | true ↦ λ is found. cc
+  | false ↦ λ is found. ((λ same. ne_true (sym is ∙ ap (λ (n : ℕ). eq_by_cmp nat_cmp block n) same ∙ ap is_eq (tied_itself nat_cmp_total block))), lacks_found block ms found)
+] refl none
+  where
+    ne_true : false ≡ true → ⊥
+    ne_true is = cc
+
+stands_other : (image : Image) (there : Device) (root : Root) (parts : Parts) (block : ℕ) → StandsBy image there root parts → maps.get there.contents block ≡ None → All (IsOther image.recorded block) parts.places
+stands_other image there root parts block stands none =
+    tree_other image.recorded block root parts stands.in_range (recorded_tree image there root parts stands)
+    (lacks_found block parts.mapped (sym (get-from_entries nat_cmp_total (pairs_of parts) block) ∙ ap (λ c. maps.get c block) (sym stands.contents) ∙ none))
+
+-- ---- a floor
+
+floor_some : (h : History) (first k : ℕ) (bytes : List ℕ) → (image_at h (first + k)).cell ≡ Some bytes → floor_at head_in h first k ≡ head_in bytes
+floor_some h first zero bytes is = ap (λ (c : Option (List ℕ)). option_map_or head_in c (length (image_at h first).recorded)) (ap (λ (i : ℕ). (image_at h i).cell) (omega arith) ∙ is)
+floor_some h first (suc k) bytes is =
+    ap (λ (c : Option (List ℕ)). option_map_or head_in c (if is_some (image_at h (first + k)).cell then length (image_at h (first + suc k)).recorded else floor_at head_in h first k)) is
+
+-- that of a moment with a root record is the head field of it
+pub floor_full : (old new : History) (i : ℕ) (bytes : List ℕ) → moment old ≤ i → (image_at new i).cell ≡ Some bytes → floor_of old new i ≡ low_of (image_at new i)
+floor_full old new i bytes from full =
+    let at : moment old + (i - moment old) ≡ i = omega arith in
+    let low : low_of (image_at new i) ≡ head_in bytes = ap (λ (c : Option (List ℕ)). option_map_or head_in c (length (image_at new i).recorded)) full in
+    floor_some new (moment old) (i - moment old) bytes (ap (λ (x : ℕ). (image_at new x).cell) at ∙ full) ∙ sym low
+
+-- ---- a moment at which each page lies below the floor
+
+-- the keys of places open their pages
+place_opens : (pages : List (List ℕ)) (root : Root) (parts : Parts) (place : Place) → Tree pages root parts → Contains parts.places place → OpensAt pages (link place.addr place.key)
+place_opens pages root parts place tree has =
+    All-contains (OpensAt pages) (links_of parts.places) (link place.addr place.key) (tree_closed pages root parts tree).opens (map_contains (λ (p : Place). link p.addr p.key) parts.places place has)
+
+-- the key of a place of the tree is the one that is listed and opens its page
+place_key : (keys : List (List ℕ)) (image : Image) (there : Device) (root : Root) (parts : Parts) (place : Place) (addr block : ℕ) → StandsBy image there root parts → Kept keys image → KeyPremises keys image.recorded → Contains parts.places place → place.addr ≡ addr
+    → (page : IsDataPage keys image.recorded addr block) → IsRecordAt image.recorded place.addr place.key (DataRecord block page.content)
+place_key keys image there root parts place addr block stands kept premises has same page =
+    let known : All (λ p. Contains keys p.key) parts.places = (kept.cell root (root_of_stands image there root parts stands)).places parts stands.tree in
+    let mine : Contains keys place.key = All-contains (λ (p : Place). Contains keys p.key) parts.places place known has in
+    let opens : OpensAt image.recorded (link addr place.key) = subst (λ (a : ℕ). OpensAt image.recorded (link a place.key)) same (place_opens image.recorded root parts place (recorded_tree image there root parts stands) has) in
+    let opened : OpensAt image.recorded (link addr page.key) = record { page = page.is.page; there = page.is.reads; opens = opens_record page.key page.is.page addr (DataRecord block page.content) page.is.spelled } in
+    let one : page.key ≡ place.key = premises.one_opener addr page.key place.key page.listed mine opened opens in
+    subst (λ (a : ℕ). IsRecordAt image.recorded a place.key (DataRecord block page.content)) (sym same) (subst (λ (k : List ℕ). IsRecordAt image.recorded addr k (DataRecord block page.content)) one page.is)
+
+-- of a block that the device doesn't have then no data page is reached later
+pub never_later : (old new : History) (keys grew : List (List ℕ)) (at : ℕ) (there : Device) (block addr later : ℕ) → moment old ≤ at → at ≤ moment new → Stands (image_at new at) (Some there) → maps.get there.contents block ≡ None
+    → low_of (image_at new at) ≡ length (image_at new at).recorded → DisclosesBy keys grew old new → KeyPremises (keys ++ grew) new.present.recorded → IsDataPage (keys ++ grew) (image_at new at).recorded addr block
+    → at ≤ later → later ≤ moment new → IsReached (image_at new later) addr → ⊥
+never_later old new keys grew at there block addr later from to (root, parts, stands) none low by premises page after until reached =
+    let image : Image = image_at new at in
+    let all : List (List ℕ) = keys ++ grew in
+    let here : KeyPremises all image.recorded =
+    first_premises all [] image.recorded new.present.recorded (earlier-now new at to).recorded (subst (λ (ks : List (List ℕ)). KeyPremises ks new.present.recorded) (sym (append-nil all)) premises) in
+    let within : addr < length image.recorded = slice_get_within image.recorded addr page.is.page page.is.reads in
+    let floor : floor_of old new at ≡ low_of image = floor_full old new at (root_bytes root) from stands.cell in
+    let in_tree : IsInTree image addr = (by.trees premises).deleted.kept at later from after until addr reached (omega (arith, within, floor, low)) in
+    let it = place_at image addr in_tree in
+    let has : Contains parts.places it.0 = place_of_stands image there root parts it.0 stands it.2 in
+    All-contains (IsOther image.recorded block) parts.places it.0 (stands_other image there root parts block stands none) has page.content
+    (place_key all image there root parts it.0 addr block stands (by.kept.each at from to) here has it.1 page)

@@ -1,0 +1,334 @@
+-- From which states a run goes on: behind its mount, and behind the look at its table.
+use Rattle.std.proofs.Common.{◌≡◌, ◌≢◌, ◌≤◌, ◌<◌, ◌^◌, ◌++◌, ℕ, List, [], Option, None, Some, Result, Ok, Err, inl, inr, refl, sym, subst, ◌∙◌, ap, arith}
+use Rattle.std.specs.Prelude.{IfErr, IfOk, length}
+use Rattle.sdbt_base.specs.Arrays.{Device, Session as OpenSession, State, closed, mounted, session_on}
+use Rattle.sdbt_base.specs.Told.{Got}
+use Rattle.platform.specs.Calls.{Looks}
+use Rattle.platform.specs.Image.{Image}
+use Rattle.platform.specs.History.{CellStays, History}
+use Rattle.platform.specs.declared.platforms.Platform.{Ghosts as PlatformGhosts}
+use Rattle.root_codec.specs.RootRecord.{root_bytes}
+use Rattle.page_store.specs.Roots.{IsRootWithin}
+use Rattle.page_store.specs.Stands.{Stands}
+use Rattle.device_terms.specs.Served.{IsServedCell, IsServedImage}
+use Rattle.device_terms.proofs.MomentLaws.{stays_then}
+use Rattle.device_course.specs.States.{IsAt, Outside}
+use Rattle.device_course.proofs.MadeLaws.{made_then, shut}
+use Rattle.device_session.specs.Open.{blocks_of, needed_by}
+use Rattle.device_session.specs.Sessions.{Session}
+use Rattle.device_session.proofs.CountLaws.{needs_none}
+use Rattle.line_run.specs.Stops.{Ending}
+use Rattle.line_run.specs.declared.stop.Stop.TheVariants as stops
+use Rattle.device_course.specs.Held.{Held, state_of}
+use Rattle.device_course.specs.Leading.{Leads, last_of, marks_of}
+use Rattle.session_calls.specs.Damage.{ReadsAny}
+use Rattle.session_calls.specs.Goes.{ReadsBlock}
+use Rattle.session_calls.specs.Mounts.{IsFound, IsMountStop, MountLeads}
+use Rattle.session_calls.specs.declared.stops.DeviceStop.{DeviceStop}
+use Rattle.session_calls.specs.declared.stops.DeviceStop.TheVariants as device
+use Rattle.session_calls.proofs.MountLaws.{bad_served}
+use Rattle.volume_table.specs.Tables.{IsTable, table_bytes}
+use Rattle.volume_table.specs.declared.volume.Volume.{Volume}
+use Rattle.volume_lines.specs.Replies.{Reply}
+use Rattle.volume_terms.specs.Turn.{Turn}
+use Rattle.volume_terms.specs.Volumes.{IsTabled}
+use Rattle.volume_terms.proofs.OwnLaws.{are_some, own_replies, volume_there}
+use Rattle.device_course.specs.Course.{MadeBetween}
+use Rattle.volume_desk.specs.Turns.{IsHeld}
+use Rattle.device_course.proofs.MadeLaws.{made_kept}
+use Rattle.volume_serving.specs.Handled.{EndsOn}
+use Rattle.volume_serving.specs.Ran.{Ran as RanLines}
+use Rattle.volumes.specs.Running.{Answers, IsEarly, IsIdle, IsSilent, OnVolumes, Serves}
+use Rattle.volumes.specs.Starting.{EndsEarly, FindsTable, IsFrom, IsOfTable, IsRefusal, IsStart}
+use Rattle.volumes.specs.declared.halts.Halt.{Halt}
+use Rattle.volumes.specs.declared.halts.Halt.TheVariants as halts
+use Rattle.volumes.proofs.SpanLaws.{led_of}
+
+-- ---- from an earlier moment on, since which the device stayed
+
+-- what the run may begin from then is what it may begin from now
+abbrev pub Since : (Held → Type 0) → (Held → Type 0) → Outside → Outside → Type 0
+Since Earlier From first second = (entry : Held) → Earlier entry → From entry × MadeBetween first.history second.history entry.device [] entry.device
+
+made_since : (first second third : History) (entry last : Device) (marks : List (Option Device)) → MadeBetween first second entry [] entry → MadeBetween second third entry marks last → MadeBetween first third entry marks last
+made_since first second third entry last marks one two = made_then first second third None None (closed (Some entry)) (closed (Some entry)) (closed (Some last)) [] marks one two
+
+silent_since : (Earlier From : Held → Type 0) (first second third : Outside) (halt : Halt) (left left_now written written_now : Option (List ℕ)) → Since Earlier From first second → IsSilent From second third halt left left_now written written_now
+    → IsSilent Earlier first third halt left left_now written written_now
+silent_since Earlier From first second third halt left left_now written written_now since silent = record {
+  untaken = silent.untaken;
+  unput = silent.unput;
+  early = silent.early;
+  stayed = λ entry early.
+      let s = since entry early in
+      let there = silent.stayed entry s.0 in
+      (made_since first.history second.history third.history entry.device entry.device [] s.1 there.0, there.1);
+}
+
+-- the same of lines
+pub record Onwards (old new : Outside) (session : Option Session) (table_now : List Volume) (entry : Held) (lines : List (List ℕ)) (replies : List Reply) (part : List ℕ) (ending : Ending) (states ahead : List Held) : Type 0 where
+  pub leads : Leads (Turn old.capacity) entry lines replies states
+  pub made : MadeBetween old.history new.history entry.device (marks_of device_of (states ++ ahead)) (device_of (last_of entry (states ++ ahead)))
+  pub ends : EndsOn (record { session = session; table = table_now; outside = new }) old.capacity (last_of entry states) lines replies part ahead ending
+
+onwards_since : (first second third : Outside) (session : Option Session) (table_now : List Volume) (entry : Held) (lines : List (List ℕ)) (replies : List Reply) (part : List ℕ) (ending : Ending) (states ahead : List Held) → second.capacity ≡ first.capacity
+    → MadeBetween first.history second.history entry.device [] entry.device → Onwards second third session table_now entry lines replies part ending states ahead → Onwards first third session table_now entry lines replies part ending states ahead
+onwards_since first second third session table_now entry lines replies part ending states ahead same kept on = record {
+  leads = subst (λ (n : ℕ). Leads (Turn n) entry lines replies states) same on.leads;
+  made = made_since first.history second.history third.history entry.device (device_of (last_of entry (states ++ ahead))) (marks_of device_of (states ++ ahead)) kept on.made;
+  ends = subst (λ (n : ℕ). EndsOn (record { session = session; table = table_now; outside = third }) n (last_of entry states) lines replies part ahead ending) same on.ends;
+}
+
+volumes_of : (old new : Outside) (session : Option Session) (table table_now : List Volume) (entry : Held) (lines : List (List ℕ)) (replies : List Reply) (part : List ℕ) (ending : Ending) (states ahead : List Held) → entry.device.blocks < 2 ^ 64
+    → IsTabled entry table → Onwards old new session table_now entry lines replies part ending states ahead → OnVolumes old new session table_now entry lines replies part ending
+volumes_of old new session table table_now entry lines replies part ending states ahead below tabled on = record {
+  table = table;
+  tabled = tabled;
+  on = record { ahead = ahead; led = record { states = states; leads = on.leads; made = on.made }; ends = on.ends };
+  own = λ name.
+      let start = volume_there entry table name tabled in
+      let mine = are_some old.capacity name entry lines replies states on.leads in
+      let own = own_replies old.capacity name entry lines replies states start.0 mine.0 below on.leads start.1 mine.1 in
+      record { volume = start.0; there = start.1; turns = mine.0; are = mine.1; next = own.next; own = own.own; ends = own.there };
+}
+
+volumes_since : (first second third : Outside) (session : Option Session) (table_now : List Volume) (entry : Held) (lines : List (List ℕ)) (replies : List Reply) (part : List ℕ) (ending : Ending) → second.capacity ≡ first.capacity
+    → MadeBetween first.history second.history entry.device [] entry.device → OnVolumes second third session table_now entry lines replies part ending → OnVolumes first third session table_now entry lines replies part ending
+volumes_since first second third session table_now entry lines replies part ending same kept there =
+    let states : List Held = there.on.led.states in
+    let on : Onwards first third session table_now entry lines replies part ending states there.on.ahead =
+    onwards_since first second third session table_now entry lines replies part ending states there.on.ahead same kept (record { leads = there.on.led.leads; made = there.on.led.made; ends = there.on.ends }) in
+    record {
+      table = there.table;
+      tabled = there.tabled;
+      on = record { ahead = there.on.ahead; led = record { states = states; leads = on.leads; made = on.made }; ends = on.ends };
+      own = there.own;
+    }
+
+answers_since : (Earlier From : Held → Type 0) (first second third : Outside) (ending : Ending) (left left_now written written_now : Option (List ℕ)) → second.capacity ≡ first.capacity → Since Earlier From first second
+    → Answers From second third ending left left_now written written_now → Answers Earlier first third ending left left_now written written_now
+answers_since Earlier From first second third ending left left_now written written_now same since answers = record {
+  taken = answers.taken;
+  lines = answers.lines;
+  gave = answers.gave;
+  took = answers.took;
+  come = answers.come;
+  replies = answers.replies;
+  part = answers.part;
+  got = answers.got;
+  behind = answers.behind;
+  many = answers.many;
+  prompt = answers.prompt;
+  session = answers.session;
+  table = answers.table;
+  led = λ entry early.
+      let s = since entry early in
+      volumes_since first second third answers.session answers.table entry answers.lines answers.replies answers.part ending same s.1 (answers.led entry s.0);
+}
+
+pub serves_since : (Earlier From : Held → Type 0) (first second third : Outside) (result : Result (Unit {0}) Halt) (left left_now written written_now : Option (List ℕ)) → second.capacity ≡ first.capacity → Since Earlier From first second
+    → Serves From second third result left left_now written written_now → Serves Earlier first third result left left_now written written_now
+serves_since Earlier From first second third result left left_now written written_now same since (inl (halt, is, silent)) =
+    inl (halt, is, silent_since Earlier From first second third halt left left_now written written_now since silent)
+serves_since Earlier From first second third result left left_now written written_now same since (inr (ending, is, answers)) =
+    inr (ending, is, answers_since Earlier From first second third ending left left_now written written_now same since answers)
+
+-- ---- a mount
+
+-- that found a session found a cell that can be served
+pub found_served : {S : Type 0} (P : PlatformGhosts S) (platform platform_now : S) (session : Session) (result : Result (Option Session) DeviceStop) → result ≡ Ok (Some session) → P.tells → length (P.history platform).present.recorded ≡ P.head platform → Looks P platform platform_now
+    → IfOk result (IsFound P 256 platform platform_now) → IsServedImage (P.history platform).present
+found_served P platform platform_now session result is told pages looks finds =
+    let found : IsFound P 256 platform platform_now (Some session) = subst (λ (r : Result (Option Session) DeviceStop). IfOk r (IsFound P 256 platform platform_now)) is finds in
+    let within : IsRootWithin (length (P.history platform).present.recorded) session.root = subst (λ (n : ℕ). IsRootWithin n session.root) (looks.head ∙ sym pages) found.0.is_open.served in
+    subst (λ (cell : Option (List ℕ)). IsServedCell cell (length (P.history platform).present.recorded)) (sym (found.0.found told)) (session.root, within, refl)
+
+-- one that found none found an empty cell
+pub found_none : {S : Type 0} (P : PlatformGhosts S) (platform platform_now : S) (result : Result (Option Session) DeviceStop) → result ≡ Ok None → IfOk result (IsFound P 256 platform platform_now) → P.tells → (P.history platform).present.cell ≡ None
+found_none P platform platform_now result is finds = subst (λ (r : Result (Option Session) DeviceStop). IfOk r (IsFound P 256 platform platform_now)) is finds
+
+-- and that of a session a full one
+pub found_full : {S : Type 0} (P : PlatformGhosts S) (platform platform_now : S) (session : Session) (result : Result (Option Session) DeviceStop) → result ≡ Ok (Some session) → P.tells → IfOk result (IsFound P 256 platform platform_now)
+    → (P.history platform).present.cell ≡ None → ⊥
+found_full P platform platform_now session result is told finds empty =
+    let found : IsFound P 256 platform platform_now (Some session) = subst (λ (r : Result (Option Session) DeviceStop). IfOk r (IsFound P 256 platform platform_now)) is finds in
+    let both : None ≡ Some (root_bytes session.root) = sym empty ∙ found.0.found told in
+    cc
+
+mounted_at : (image : Image) (session : Session) (entry : Held) → ((there : Device) × (closed (Some entry.device) ≡ closed (Some there)) × IsAt image (Some session) (mounted there (session_on there))) → entry.session ≡ session_on entry.device → IsAt image (Some session) (state_of entry)
+mounted_at image session entry (there, is, at) fresh =
+    let devices : Some entry.device ≡ Some there = ap (λ (s : State). s.device) is in
+    let same : entry.device ≡ there = cc in
+    let here : IsAt image (Some session) (mounted entry.device (session_on entry.device)) = subst (λ (d : Device). IsAt image (Some session) (mounted d (session_on d))) (sym same) at in
+    subst (λ (a : OpenSession). IsAt image (Some session) (mounted entry.device a)) (sym fresh) here
+
+pub since_mount : {S : Type 0} (P : PlatformGhosts S) (platform platform_now : S) (old mid : Outside) (session : Session) (result : Result (Option Session) DeviceStop) → result ≡ Ok (Some session) → old.history ≡ P.history platform → mid.history ≡ P.history platform_now → old.head ≡ P.head platform → mid.head ≡ P.head platform_now
+    → Looks P platform platform_now → IfOk result (IsFound P 256 platform platform_now)
+    → (P.tells → (entry : State) → IsAt (P.history platform).present None entry → MountLeads (P.history platform_now).present entry result)
+    → Since (IsStart P.tells old) (IsFrom P.tells mid session) old mid
+since_mount P platform platform_now old mid session result is old_history mid_history old_head mid_head looks finds leads entry start =
+    let told = start.told in
+    let found : IsFound P 256 platform platform_now (Some session) = subst (λ (r : Result (Option Session) DeviceStop). IfOk r (IsFound P 256 platform platform_now)) is finds in
+    let stands : Stands (P.history platform).present (Some entry.device) = subst (λ (h : History). Stands h.present (Some entry.device)) old_history start.stands in
+    let served : IsServedImage (P.history platform).present = subst (λ (h : History). IsServedImage h.present) old_history start.served in
+    let led = led_of (P.history platform_now).present session (closed (Some entry.device)) (subst (MountLeads (P.history platform_now).present (closed (Some entry.device))) is (leads told (closed (Some entry.device)) (shut (P.history platform).present (Some entry.device) stands served))) in
+    let at : IsAt mid.history.present (Some session) (state_of entry) = subst (λ (h : History). IsAt h.present (Some session) (state_of entry)) (sym mid_history) (mounted_at (P.history platform_now).present session entry led start.session) in
+    let none : needed_by session ≡ 0 = needs_none session (P.head platform_now) found.0.is_open found.0.untouched in
+    let stays : CellStays old.history mid.history = subst (λ (h : History). CellStays h mid.history) (sym old_history) (subst (CellStays (P.history platform)) (sym mid_history) (looks.time told)) in (
+      record { told = told; at = at; pages = start.pages ∙ old_head ∙ sym looks.head ∙ sym mid_head; needs = omega (arith, none) },
+      made_kept old.history mid.history entry.device start.stands start.served stays,
+    )
+
+-- a mount that stopped, or found no device
+early_stop : (tells : Type 0) (cell : Option (List ℕ)) (pages : ℕ) (stop : DeviceStop) → IsMountStop tells cell pages stop → IsEarly (halts.Stopped (stops.Device stop))
+early_stop tells cell pages device.Platform is = tt
+early_stop tells cell pages device.Memory is = tt
+early_stop tells cell pages device.BadRoot is = tt
+early_stop tells cell pages device.Tape is = absurd is
+early_stop tells cell pages device.Ledger is = absurd is
+early_stop tells cell pages (device.BadRecord addr) is = absurd is
+
+ends_stop : (tells : Type 0) (cell : Option (List ℕ)) (pages : ℕ) (stop : DeviceStop) (entry : Held) → tells → IsServedCell cell pages → IsMountStop tells cell pages stop → EndsEarly entry (halts.Stopped (stops.Device stop))
+ends_stop tells cell pages device.Platform entry told served is = tt
+ends_stop tells cell pages device.Memory entry told served is = tt
+ends_stop tells cell pages device.BadRoot entry told served is = absurd (bad_served cell pages served (is told))
+ends_stop tells cell pages device.Tape entry told served is = absurd is
+ends_stop tells cell pages device.Ledger entry told served is = absurd is
+ends_stop tells cell pages (device.BadRecord addr) entry told served is = absurd is
+
+pub silent_stop : (tells : Type 0) (old new : Outside) (stop : DeviceStop) (left written : Option (List ℕ)) → (tells → length old.history.present.recorded ≡ old.head) → IsMountStop tells old.history.present.cell old.head stop → (tells → CellStays old.history new.history)
+    → IsSilent (IsStart tells old) old new (halts.Stopped (stops.Device stop)) left left written written
+silent_stop tells old new stop left written pages is stays = record {
+  untaken = refl;
+  unput = refl;
+  early = early_stop tells old.history.present.cell old.head stop is;
+  stayed = λ entry start. (
+    made_kept old.history new.history entry.device start.stands start.served (stays start.told),
+    ends_stop tells old.history.present.cell old.head stop entry start.told (subst (λ (n : ℕ). IsServedCell old.history.present.cell n) (pages start.told) start.served) is,
+  );
+}
+
+no_device : (image : Image) (there : Device) → Stands image (Some there) → image.cell ≡ None → ⊥
+no_device image there (root, parts, by) empty = let both : None ≡ Some (root_bytes root) = sym empty ∙ by.cell in cc
+
+pub silent_none : (tells : Type 0) (old new : Outside) (left written : Option (List ℕ)) → (tells → old.history.present.cell ≡ None) → IsSilent (IsStart tells old) old new halts.NoDevice left left written written
+silent_none tells old new left written empty = record {
+  untaken = refl;
+  unput = refl;
+  early = tt;
+  stayed = λ entry start. absurd (no_device old.history.present entry.device start.stands (empty start.told));
+}
+
+-- ---- the look at the table
+
+early_table : (halt : Halt) → IsOfTable halt → IsEarly halt
+early_table halts.BadDirectory of = tt
+early_table halts.NoDevice of = absurd of
+early_table (halts.Stopped stops.Source) of = absurd of
+early_table (halts.Stopped stops.Sink) of = absurd of
+early_table (halts.Stopped stops.Limit) of = absurd of
+early_table (halts.Stopped (stops.Device device.Platform)) of = tt
+early_table (halts.Stopped (stops.Device (device.BadRecord addr))) of = tt
+early_table (halts.Stopped (stops.Device device.Tape)) of = absurd of
+early_table (halts.Stopped (stops.Device device.Ledger)) of = absurd of
+early_table (halts.Stopped (stops.Device device.Memory)) of = absurd of
+early_table (halts.Stopped (stops.Device device.BadRoot)) of = absurd of
+
+ends_table : (image : Image) (now : Session) (entry : Held) (halt : Halt) → FindsTable image now entry.device entry.session (Err halt) → EndsEarly entry halt
+ends_table image now entry halts.BadDirectory none = λ table tabled. none table tabled.is tabled.spelled
+ends_table image now entry halts.NoDevice none = absurd none
+ends_table image now entry (halts.Stopped stops.Source) none = absurd none
+ends_table image now entry (halts.Stopped stops.Sink) none = absurd none
+ends_table image now entry (halts.Stopped stops.Limit) none = absurd none
+ends_table image now entry (halts.Stopped (stops.Device device.Platform)) none = tt
+ends_table image now entry (halts.Stopped (stops.Device (device.BadRecord addr))) none = absurd none
+ends_table image now entry (halts.Stopped (stops.Device device.Tape)) none = absurd none
+ends_table image now entry (halts.Stopped (stops.Device device.Ledger)) none = absurd none
+ends_table image now entry (halts.Stopped (stops.Device device.Memory)) none = absurd none
+ends_table image now entry (halts.Stopped (stops.Device device.BadRoot)) none = absurd none
+
+pub silent_table : (tells : Type 0) (old new : Outside) (first now : Session) (halt : Halt) (left written : Option (List ℕ)) → IsOfTable halt → (tells → CellStays old.history new.history)
+    → (tells → (there : Device) (array : OpenSession) → IsAt old.history.present (Some first) (mounted there array) → FindsTable new.history.present now there array (Err halt))
+    → IsSilent (IsFrom tells old first) old new halt left left written written
+silent_table tells old new first now halt left written of stays finds = record {
+  untaken = refl;
+  unput = refl;
+  early = early_table halt of;
+  stayed = λ entry from. (
+    made_kept old.history new.history entry.device from.at.there.device from.at.served (stays from.told),
+    ends_table new.history.present now entry halt (finds from.told entry.device entry.session from.at),
+  );
+}
+
+-- lines that were served behind it
+pub answers_behind : (tells : Type 0) (old mid new : Outside) (first now : Session) (after : Option Session) (table table_now : List Volume) (ending : Ending) (left left_now written written_now : Option (List ℕ)) → mid.head ≡ old.head → mid.capacity ≡ old.capacity
+    → needed_by now ≤ needed_by first → (tells → CellStays old.history mid.history) → IsTable (blocks_of first) table
+    → (tells → (there : Device) (array : OpenSession) → IsAt old.history.present (Some first) (mounted there array) → FindsTable mid.history.present now there array (Ok table))
+    → RanLines tells (record { session = Some now; table = table; outside = mid }) (record { session = after; table = table_now; outside = new }) ending left left_now written written_now
+    → Answers (IsFrom tells old first) old new ending left left_now written written_now
+answers_behind tells old mid new first now after table table_now ending left left_now written written_now head capacity needs stays whole finds ran =
+    let replied = ran.handled.replied in
+    record {
+      taken = ran.taken;
+      lines = ran.lines;
+      gave = ran.gave;
+      took = ran.took;
+      come = ran.come;
+      replies = replied.replies;
+      part = replied.part;
+      got = subst (λ (bytes : List ℕ). Got written bytes written_now) replied.put_is ran.handled.got;
+      behind = replied.behind;
+      many = replied.many;
+      prompt = ran.prompt;
+      session = after;
+      table = table_now;
+      led = λ entry from.
+          let found = finds from.told entry.device entry.session from.at in
+          let stands = from.at.there.session.0.stands in
+          let tabled : IsTabled entry table = record { is = subst (λ (n : ℕ). IsTable n table) stands.blocks whole; spelled = found.1 } in
+          let held : IsHeld mid.history.present mid.head now table entry = record { at = found.0; pages = from.pages ∙ sym head; needs = omega (arith, from.needs, needs); tabled = tabled } in
+          let on = replied.led from.told entry (record { session = now; going = refl; held = held }) in
+          let kept : MadeBetween old.history mid.history entry.device [] entry.device = made_kept old.history mid.history entry.device from.at.there.device from.at.served (stays from.told) in
+          let below : entry.device.blocks < 2 ^ 64 = omega (arith, sym stands.blocks, stands.in_range.blocks_most) in
+          volumes_of old new after table table_now entry ran.lines replied.replies replied.part ending on.led.states on.ahead below tabled
+          (onwards_since old mid new after table_now entry ran.lines replied.replies replied.part ending on.led.states on.ahead capacity kept (record { leads = on.led.leads; made = on.led.made; ends = on.ends }));
+    }
+
+-- ---- block 0
+
+-- has a table
+pub finds_table : (image : Image) (now : Session) (there : Device) (array : OpenSession) (bytes : List ℕ) (table : List Volume) → ReadsBlock image now there array 0 bytes (Ok tt) → bytes ≡ table_bytes table → FindsTable image now there array (Ok table)
+finds_table image now there array bytes table (at, read) is = (at, sym read ∙ is)
+
+-- or none
+pub finds_none : (image old : Image) (first now : Session) (there : Device) (array : OpenSession) (bytes : List ℕ) (blocks : ℕ) → IsAt old (Some first) (mounted there array) → blocks ≡ blocks_of first → ReadsBlock image now there array 0 bytes (Ok tt)
+    → ((table : List Volume) → IsTable blocks table → bytes ≢ table_bytes table) → FindsTable image now there array (Err halts.BadDirectory)
+finds_none image old first now there array bytes blocks at same (then', read) none table whole is =
+    none table (subst (λ (n : ℕ). IsTable n table) (sym (at.there.session.0.stands.blocks) ∙ sym same) whole) (read ∙ is)
+
+-- or the read stopped
+pub finds_stop : (image : Image) (now : Session) (there : Device) (array : OpenSession) (bytes : List ℕ) (stop : DeviceStop) → ReadsBlock image now there array 0 bytes (Err stop) → FindsTable image now there array (Err (halts.Stopped (stops.Device stop)))
+finds_stop image now there array bytes device.Platform at = tt
+finds_stop image now there array bytes device.Memory at = absurd at
+finds_stop image now there array bytes device.Tape at = absurd at
+finds_stop image now there array bytes device.Ledger at = absurd at
+finds_stop image now there array bytes device.BadRoot at = absurd at
+finds_stop image now there array bytes (device.BadRecord addr) at = absurd at
+
+pub read_halt : (Known : Type 0) (image after : Image) (session : Session) (block : ℕ) (bytes : List ℕ) (stop : DeviceStop) → ReadsAny Known image after session block bytes (Err stop) → IsOfTable (halts.Stopped (stops.Device stop))
+read_halt Known image after session block bytes device.Platform any = tt
+read_halt Known image after session block bytes device.Memory any = absurd any
+read_halt Known image after session block bytes device.Tape any = absurd any
+read_halt Known image after session block bytes device.Ledger any = absurd any
+read_halt Known image after session block bytes device.BadRoot any = absurd any
+read_halt Known image after session block bytes (device.BadRecord addr) any = tt
+
+-- ---- a refusal left all as it was
+
+pub idle_since : {R I L : Type 0} (tells Put : Type 0) (tape tape_now : R) (input input_now : I) (ledger ledger_now : L) (head mid_head head_now : ℕ) (old mid new : History) (result : Result (Unit {0}) Halt) → mid_head ≡ head → (tells → CellStays old mid)
+    → IfErr result (λ halt. IsRefusal halt → IsIdle tells tape tape_now input input_now ledger ledger_now mid_head head_now mid new × Put)
+    → IfErr result (λ halt. IsRefusal halt → IsIdle tells tape tape_now input input_now ledger ledger_now head head_now old new × Put)
+idle_since tells Put tape tape_now input input_now ledger ledger_now head mid_head head_now old mid new (Ok done) same stays idle = tt
+idle_since tells Put tape tape_now input input_now ledger ledger_now head mid_head head_now old mid new (Err halt) same stays idle = λ of.
+    let i = (idle of).0 in
+    (record { undrawn = i.undrawn; untaken = i.untaken; unlisted = i.unlisted; pages = i.pages ∙ same; cell = λ told. stays_then old mid new (stays told) (i.cell told) }, (idle of).1)

@@ -1,0 +1,115 @@
+-- A run, from the mount on.
+use Rattle.std.specs.Prelude.{◌≡◌, ◌⊎◌, ℕ, List, [], ◌++◌, Option, None, Result, Ok, Err, IfErr, flat_map, length}
+use Rattle.sdbt_base.specs.Arrays.{Device, closed}
+use Rattle.sdbt_base.specs.Told.{Gave, Got}
+use Rattle.platform.specs.Image.{Image}
+use Rattle.platform.specs.History.{CellStays, History}
+use Rattle.page_store.specs.Stands.{Stands}
+use Rattle.device_terms.specs.Served.{IsServedImage}
+use Rattle.device_course.specs.Course.{Made}
+use Rattle.device_course.specs.Keys.{KeepsOn}
+use Rattle.device_course.specs.Marks.{last_mark}
+use Rattle.device_course.specs.States.{IsLater, Outside}
+use Rattle.device_session.specs.Sessions.{Session}
+use Rattle.line_run.specs.Puts.{AreLines, IsBehind, IsPrompt, no_line}
+use Rattle.line_run.specs.Stops.{Ending, TookUntil}
+use Rattle.line_run.specs.declared.stop.Stop.TheVariants as stops
+use Rattle.device_course.specs.Held.{Held}
+use Rattle.device_course.specs.Leading.{last_of}
+use Rattle.session_calls.specs.declared.stops.DeviceStop.TheVariants as device
+use Rattle.volume_table.specs.declared.volume.Volume.{Volume}
+use Rattle.volume_lines.specs.Replies.{Reply, line_of}
+use Rattle.volume_terms.specs.Own.{HasOwn}
+use Rattle.volume_terms.specs.Volumes.{IsTabled}
+use Rattle.device_course.specs.Course.{MadeBetween}
+use Rattle.volume_serving.specs.Handled.{AreMany, OnLines}
+use Rattle.volumes.specs.Halts.{EndsAs}
+use Rattle.volumes.specs.Starting.{EndsEarly, HaltsAtDamage, IsRefusal, IsStart}
+use Rattle.volumes.specs.declared.halts.Halt.{Halt}
+use Rattle.volumes.specs.declared.halts.Halt.TheVariants as halts
+
+-- a run, whatever it served: pages were only added; keys were kept, and the ledger got what belongs to the root records that came into the cell; and from the device that there was it
+-- made others
+pub record Spans (tells : Type 0) (old new : Outside) (Going : Type 0) : Type 0 where
+  pub later : IsLater old new
+  pub keeps : KeepsOn tells old.drawn new.drawn old.written new.written None old.history new.history Going (λ keys. Unit {0})
+  pub made : tells → (there : Option Device) → Stands old.history.present there → IsServedImage old.history.present
+      → (marks : List (Option Device)) × Made old.history new.history None (closed there) marks (closed (last_mark there marks))
+
+-- no key was drawn, no input taken, nothing put to the ledger, no page added, and at each moment the cell was as before
+pub record IsIdle {R I L : Type 0} (tells : Type 0) (tape tape_now : R) (input input_now : I) (ledger ledger_now : L) (head head_now : ℕ) (old new : History) : Type 0 where
+  pub undrawn : tape_now ≡ tape
+  pub untaken : input_now ≡ input
+  pub unlisted : ledger_now ≡ ledger
+  pub pages : head_now ≡ head
+  pub cell : tells → CellStays old new
+
+-- what a mount finds: where the cell can't be served, or is empty, the run halts so, or the platform failed; and only there
+pub record Looked {X : Type 0} (tells : Type 0) (image : Image) (result : Result X Halt) : Type 0 where
+  pub bad : tells → (IsServedImage image → ⊥) → (result ≡ Err (halts.Stopped (stops.Device device.BadRoot))) ⊎ (result ≡ Err (halts.Stopped (stops.Device device.Platform)))
+  pub empty : tells → image.cell ≡ None → (result ≡ Err halts.NoDevice) ⊎ (result ≡ Err (halts.Stopped (stops.Device device.Platform)))
+  pub bad_only : tells → result ≡ Err (halts.Stopped (stops.Device device.BadRoot)) → IsServedImage image → ⊥
+  pub empty_only : tells → result ≡ Err halts.NoDevice → image.cell ≡ None
+
+-- a halt before the first line
+abbrev pub IsEarly : Halt → Type 0
+IsEarly halts.NoDevice = Unit {0}
+IsEarly halts.BadDirectory = Unit {0}
+IsEarly (halts.Stopped (stops.Device device.BadRoot)) = Unit {0}
+IsEarly (halts.Stopped (stops.Device (device.BadRecord addr))) = Unit {0}
+IsEarly (halts.Stopped (stops.Device device.Platform)) = Unit {0}
+IsEarly (halts.Stopped (stops.Device device.Memory)) = Unit {0}
+IsEarly (halts.Stopped _) = ⊥
+
+-- a run that halted so before it took anything, and put nothing. From each of these states the device stayed
+pub record IsSilent (From : Held → Type 0) (old new : Outside) (halt : Halt) (left left_now written written_now : Option (List ℕ)) : Type 0 where
+  pub untaken : left_now ≡ left
+  pub unput : written_now ≡ written
+  pub early : IsEarly halt
+  pub stayed : (entry : Held) → From entry → MadeBetween old.history new.history entry.device [] entry.device × EndsEarly entry halt
+
+-- the replies to lines, from this state on, whose block 0 has a table. They are those of its volumes, each of which has its own; and the devices that they led through were made in
+-- their order. A session and a table stand for the last state where the run goes on behind the lines
+pub record OnVolumes (old new : Outside) (session : Option Session) (table_now : List Volume) (entry : Held) (lines : List (List ℕ)) (replies : List Reply) (part : List ℕ) (ending : Ending) : Type 0 where
+  pub table : List Volume
+  pub tabled : IsTabled entry table
+  pub on : OnLines (record { session = None; table = table; outside = old }) (record { session = session; table = table_now; outside = new }) entry lines replies part ending
+  pub own : (name : List ℕ) → HasOwn entry (last_of entry on.led.states) name lines replies
+
+-- a run that served lines, and ended so: what it took, the lines of that, its replies to them, and a part of one more where the output failed
+pub record Answers (From : Held → Type 0) (old new : Outside) (ending : Ending) (left left_now written written_now : Option (List ℕ)) : Type 0 where
+  pub taken : List ℕ
+  pub lines : List (List ℕ)
+  pub gave : Gave left taken left_now
+  pub took : TookUntil ending taken left_now
+  pub come : AreLines ending taken left_now lines
+  pub replies : List Reply
+  pub part : List ℕ
+  pub got : Got written (flat_map line_of replies ++ part) written_now
+  pub behind : IsBehind line_of no_line part ending
+  pub many : AreMany (length replies) (length lines) ending
+  pub prompt : IsPrompt taken (length replies)
+  pub session : Option Session
+  pub table : List Volume
+  pub led : (entry : Held) → From entry → OnVolumes old new session table entry lines replies part ending
+
+-- how a run halts whose lines end so
+abbrev pub halting : Ending → Result (Unit {0}) Halt
+halting (Ok done) = Ok tt
+halting (Err stop) = Err (halts.Stopped stop)
+
+-- a run served no line, or it served lines, from each of these states
+abbrev pub Serves : (Held → Type 0) → Outside → Outside → Result (Unit {0}) Halt → Option (List ℕ) → Option (List ℕ) → Option (List ℕ) → Option (List ℕ) → Type 0
+Serves From old new result left left_now written written_now =
+    ((halt : Halt) × (result ≡ Err halt) × IsSilent From old new halt left left_now written written_now)
+    ⊎ ((ending : Ending) × (result ≡ halting ending) × Answers From old new ending left left_now written written_now)
+
+-- a run but for its last line, and that line: why it halted, and what it did until then; a refusal left all as it was, and a record that it names doesn't fit its place, on any pages
+pub record Ran (tells : Type 0) (old new : Outside) (Idle : Type 0) (left left_now written written_now : Option (List ℕ)) (ending : Result (Unit {0}) Halt) : Type 0 where
+  pub halted : Result (Unit {0}) Halt
+  pub written_then : Option (List ℕ)
+  pub serves : Serves (IsStart tells old) old new halted left left_now written written_then
+  pub looked : Looked tells old.history.present halted
+  pub idle : tells → IfErr halted (λ halt. IsRefusal halt → Idle × (written_then ≡ written))
+  pub damage : tells → IfErr halted (HaltsAtDamage new.history.present)
+  pub told : EndsAs halted ending written_then written_now
