@@ -13,13 +13,13 @@ use Rattle.page_store.specs.Stands.{Stands}
 use Rattle.device_terms.specs.Served.{IsServedCell, IsServedImage}
 use Rattle.device_terms.proofs.MomentLaws.{stays_then}
 use Rattle.device_course.specs.States.{IsAt, Outside}
-use Rattle.device_course.proofs.MadeLaws.{made_then, shut}
+use Rattle.device_course.proofs.MadeLaws.{made_kept, made_since, shut}
 use Rattle.device_session.specs.Open.{blocks_of, needed_by}
 use Rattle.device_session.specs.Sessions.{Session}
 use Rattle.device_session.proofs.CountLaws.{needs_none}
 use Rattle.line_run.specs.Stops.{Ending}
 use Rattle.line_run.specs.declared.stop.Stop.TheVariants as stops
-use Rattle.device_course.specs.Held.{Held, state_of}
+use Rattle.device_course.specs.Held.{Held, device_of, state_of}
 use Rattle.device_course.specs.Leading.{Leads, last_of, marks_of}
 use Rattle.session_calls.specs.Damage.{ReadsAny}
 use Rattle.session_calls.specs.Goes.{ReadsBlock}
@@ -35,7 +35,6 @@ use Rattle.volume_terms.specs.Volumes.{IsTabled}
 use Rattle.volume_terms.proofs.OwnLaws.{are_some, own_replies, volume_there}
 use Rattle.device_course.specs.Course.{MadeBetween}
 use Rattle.volume_desk.specs.Turns.{IsHeld}
-use Rattle.device_course.proofs.MadeLaws.{made_kept}
 use Rattle.volume_serving.specs.Handled.{EndsOn}
 use Rattle.volume_serving.specs.Ran.{Ran as RanLines}
 use Rattle.volumes.specs.Running.{Answers, IsEarly, IsIdle, IsSilent, OnVolumes, Serves}
@@ -49,9 +48,6 @@ use Rattle.volumes.proofs.SpanLaws.{led_of}
 -- what the run may begin from then is what it may begin from now
 abbrev pub Since : (Held → Type 0) → (Held → Type 0) → Outside → Outside → Type 0
 Since Earlier From first second = (entry : Held) → Earlier entry → From entry × MadeBetween first.history second.history entry.device [] entry.device
-
-made_since : (first second third : History) (entry last : Device) (marks : List (Option Device)) → MadeBetween first second entry [] entry → MadeBetween second third entry marks last → MadeBetween first third entry marks last
-made_since first second third entry last marks one two = made_then first second third None None (closed (Some entry)) (closed (Some entry)) (closed (Some last)) [] marks one two
 
 silent_since : (Earlier From : Held → Type 0) (first second third : Outside) (halt : Halt) (left left_now written written_now : Option (List ℕ)) → Since Earlier From first second → IsSilent From second third halt left left_now written written_now
     → IsSilent Earlier first third halt left left_now written written_now
