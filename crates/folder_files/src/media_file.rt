@@ -1,5 +1,5 @@
 //! What is done with the file of a medium.
-ghost use Rattle.std.specs.Prelude.{◌≡◌, ◌≤◌, ◌*◌, length, IfOk, IfErr, IsErr, OnOk};
+ghost use Rattle.std.specs.Prelude.{◌≡◌, ◌≤◌, ◌*◌, ◌-◌, min, take, length, IfOk, IfErr, IsErr, OnOk};
 ghost use Rattle.std.specs.Io.Seek.{MovesTo};
 ghost use Rattle.std.specs.Int.{div_ceil};
 ghost use Rattle.sdbt_base.specs.declared.limits.TheConstants.{RECORD};
@@ -48,6 +48,23 @@ pub(crate) fn read_at<F: Read + Seek>(media: &mut F, addr: u64, into: &mut [u8])
 {
     go_to(media, addr)?;
     read_whole(media, into)
+}
+
+/// Reads the page of an address in a file of so many bytes: what it gives from where that begins, and zeros for what is missing.
+pub(crate) fn read_part_at<F: Read + Seek>(
+    media: &mut F,
+    len: u64,
+    addr: u64,
+    into: &mut [u8],
+) -> io::Result<()>
+    ensures page { OnOk result (ReadsAt F.stream_position F.remaining media.old media.new (addr * RECORD) (take (min (len - addr * RECORD) (length into.new)) into.new)) }
+    ensures size { length into.new ≡ length into.old }
+{
+    let at = place_of(addr)?;
+    let n = len.saturating_sub(at).min(into.len() as u64) as usize;
+    go_to(media, addr)?;
+    into[n..].fill(0);
+    read_whole(media, &mut into[..n])
 }
 
 /// Writes a page where that of an address begins.
