@@ -1,5 +1,5 @@
 //! The pages of a device in a folder that is only looked at.
-ghost use Rattle.std.specs.Prelude.{◌≡◌, ◌∷◌, length, MatchResult};
+ghost use Rattle.std.specs.Prelude.{◌≡◌, ◌∷◌, true, length, MatchResult};
 ghost use Rattle.sdbt_base.specs.declared.limits.TheConstants.{RECORD};
 ghost use Rattle.folder_platform.specs.Events.{pages_counted, page_read};
 

@@ -1,5 +1,5 @@
 //! A platform in folders that exist, of which nothing is changed.
-ghost use Rattle.std.specs.Prelude.{◌≡◌, ◌×◌, [], IfOk, IfErr};
+ghost use Rattle.std.specs.Prelude.{◌≡◌, [], IfOk, IfErr};
 ghost use Rattle.folder_platform.specs.Refusals.{ShowsCause};
 
 use crate::cell_folder::CellFolder;
