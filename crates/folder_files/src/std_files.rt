@@ -1,8 +1,8 @@
 //! The files of a device in folders, by the calls of std on them.
 ghost use Rattle.std.specs.Prelude.{◌≡◌, []};
 
-use crate::cell_folder::CellFolder;
 use crate::StdPages;
+use crate::cell_folder::CellFolder;
 use folder_platform::{FileCall, FolderCalls, PageCalls};
 use std::fs::OpenFile;
 use std::io::{self, ErrorKind};

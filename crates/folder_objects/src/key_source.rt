@@ -26,10 +26,7 @@ fn open_random<R: Files>(rt: &R) -> io::Result<R::File> {
 
 fn of_characters(metadata: &Metadata) -> io::Result<()> {
     if !metadata.file_type().is_char_device() {
-        return Err(io::Error::new(
-            ErrorKind::InvalidInput,
-            "no character device",
-        ));
+        return Err(io::Error::new(ErrorKind::InvalidInput, "no character device"));
     }
     Ok(())
 }

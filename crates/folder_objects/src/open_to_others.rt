@@ -20,7 +20,10 @@ pub fn tell_open_cell(rt: &(impl Files + Alloc + Eprint), program: &str, cell: &
     let Ok(root) = format!(in rt.alloc(); "{cell}/root") else {
         return;
     };
-    if may_others(fs::symlink_metadata(rt, root.as_str()), OTHERS_READ_OR_WRITE) {
+    if may_others(
+        fs::symlink_metadata(rt, root.as_str()),
+        OTHERS_READ_OR_WRITE,
+    ) {
         let _ = eprintln!(rt; "{program}: {root}: others than its owner may read or write it");
     }
 }

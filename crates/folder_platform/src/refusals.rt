@@ -27,15 +27,27 @@ pub enum FolderFile {
 #[derive(Clone, Copy, Debug)]
 pub enum OpenRefusal {
     /// `media` has this length, which is more than that of 2^32 pages.
-    TooLong { len: u64 },
+    TooLong {
+        len: u64,
+    },
     /// Another platform has the lock on `media`, or on the folder of the root record.
     InUse,
     /// A call on this file failed, for another cause than want of memory.
-    Io { file: FolderFile, error: io::Error },
+    Io {
+        file: FolderFile,
+        error: io::Error,
+    },
     /// What has the name of this file is no regular file, or has another name too.
-    NotOwn { file: FolderFile, found: Found },
+    NotOwn {
+        file: FolderFile,
+        found: Found,
+    },
     /// Something else came to have this name while it was opened.
-    Exchanged { file: FolderFile, looked: Found, opened: Found },
+    Exchanged {
+        file: FolderFile,
+        looked: Found,
+        opened: Found,
+    },
     /// No memory was given.
     Memory,
 }
@@ -72,9 +84,7 @@ impl fmt::Display for OpenRefusal {
             ),
             OpenRefusal::InUse => write!(f, "in use by another program"),
             OpenRefusal::Io { error, .. } => write!(f, "{error}"),
-            OpenRefusal::NotOwn { found, .. } => {
-                write!(f, "{found}, and not a file of its own")
-            }
+            OpenRefusal::NotOwn { found, .. } => { write!(f, "{found}, and not a file of its own") }
             OpenRefusal::Exchanged { .. } => write!(f, "exchanged while it was opened"),
             OpenRefusal::Memory => write!(f, "out of memory"),
         }

@@ -30,7 +30,8 @@ const OPENING_APART: &str =
     find cell, measure cell, look at root, sync cell, find cell, measure cell";
 
 /// The calls of a platform that only looks.
-const VIEWING: &str = "find folder, open folder, measure folder, share the lock on folder, look at root, \
+const VIEWING: &str =
+    "find folder, open folder, measure folder, share the lock on folder, look at root, \
     find folder, open folder, measure folder, look at media, open media, measure media, share the lock on media, \
     measure media, measure media";
 
