@@ -13,10 +13,11 @@ abbrev pub TellsMissing : {T : Type 0} → Result T Error → Result (Option T) 
 TellsMissing (Ok value) told = told ≡ Ok (Some value)
 TellsMissing (Err error) told = (error_kind error ≡ NotFound → told ≡ Ok None) × (error_kind error ≢ NotFound → told ≡ Err error)
 
--- what was opened is there, a missing file isn't, and every other failure is handed on
-abbrev pub IsNoneIfMissing : {F T : Type 0} → Result F Error → Result (Option T) Error → Type 0
-IsNoneIfMissing (Ok file) told = told ≢ Ok None
-IsNoneIfMissing (Err error) told = (error_kind error ≡ NotFound → told ≡ Ok None) × (error_kind error ≢ NotFound → told ≡ Err error)
+-- what was opened is there, a missing file isn't, and every failure is handed on
+abbrev pub IsNoneIfMissing : {F T : Type 0} → Result (Option F) Error → Result (Option T) Error → Type 0
+IsNoneIfMissing (Ok (Some file)) told = told ≢ Ok None
+IsNoneIfMissing (Ok None) told = told ≡ Ok None
+IsNoneIfMissing (Err error) told = told ≡ Err error
 
 -- a lock that another has is a use by another, and that is said of no other failure
 abbrev pub TellsHeld : {T : Type 0} → FolderFile → Result T Error → Result T OpenRefusal → Type 0

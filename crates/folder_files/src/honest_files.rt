@@ -7,7 +7,8 @@ ghost use Rattle.folder_files.specs.Honest.{IsHonest-prop};
 
 use crate::record::Record;
 use folder_platform::{
-    CellCalls, FileCall, FolderCalls, FolderPlatform, InFolder, OpenRefusal, PageCalls,
+    CellCalls, FileCall, FolderCalls, FolderPlatform, FolderView, InFolder, LookCalls, OpenRefusal,
+    PageCalls,
 };
 use platform::Platform;
 use sdbt_base::{RECORD, ROOT};
@@ -210,6 +211,33 @@ impl CellCalls for HonestFiles {
     }
 }
 
+impl LookCalls for HonestFiles {
+    ghost use Rattle.folder_platform.specs.Honest.{IsHonest};
+    ghost use Rattle.folder_files.specs.Found.{nothing, nothing-files};
+
+    ghost start = { λ _. nothing };
+
+    ghost events = { λ files. files.calls.events };
+
+    ghost occurs = { IsHonest };
+
+    ghost are_files = { λ _. nothing-files };
+
+    ghost occurred = { λ files. files.honest };
+
+    fn look_for_pages(&mut self) -> io::Result<u64> {
+        self.count_pages()
+    }
+
+    fn look_at_page(&mut self, addr: u64, into: &mut [u8]) -> io::Result<()> {
+        self.read_page(addr, into)
+    }
+
+    fn look_at_cell(&mut self, into: &mut [u8]) -> io::Result<bool> {
+        self.load(into)
+    }
+}
+
 // The buffer begins with these bytes.
 fn put_front(into: &mut [u8], bytes: &[u8])
     requires room { ROOT ≤ length into.old }
@@ -233,4 +261,11 @@ pub fn open_honest_in_place(alloc: Global) -> Result<FolderPlatform<HonestFiles>
     ensures { ⟦<FolderPlatform<HonestFiles> as Platform>⟧.tells }
 {
     FolderPlatform::open(HonestFiles::new(alloc))
+}
+
+/// So does one that only looks at them.
+pub fn view_honest(alloc: Global) -> Result<FolderView<HonestFiles>, OpenRefusal>
+    ensures { ⟦<FolderView<HonestFiles> as Platform>⟧.tells }
+{
+    FolderView::open(HonestFiles::new(alloc))
 }

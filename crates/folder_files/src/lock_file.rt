@@ -15,6 +15,10 @@ pub trait LockFile {
     /// `WouldBlock` where another opening of the file has a lock on it.
     fn try_lock(&self) -> io::Result<()>
         ensures held { IfErr result (λ error. error_kind error ≡ WouldBlock → is_held self.now) };
+
+    /// The same of a shared lock: others may have one too.
+    fn try_lock_shared(&self) -> io::Result<()>
+        ensures held { IfErr result (λ error. error_kind error ≡ WouldBlock → is_held self.now) };
 }
 
 impl LockFile for File {
@@ -22,6 +26,11 @@ impl LockFile for File {
 
     fn try_lock(&self) -> io::Result<()> {
         File::try_lock(self)?;
+        Ok(())
+    }
+
+    fn try_lock_shared(&self) -> io::Result<()> {
+        File::try_lock_shared(self)?;
         Ok(())
     }
 }

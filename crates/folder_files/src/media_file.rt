@@ -1,5 +1,5 @@
 //! What is done with the file of a medium.
-ghost use Rattle.std.specs.Prelude.{◌≡◌, ◌≤◌, ◌*◌, length, IfOk, IfErr, IsErr, OnOk};
+ghost use Rattle.std.specs.Prelude.{◌≡◌, ◌≤◌, ◌*◌, ◌-◌, min, take, drop, replicate, length, IfOk, IfErr, IsErr, OnOk};
 ghost use Rattle.std.specs.Io.Seek.{MovesTo};
 ghost use Rattle.std.specs.Int.{div_ceil};
 ghost use Rattle.sdbt_base.specs.declared.limits.TheConstants.{RECORD};
@@ -48,6 +48,31 @@ pub(crate) fn read_at<F: Read + Seek>(media: &mut F, addr: u64, into: &mut [u8])
 {
     go_to(media, addr)?;
     read_whole(media, into)
+}
+
+// How many bytes of the page of an address are in a file of so many.
+fn part_of(len: u64, addr: u64) -> io::Result<usize>
+    ensures { IfOk result (λ n. n ≡ min (len - addr * RECORD) RECORD) }
+{
+    let begin = place_of(addr)?;
+    Ok(len.saturating_sub(begin).min(PAGE_LEN) as usize)
+}
+
+/// Reads the page of an address in a file of so many bytes: what it gives from where that begins, and zeros for what is missing.
+pub(crate) fn read_part_at<F: Read + Seek>(
+    media: &mut F,
+    len: u64,
+    addr: u64,
+    into: &mut [u8],
+) -> io::Result<()>
+    requires { length into.old ≡ RECORD }
+    ensures page { OnOk result (ReadsAt F.stream_position F.remaining media.old media.new (addr * RECORD) (take (min (len - addr * RECORD) RECORD) into.new)) }
+    ensures zeros { OnOk result (drop (min (len - addr * RECORD) RECORD) into.new ≡ replicate (RECORD - min (len - addr * RECORD) RECORD) 0) }
+    ensures size { length into.new ≡ length into.old }
+{
+    let n = part_of(len, addr)?;
+    into[n..].fill(0);
+    read_at(media, addr, &mut into[..n])
 }
 
 /// Writes a page where that of an address begins.

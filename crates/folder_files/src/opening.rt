@@ -4,23 +4,23 @@ ghost use Rattle.sdbt_base.specs.declared.limits.TheConstants.{RECORD};
 ghost use Rattle.folder_platform.specs.Refusals.{ShowsCause};
 ghost use Rattle.folder_files.specs.Answers.{TellsHeld};
 
+use crate::cell_folder::CellFolder;
 use crate::media_file::PAGE_LEN;
+use crate::own_file::{look, open_folder, open_or_make};
 use crate::record::Record;
-use crate::root_file::OWNER_ALONE;
 use crate::{LockFile, StdFiles, StdPages};
 use folder_platform::{FolderFile, FolderPlatform, InFolder, OpenRefusal, told};
 use platform::Platform;
 use sdbt_base::MAX_PAGES;
-use std::fs::{self, OpenFile, OpenOptions};
+use std::fs::{OpenFile, OpenOptions};
 use std::io::{self, ErrorKind};
-use std::os::unix::fs::OpenOptionsExt;
 use std::rt::Files;
 
 /// The platform in two folders that exist: the root record in `cell`, and the medium in `folder`. They may be one.
 ///
 /// As long as it is there, it has the locks on `media` and on the folder of `root`. They are advisory: they keep out
 /// other platforms, and no other program. Nothing is changed before both are taken, but that `media` is made where
-/// there is none.
+/// there is none; and nothing at all where a file of the device, the ledger too, is none of its own.
 pub fn open_in_folders<R: Files + Alloc + Clone + Drop>(
     rt: R,
     cell: &str,
@@ -48,18 +48,17 @@ where
     ensures new { IfOk result (λ files. files.pages.calls.events ≡ []) }
     ensures cause { IfErr result (ShowsCause ((held : R.File) × R.File.is_held held)) }
 {
-    let root = format!(in rt.alloc(); "{cell}/root")?;
-    let new_root = format!(in rt.alloc(); "{cell}/root.new")?;
+    let cell = CellFolder::open(rt.clone()?, cell)?;
     let media = format!(in rt.alloc(); "{folder}/media")?;
-    let cell = open_folder(&rt, FolderFile::Cell, cell)?;
+    let ledger = format!(in rt.alloc(); "{folder}/ledger")?;
     let folder = open_folder(&rt, FolderFile::Folder, folder)?;
-    lock(FolderFile::Cell, &cell)?;
+    lock(FolderFile::Cell, cell.folder())?;
+    cell.look_at_root()?;
+    cell.look_at_new()?;
+    look(&rt, FolderFile::Ledger, ledger.as_str())?;
     let pages = lock_pages(&rt, folder, media.as_str())?;
     Ok(StdFiles {
         pages,
-        rt,
-        root,
-        new_root,
         cell,
         new_file: None,
     })
@@ -74,7 +73,9 @@ where
     ensures cause { IfErr result (ShowsCause ((held : R.File) × R.File.is_held held)) }
 {
     let media = format!(in rt.alloc(); "{folder}/media")?;
+    let ledger = format!(in rt.alloc(); "{folder}/ledger")?;
     let folder = open_folder(rt, FolderFile::Folder, folder)?;
+    look(rt, FolderFile::Ledger, ledger.as_str())?;
     lock_pages(rt, folder, media.as_str())
 }
 
@@ -85,7 +86,8 @@ where
     ensures new { IfOk result (λ pages. pages.calls.events ≡ []) }
     ensures cause { IfErr result (ShowsCause ((held : R.File) × R.File.is_held held)) }
 {
-    let media = told(FolderFile::Media, open_media(rt, media))?;
+    let how = &mut OpenOptions::new();
+    let media = open_or_make(rt, FolderFile::Media, media, how.read(true).write(true))?;
     lock(FolderFile::Media, &media)?;
     let metadata = told(FolderFile::Media, media.metadata())?;
     not_too_long(metadata.len())?;
@@ -103,8 +105,8 @@ fn lock<F: LockFile>(name: FolderFile, file: &F) -> Result<(), OpenRefusal>
     locked(name, file.try_lock())
 }
 
-// What a try for the lock on a file answered: that another has it is a refusal of its own.
-fn locked(file: FolderFile, outcome: io::Result<()>) -> Result<(), OpenRefusal>
+/// What a try for the lock on a file answered: that another has it is a refusal of its own.
+pub(crate) fn locked(file: FolderFile, outcome: io::Result<()>) -> Result<(), OpenRefusal>
     ensures { TellsHeld file outcome result }
 {
     match outcome {
@@ -113,30 +115,8 @@ fn locked(file: FolderFile, outcome: io::Result<()>) -> Result<(), OpenRefusal>
     }
 }
 
-// Opens a folder, and refuses what is none.
-fn open_folder<R: Files>(files: &R, file: FolderFile, path: &str) -> Result<R::File, OpenRefusal>
-    ensures cause { IfErr result (ShowsCause ⊥) }
-{
-    let folder = told(file, fs::open(files, path))?;
-    let metadata = told(file, folder.metadata())?;
-    if !metadata.is_dir() {
-        return Err(OpenRefusal::of(file, ErrorKind::NotADirectory.into()));
-    }
-    Ok(folder)
-}
-
-// Opens the file of the medium, which is made where there is none.
-fn open_media<R: Files>(files: &R, path: &str) -> io::Result<R::File> {
-    OpenOptions::new()
-        .read(true)
-        .write(true)
-        .create(true)
-        .mode(OWNER_ALONE)
-        .open(files, path)
-}
-
-// Refuses a file of so many bytes where no medium has as many pages, of which the last may be there in part.
-fn not_too_long(len: u64) -> Result<(), OpenRefusal>
+/// Refuses a file of so many bytes where no medium has as many pages, of which the last may be there in part.
+pub(crate) fn not_too_long(len: u64) -> Result<(), OpenRefusal>
     ensures limit { IsOk result ↔ (len ≤ MAX_PAGES * RECORD) }
     ensures refusal { IfErr result (λ refusal. refusal ≡ OpenRefusal.TooLong len) }
 {

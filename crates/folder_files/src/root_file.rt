@@ -1,27 +1,15 @@
 //! What is done with the files of a root record, by their names.
 ghost use Rattle.std.specs.Prelude.{◌≡◌, ◌≤◌, ⊤, min, take, length, IfOk, MatchOption};
 ghost use Rattle.std.specs.Io.KnownBytes.{Consumes};
-ghost use Rattle.folder_files.specs.Answers.{TellsMissing, IsNoneIfMissing};
+ghost use Rattle.folder_files.specs.Answers.{IsNoneIfMissing};
 
+use crate::own_file::{OWNER_ALONE, error_of, open_own, unless_missing};
+use folder_platform::FolderFile;
 use sdbt_base::{read_whole, write_whole};
 use std::fs::{self, OpenFile, OpenOptions};
-use std::io::{self, ErrorKind, Read};
+use std::io::{self, Read};
 use std::os::unix::fs::OpenOptionsExt;
 use std::rt::Files;
-
-/// Who may read the files: their owner alone, since the root record is a key.
-pub(crate) const OWNER_ALONE: u32 = 0o600;
-
-// What a call on a path answered: nothing where there is no such file, and every other failure stays one.
-fn unless_missing<T>(outcome: io::Result<T>) -> io::Result<Option<T>>
-    ensures { TellsMissing outcome result }
-{
-    match outcome {
-        Ok(value) => Ok(Some(value)),
-        Err(error) if error.kind() == ErrorKind::NotFound => Ok(None),
-        Err(error) => Err(error),
-    }
-}
 
 /// Removes a file, if there is one of this name.
 pub(crate) fn remove(files: &impl Files, path: &str) -> io::Result<()> {
@@ -29,30 +17,38 @@ pub(crate) fn remove(files: &impl Files, path: &str) -> io::Result<()> {
     Ok(())
 }
 
-/// Syncs a file, if there is one of this name.
+/// Syncs a file of its own, if there is one of this name.
 pub(crate) fn sync(files: &impl Files, path: &str) -> io::Result<()> {
-    match unless_missing(fs::open(files, path))? {
+    match open(files, path)? {
         Some(file) => file.sync_all(),
         None => Ok(()),
     }
 }
 
-/// How many bytes of a file were put into the buffer, from its first one on; or `None`, if there is none of this name.
+// Opens a file of its own to be read, if there is one of this name.
+fn open<R: Files>(files: &R, path: &str) -> io::Result<Option<R::File>> {
+    match open_own(files, FolderFile::Root, path, OpenOptions::new().read(true)) {
+        Ok(file) => Ok(file),
+        Err(refusal) => Err(error_of(refusal)),
+    }
+}
+
+/// How many bytes of a file of its own were put into the buffer, from its first one on; or `None`, if there is none of this name.
 pub(crate) fn read(files: &impl Files, path: &str, into: &mut [u8]) -> io::Result<Option<usize>>
     ensures { IfOk result (λ n. MatchOption n ⊤ (λ n. n ≤ length into.old)) }
 {
-    read_opened(fs::open(files, path), into)
+    read_opened(open(files, path), into)
 }
 
 // The same of a file that was opened: there is none where it is missing, and that is told of no other failure.
 fn read_opened<F: Read + OpenFile + Drop>(
-    opened: io::Result<F>,
+    opened: io::Result<Option<F>>,
     into: &mut [u8],
 ) -> io::Result<Option<usize>>
     ensures within { IfOk result (λ n. MatchOption n ⊤ (λ n. n ≤ length into.old)) }
     ensures missing { IsNoneIfMissing opened result }
 {
-    let Some(mut file) = unless_missing(opened)? else {
+    let Some(mut file) = opened? else {
         return Ok(None);
     };
     let len = file.metadata()?.len();

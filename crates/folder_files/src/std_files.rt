@@ -1,23 +1,21 @@
 //! The files of a device in folders, by the calls of std on them.
 ghost use Rattle.std.specs.Prelude.{◌≡◌, []};
 
-use crate::{StdPages, root_file};
+use crate::StdPages;
+use crate::cell_folder::CellFolder;
 use folder_platform::{FileCall, FolderCalls, PageCalls};
-use std::fs::{self, OpenFile};
+use std::fs::OpenFile;
 use std::io::{self, ErrorKind};
 use std::rt::Files;
 
-/// The open file `media` with its folder, and by their names the files `root` and `root.new` in the open folder `cell`.
+/// The open file `media` with its folder, and by their names the files `root` and `root.new` in the open folder of the root record.
 ///
 /// Each method makes its calls of the system, and then notes them as one with their answer. That they are those is
 /// for the reader to see: no contract says what a file gives back.
 #[derive(Drop)]
 pub struct StdFiles<R: Files + Alloc + Clone + Drop> {
     pub(crate) pages: StdPages<R>,
-    pub(crate) rt: R,
-    pub(crate) root: String<R::A>,
-    pub(crate) new_root: String<R::A>,
-    pub(crate) cell: R::File,
+    pub(crate) cell: CellFolder<R>,
     // `root.new`, since it was made.
     pub(crate) new_file: Option<R::File>,
 }
@@ -62,7 +60,7 @@ impl<R: Files + Alloc + Clone + Drop> PageCalls for StdFiles<R> {
 
 impl<R: Files + Alloc + Clone + Drop> FolderCalls for StdFiles<R> {
     fn read_root(&mut self, into: &mut [u8]) -> io::Result<Option<usize>> {
-        let answer = root_file::read(&self.rt, self.root.as_str(), into);
+        let answer = self.cell.read_root(into);
         match answer {
             Ok(None) => self.pages.note(FileCall::ReadRoot, 0, true, &[]),
             Ok(Some(n)) => self.pages.note(FileCall::ReadRoot, 1, true, &into[..n]),
@@ -72,29 +70,26 @@ impl<R: Files + Alloc + Clone + Drop> FolderCalls for StdFiles<R> {
     }
 
     fn sync_root(&mut self) -> io::Result<()> {
-        let answer = root_file::sync(&self.rt, self.root.as_str());
+        let answer = self.cell.sync_root();
         self.pages.note(FileCall::SyncRoot, 0, answer.is_ok(), &[]);
         answer
     }
 
     fn remove_root(&mut self) -> io::Result<()> {
-        let answer = root_file::remove(&self.rt, self.root.as_str());
+        let answer = self.cell.remove_root();
         self.pages
             .note(FileCall::RemoveRoot, 0, answer.is_ok(), &[]);
         answer
     }
 
     fn remove_new(&mut self) -> io::Result<()> {
-        let answer = root_file::remove(&self.rt, self.new_root.as_str());
+        let answer = self.cell.remove_new();
         self.pages.note(FileCall::RemoveNew, 0, answer.is_ok(), &[]);
         answer
     }
 
     fn make_new(&mut self, bytes: &[u8]) -> io::Result<()> {
-        let answer = put_open(
-            root_file::make(&self.rt, self.new_root.as_str(), bytes),
-            &mut self.new_file,
-        );
+        let answer = put_open(self.cell.make_new(bytes), &mut self.new_file);
         self.pages.note(FileCall::MakeNew, 0, answer.is_ok(), bytes);
         answer
     }
@@ -106,13 +101,13 @@ impl<R: Files + Alloc + Clone + Drop> FolderCalls for StdFiles<R> {
     }
 
     fn rename_new(&mut self) -> io::Result<()> {
-        let answer = fs::rename(&self.rt, self.new_root.as_str(), self.root.as_str());
+        let answer = self.cell.rename_new();
         self.pages.note(FileCall::RenameNew, 0, answer.is_ok(), &[]);
         answer
     }
 
     fn sync_cell(&mut self) -> io::Result<()> {
-        let answer = self.cell.sync_all();
+        let answer = self.cell.sync();
         self.pages.note(FileCall::SyncCell, 0, answer.is_ok(), &[]);
         answer
     }

@@ -2,6 +2,7 @@
 
 use crate::RANDOM;
 use folder_platform::{FolderFile, OpenRefusal};
+use sdbt_base::Memory;
 use std::alloc::AllocError;
 use std::io;
 use tpm_cell::{CellRefusal, TpmNotReady};
@@ -15,8 +16,6 @@ pub enum NotReady {
     Medium(OpenRefusal),
     /// The index of a TPM can't be a platform's cell.
     Index(CellRefusal),
-    /// The ledger could not be opened.
-    Ledger(io::Error),
     /// The source of keys could not be opened.
     Keys(io::Error),
 }
@@ -43,9 +42,9 @@ impl NotReady {
             NotReady::Platform(refusal) | NotReady::Medium(refusal) => {
                 matches!(refusal, OpenRefusal::Memory)
             }
-            NotReady::Index(CellRefusal::Io(error))
-            | NotReady::Ledger(error)
-            | NotReady::Keys(error) => error.kind() == io::ErrorKind::OutOfMemory,
+            NotReady::Index(CellRefusal::Io(error)) | NotReady::Keys(error) => {
+                error.kind() == io::ErrorKind::OutOfMemory
+            }
             NotReady::Index(_) => false,
         }
     }
@@ -56,7 +55,6 @@ impl NotReady {
             NotReady::Platform(refusal) => tell_refusal(refusal, rt, program, cell, folder),
             NotReady::Medium(refusal) => tell_refusal(refusal, rt, program, folder, folder),
             NotReady::Index(refusal) => eprintln!(rt; "{program}: {cell}: {refusal}"),
-            NotReady::Ledger(error) => eprintln!(rt; "{program}: {folder}/ledger: {error}"),
             NotReady::Keys(error) => eprintln!(rt; "{program}: {RANDOM}: {error}"),
         }
     }
@@ -74,12 +72,15 @@ fn tell_refusal(
         OpenRefusal::TooLong { .. } => eprintln!(rt; "{program}: {folder}/media: {refusal}"),
         OpenRefusal::InUse if cell == folder => eprintln!(rt; "{program}: {folder}: {refusal}"),
         OpenRefusal::InUse => eprintln!(rt; "{program}: {cell} or {folder}: {refusal}"),
-        OpenRefusal::Io { file, .. } => match file {
+        OpenRefusal::Io { file, .. }
+        | OpenRefusal::NotOwn { file, .. }
+        | OpenRefusal::Exchanged { file, .. } => match file {
             FolderFile::Cell => eprintln!(rt; "{program}: {cell}: {refusal}"),
             FolderFile::Folder => eprintln!(rt; "{program}: {folder}: {refusal}"),
             FolderFile::Media => eprintln!(rt; "{program}: {folder}/media: {refusal}"),
             FolderFile::Root => eprintln!(rt; "{program}: {cell}/root: {refusal}"),
             FolderFile::NewRoot => eprintln!(rt; "{program}: {cell}/root.new: {refusal}"),
+            FolderFile::Ledger => eprintln!(rt; "{program}: {folder}/ledger: {refusal}"),
         },
         OpenRefusal::Memory => eprintln!(rt; "{program}: {refusal}"),
     }
@@ -102,6 +103,12 @@ impl From<TpmNotReady> for NotReady {
 
 impl From<AllocError> for NotReady {
     fn from(_error: AllocError) -> NotReady {
+        NotReady::Platform(OpenRefusal::Memory)
+    }
+}
+
+impl From<Memory> for NotReady {
+    fn from(_error: Memory) -> NotReady {
         NotReady::Platform(OpenRefusal::Memory)
     }
 }

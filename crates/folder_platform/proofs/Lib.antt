@@ -7,3 +7,4 @@ pub mod Opening
 pub mod Safety
 pub mod Once
 pub mod MomentLaws
+pub mod Viewing

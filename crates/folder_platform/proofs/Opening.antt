@@ -19,7 +19,7 @@ use Rattle.folder_platform.proofs.Leaving.{found-cell, synced-cell, synced-is_sy
 use Rattle.folder_platform.proofs.Safety.{safe_open}
 use Rattle.folder_platform.proofs.Telling.{zero_page-bytes, told_same, told_as, whole-told, whole-synced, earlier-synced}
 
-length-fitted : (n : ℕ) (pages : List (List ℕ)) → length (fitted n pages) ≡ n
+pub length-fitted : (n : ℕ) (pages : List (List ℕ)) → length (fitted n pages) ≡ n
 unfolding fitted
 length-fitted n pages = omega (arith, length-take n (pages ++ replicate (n - length pages) zero_page), length-append pages (replicate (n - length pages) zero_page), length-replicate {A = List ℕ} (n - length pages) zero_page)
 
@@ -52,7 +52,7 @@ module _ (files : Files) (are : AreFiles files) (n : ℕ) where
   abbrev first : List Event
   first = media_synced true ∷ pages_counted n ∷ new_removed true ∷ []
 
-  whole-first : IsWhole (now_of files (pages_counted n ∷ new_removed true ∷ []))
+  pub whole-first : IsWhole (now_of files (pages_counted n ∷ new_removed true ∷ []))
   whole-first = record {
     cell = λ held is. found-bytes files.root held are.root is;
     recorded = fitted-bytes n files.handed are.handed;
@@ -101,7 +101,7 @@ opens files' events' n are is =
       safe = safe_open files' n (length-fitted n files'.handed ∙ sym (length-fitted n files'.pages));
     })
 
-fitted-same : (n : ℕ) (pages : List (List ℕ)) → n ≡ length pages → fitted n pages ≡ pages
+pub fitted-same : (n : ℕ) (pages : List (List ℕ)) → n ≡ length pages → fitted n pages ≡ pages
 unfolding fitted
 fitted-same n pages same =
     let none : n - length pages ≡ 0 = omega arith in

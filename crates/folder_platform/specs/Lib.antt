@@ -1,6 +1,7 @@
 pub mod Events
 pub mod Files
 pub mod Honest
+pub mod Looks
 pub mod Loss
 pub mod Model
 pub mod Refusals

@@ -183,8 +183,8 @@ impl<C: CellCalls + Drop> Platform for FolderPlatform<C> {
     }
 }
 
-// A call that failed is counted.
-fn fault<T>(faults: &mut u64) -> Result<T, PlatformFault>
+/// A call that failed is counted.
+pub(crate) fn fault<T>(faults: &mut u64) -> Result<T, PlatformFault>
     ensures rises { faults.old ≤ faults.new }
     ensures cause { Tells result faults.old faults.new }
     ensures failed { IsErr result }

@@ -1,5 +1,6 @@
 //! The cell of a root record in a folder.
-ghost use Rattle.std.specs.Prelude.{◌≡◌, length, is_ok};
+ghost use Rattle.std.specs.Prelude.{◌≡◌, ◌↔◌, Some, length, is_ok, IsTrue, IsSome};
+ghost use Rattle.folder_platform.specs.Told.{record_of};
 ghost use Rattle.folder_platform.specs.Sequences.{Renames, Unlinks, NotesCell};
 
 use crate::{CellCalls, FolderCalls, FolderFile, OpenRefusal, PageCalls, told};
@@ -86,14 +87,26 @@ fn load_root<C: FolderCalls>(files: &mut C, into: &mut [u8]) -> io::Result<bool>
     let mut bytes = [0; ROOT + 1];
     match files.read_root(&mut bytes)? {
         None => Ok(false),
-        Some(0) => Ok(false),
-        Some(ROOT) => {
-            into.copy_from_slice(&bytes[..ROOT]);
-            Ok(true)
+        Some(count) => Ok(record_in(&bytes[..count], into)),
+    }
+}
+
+/// Whether a cell is full whose file `root` begins with these bytes, of which there are `ROOT` and one where it is longer. What it
+/// holds is in the buffer of `ROOT` bytes then: zeros, if `root` has another length than a root record.
+pub fn record_in(bytes: &[u8], into: &mut [u8]) -> bool
+    requires { length into.old ≡ ROOT }
+    ensures full { IsTrue result ↔ IsSome (record_of bytes.now) }
+    ensures held { IsTrue result → record_of bytes.now ≡ Some into.new }
+{
+    match bytes.len() {
+        0 => false,
+        ROOT => {
+            into.copy_from_slice(bytes);
+            true
         }
-        Some(_) => {
+        _ => {
             into.copy_from_slice(&ZERO_ROOT);
-            Ok(true)
+            true
         }
     }
 }

@@ -1,6 +1,7 @@
 //! Why folders can't be a platform.
 ghost use Rattle.folder_platform.specs.Refusals.{IsRefusalOf, IsMemory, TellsFile};
 
+use crate::Found;
 use std::alloc::AllocError;
 use std::error::Error;
 use std::{fmt, io};
@@ -18,17 +19,35 @@ pub enum FolderFile {
     Root,
     /// The file `root.new` in the folder of the root record.
     NewRoot,
+    /// The file `ledger` in the folder of the medium.
+    Ledger,
 }
 
 /// Why folders can't be opened as a platform.
 #[derive(Clone, Copy, Debug)]
 pub enum OpenRefusal {
     /// `media` has this length, which is more than that of 2^32 pages.
-    TooLong { len: u64 },
+    TooLong {
+        len: u64,
+    },
     /// Another platform has the lock on `media`, or on the folder of the root record.
     InUse,
     /// A call on this file failed, for another cause than want of memory.
-    Io { file: FolderFile, error: io::Error },
+    Io {
+        file: FolderFile,
+        error: io::Error,
+    },
+    /// What has the name of this file is no regular file, or has another name too.
+    NotOwn {
+        file: FolderFile,
+        found: Found,
+    },
+    /// Something else came to have this name while it was opened.
+    Exchanged {
+        file: FolderFile,
+        looked: Found,
+        opened: Found,
+    },
     /// No memory was given.
     Memory,
 }
@@ -65,6 +84,8 @@ impl fmt::Display for OpenRefusal {
             ),
             OpenRefusal::InUse => write!(f, "in use by another program"),
             OpenRefusal::Io { error, .. } => write!(f, "{error}"),
+            OpenRefusal::NotOwn { found, .. } => { write!(f, "{found}, and not a file of its own") }
+            OpenRefusal::Exchanged { .. } => write!(f, "exchanged while it was opened"),
             OpenRefusal::Memory => write!(f, "out of memory"),
         }
     }

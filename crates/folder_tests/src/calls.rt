@@ -4,7 +4,9 @@
 //! takes another folder for that of the root record or of the medium; a method of `StdFiles` that makes another call of the system
 //! than it notes, or none.
 use crate::doubles::CallLog;
-use crate::folders::{APART, CELL, FOLDER, left, make_apart, make_folder, open};
+use crate::folders::{
+    APART, CELL, FOLDER, left, length_and_mode, make_apart, make_folder, open, view,
+};
 use crate::script::first_unlike;
 use folder_platform::OpenRefusal;
 use sdbt_base::{RECORD, ROOT};
@@ -13,15 +15,25 @@ use std::{fs, io};
 
 /// The calls of `open` over a torn last page, and how many they are.
 const OPENING: &str =
-    "open folder, measure folder, open folder, measure folder, lock folder, open media, lock media, \
-    measure media, remove root.new, measure media, lengthen media, sync media, sync folder, open root, sync root, sync folder";
+    "find folder, open folder, measure folder, find folder, open folder, measure folder, lock folder, \
+    look at root, look at root.new, look at ledger, look at media, open media, measure media, lock media, measure media, \
+    find folder, measure folder, remove root.new, measure media, lengthen media, sync media, sync folder, \
+    find folder, measure folder, look at root, open root, measure root, sync root, sync folder, find folder, measure folder";
 
-const OPENING_CALLS: usize = 16;
+const OPENING_CALLS: usize = 31;
 
 /// The calls of an opening with the root record in a folder of its own.
 const OPENING_APART: &str =
-    "open cell, measure cell, open folder, measure folder, lock cell, open media, lock media, \
-    measure media, remove root.new, measure media, lengthen media, sync media, sync folder, open root, sync cell";
+    "find cell, open cell, measure cell, find folder, open folder, measure folder, lock cell, \
+    look at root, look at root.new, look at ledger, look at media, open media, measure media, lock media, measure media, \
+    find cell, measure cell, remove root.new, measure media, lengthen media, sync media, sync folder, \
+    find cell, measure cell, look at root, sync cell, find cell, measure cell";
+
+/// The calls of a platform that only looks.
+const VIEWING: &str =
+    "find folder, open folder, measure folder, share the lock on folder, look at root, \
+    find folder, open folder, measure folder, look at media, open media, measure media, share the lock on media, \
+    measure media, measure media";
 
 /// A folder with two pages, the last of them torn, a root record of 5 and a `root.new`.
 fn fresh_folder(rt: &HostRuntime) -> io::Result<()> {
@@ -48,13 +60,14 @@ const CALLS: &str = "\
 append 8: at 2 by seek media, write media
 read 0: 7 7 by seek media, read media
 sync: done by sync data of media
-load: root 5 by open root, measure root, read root
-swap 3: done by remove root.new, make root.new, write root.new, sync root.new, put in place of root, sync folder
-clear: done by remove root.new, remove root, sync folder
-load: empty by open root
-swap 3: done by remove root.new, make root.new, write root.new, sync root.new, put in place of root, sync folder
+load: root 5 by find folder, measure folder, look at root, open root, measure root, measure root, read root
+swap 3: done by find folder, measure folder, remove root.new, find folder, measure folder, make root.new, write root.new, sync root.new, find folder, measure folder, put in place of root, sync folder, find folder, measure folder
+clear: done by find folder, measure folder, remove root.new, find folder, measure folder, remove root, sync folder, find folder, measure folder
+load: empty by find folder, measure folder, look at root
+swap 3: done by find folder, measure folder, remove root.new, find folder, measure folder, make root.new, write root.new, sync root.new, find folder, measure folder, put in place of root, sync folder, find folder, measure folder
 read 0 failing 1: fault by seek media, read media
-load failing 0: fault by open root
+load failing 0: fault by find folder
+load failing 3: fault by find folder, measure folder, look at root, open root
 append 8: at 3 by seek media, write media
 append 8 failing 1: fault by seek media, write media
 append 8: fault by no call
@@ -74,8 +87,8 @@ fn calls_files_in_order(rt: HostRuntime) -> Result<(), Fail> {
 
 /// The same of those that differ with two folders.
 const CALLS_APART: &str = "\
-swap 3: done by remove root.new, make root.new, write root.new, sync root.new, put in place of root, sync cell
-clear: done by remove root.new, remove root, sync cell";
+swap 3: done by find cell, measure cell, remove root.new, find cell, measure cell, make root.new, write root.new, sync root.new, find cell, measure cell, put in place of root, sync cell, find cell, measure cell
+clear: done by find cell, measure cell, remove root.new, find cell, measure cell, remove root, sync cell, find cell, measure cell";
 
 #[test]
 fn calls_two_folders_in_order(rt: HostRuntime) -> Result<(), Fail> {
@@ -83,6 +96,32 @@ fn calls_two_folders_in_order(rt: HostRuntime) -> Result<(), Fail> {
     assert!(rt; are_so(&rt, CELL, APART, OPENING_APART, CALLS_APART)?);
     fs::remove_dir_all(&rt, CELL)?;
     fs::remove_dir_all(&rt, APART)?;
+    Ok(())
+}
+
+/// What each call of a platform answers that only looks, and the calls on files that it makes.
+const LOOKS: &str = "\
+head: 2
+load: root 5 by find folder, measure folder, look at root, open root, measure root, measure root, read root
+read 0: 7 7 by seek media, read media
+read 1: 7 0 by seek media, read media
+read 0 failing 1: fault by seek media, read media
+append 8: fault by no call
+sync: fault by no call
+swap 3: fault by no call
+clear: fault by no call
+read 1: 7 0 by seek media, read media";
+
+#[test]
+fn looks_change_no_file(rt: HostRuntime) -> Result<(), Fail> {
+    fresh_folder(&rt)?;
+    let log = CallLog::new(rt.alloc());
+    let mut platform = view(&rt, &log, FOLDER, FOLDER)?;
+    assert!(rt; log.is(VIEWING));
+    assert_eq!(rt; first_unlike(&mut platform, rt.alloc(), &log, LOOKS), None);
+    let (len, _) = length_and_mode(&rt, "folder_tests_test/media")?;
+    assert!(rt; left(&rt)? == (5, true) && len == 4228);
+    fs::remove_dir_all(&rt, FOLDER)?;
     Ok(())
 }
 
@@ -118,18 +157,30 @@ fn each_failed_call_is_answered(rt: HostRuntime) -> Result<(), Fail> {
     let swap = [
         as_before,
         as_before,
+        as_before,
+        as_before,
+        as_before,
+        as_before,
+        left_behind,
+        left_behind,
         left_behind,
         left_behind,
         left_behind,
         (3, false),
+        (3, false),
+        (3, false),
+    ];
+    let cleared = (0, false);
+    let clear = [
+        as_before, as_before, as_before, as_before, as_before, as_before, cleared, cleared, cleared,
     ];
     let rows: [(&str, &[(u8, bool)]); 6] = [
         ("append 8", &[as_before; 2]),
         ("read 0", &[as_before; 2]),
         ("sync", &[as_before]),
-        ("load", &[as_before; 3]),
+        ("load", &[as_before; 7]),
         ("swap 3", &swap),
-        ("clear", &[as_before, as_before, (0, false)]),
+        ("clear", &clear),
     ];
     for (call, all) in rows {
         for (i, leaves) in all.iter().enumerate() {

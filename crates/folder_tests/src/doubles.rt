@@ -12,7 +12,7 @@ const SHORT: usize = 1000;
 /// A write that begins with this byte takes half of its bytes, and fails.
 pub const TEARING: u8 = 0xEE;
 
-/// A file of this length says that it has a page more than a medium may have.
+/// A file of this length says, once it is locked, that it has a page more than a medium may have.
 pub const ENDLESS: u64 = 13;
 
 /// The calls since it was begun, in words, and which of them fails.
@@ -99,6 +99,8 @@ fn name_of(path: &str) -> &'static str {
         "root"
     } else if path.ends_with("/root.new") {
         "root.new"
+    } else if path.ends_with("/ledger") {
+        "ledger"
     } else if path.ends_with("_cell") {
         "cell"
     } else {
@@ -112,6 +114,7 @@ pub struct LoggedFile<'a> {
     inner: File,
     name: &'static str,
     log: &'a CallLog,
+    is_locked: Cell<bool>,
 }
 
 impl Read for LoggedFile<'_> {
@@ -149,7 +152,7 @@ impl OpenFile for LoggedFile<'_> {
     fn metadata(&self) -> io::Result<Metadata> {
         self.log.call("measure ", self.name)?;
         let metadata = self.inner.metadata()?;
-        if metadata.len() == ENDLESS {
+        if metadata.len() == ENDLESS && self.is_locked.get() {
             return Ok(Metadata::of_file((1 << 32) * 4128 + 1));
         }
         Ok(metadata)
@@ -176,7 +179,14 @@ impl LockFile for LoggedFile<'_> {
 
     fn try_lock(&self) -> io::Result<()> {
         self.log.call("lock ", self.name)?;
+        self.is_locked.set(true);
         LockFile::try_lock(&self.inner)
+    }
+
+    fn try_lock_shared(&self) -> io::Result<()> {
+        self.log.call("share the lock on ", self.name)?;
+        self.is_locked.set(true);
+        LockFile::try_lock_shared(&self.inner)
     }
 }
 
@@ -216,6 +226,7 @@ impl<'a> Files for LoggedFiles<'a> {
             inner,
             name,
             log: self.log,
+            is_locked: Cell::new(false),
         })
     }
 
@@ -223,12 +234,17 @@ impl<'a> Files for LoggedFiles<'a> {
         Err(ErrorKind::Unsupported.into())
     }
 
-    fn metadata(&self, _path: &str) -> io::Result<Metadata> {
-        Err(ErrorKind::Unsupported.into())
+    fn metadata(&self, path: &str) -> io::Result<Metadata> {
+        if path.starts_with('*') {
+            return Err(ErrorKind::OutOfMemory.into());
+        }
+        self.log.call("find ", name_of(path))?;
+        self.inner.metadata(path)
     }
 
-    fn symlink_metadata(&self, _path: &str) -> io::Result<Metadata> {
-        Err(ErrorKind::Unsupported.into())
+    fn symlink_metadata(&self, path: &str) -> io::Result<Metadata> {
+        self.log.call("look at ", name_of(path))?;
+        self.inner.symlink_metadata(path)
     }
 
     fn copy(&self, _from: &str, _to: &str) -> io::Result<u64> {

@@ -1,7 +1,7 @@
 //! Folders that a test makes, and what is left in them.
 use crate::doubles::{CallLog, LoggedFiles};
-use folder_files::{StdFiles, open_in_folders};
-use folder_platform::{FolderPlatform, InFolder, OpenRefusal};
+use folder_files::{LookFiles, StdFiles, open_in_folders, view_in_folders};
+use folder_platform::{FolderPlatform, FolderView, InFolder, OpenRefusal};
 use sdbt_base::ROOT;
 use std::os::unix::fs::PermissionsExt;
 use std::{fs, io};
@@ -62,4 +62,15 @@ pub(crate) fn open<'a>(
 ) -> Result<FolderPlatform<InFolder<StdFiles<LoggedFiles<'a>>>>, OpenRefusal> {
     let inner = rt.clone().map_err(|_| OpenRefusal::Memory)?;
     open_in_folders(LoggedFiles { inner, log }, cell, folder)
+}
+
+/// The same platform, which is only looked at.
+pub(crate) fn view<'a>(
+    rt: &HostRuntime,
+    log: &'a CallLog,
+    cell: &str,
+    folder: &str,
+) -> Result<FolderView<LookFiles<LoggedFiles<'a>>>, OpenRefusal> {
+    let inner = rt.clone().map_err(|_| OpenRefusal::Memory)?;
+    view_in_folders(LoggedFiles { inner, log }, cell, folder)
 }

@@ -5,23 +5,25 @@
 //! a TPM, and `sdbt -` over one in memory.
 #![tactic(auto)]
 
+mod looking;
 mod texts;
 
+use crate::looking::{is_look, look_over};
 use crate::texts::{HELP, NAME, USAGE, VERSION};
 use device_cli::run_main;
-use folder_files::{LockFile, open_in_folders};
+use folder_files::{LockFile, open_in_folders, view_in_folders};
 use folder_objects::{
-    Ended, NotReady, Watched, open_keys, open_ledger, print_texts, reason_of, words_of,
+    Ended, NotReady, open_keys, open_ledger, print_texts, reason_of, tell_open_cell, words_of,
 };
 use key_tape::SeedTape;
 use platform::{MemPlatform, Platform};
-use sdbt_base::{MemSink, ReadSource, WriteSink};
+use sdbt_base::{MemSink, ReadSource, Tape, WriteSink};
 use std::alloc::Global;
 use std::io;
 use std::io::IsTerminal;
 use std::process::ExitCode;
 use std::rt::{Env, Files};
-use tpm_cell::open_in_tpm;
+use tpm_cell::{open_in_tpm, view_in_tpm};
 use tpm_nv::{OnTpm, parse_cell};
 
 /// How many pages the medium in memory can have.
@@ -152,7 +154,7 @@ where
     }
 }
 
-/// Serves the script over folders: see [`run_over`].
+/// Serves the script over folders: see [`run_over`] and [`look_over`].
 fn run_in_folders<R>(
     rt: &R,
     at_terminal: bool,
@@ -164,8 +166,16 @@ where
     R: Files + Alloc<A = Global> + Input + Print + Eprint + Clone + Drop,
     R::File: LockFile,
 {
+    if is_look(words) {
+        let view = view_in_folders(rt.clone()?, cell, folder)?;
+        tell_open_cell(rt, NAME, cell);
+        let (status, _) = look_over(rt, at_terminal, view, words)?;
+        return Ok(status);
+    }
+    let tape = open_keys(rt)?;
     let platform = open_in_folders(rt.clone()?, cell, folder)?;
-    let (status, _) = run_over(rt, at_terminal, platform, folder, words)?;
+    tell_open_cell(rt, NAME, cell);
+    let (status, _) = run_over(rt, platform, tape, folder, words)?;
     Ok(status)
 }
 
@@ -182,28 +192,32 @@ where
     R: Files + Alloc<A = Global> + Input + Print + Eprint + Clone + Drop,
     R::File: LockFile,
 {
+    if is_look(words) {
+        let view = view_in_tpm(rt, on_tpm, folder)?;
+        let (status, view) = look_over(rt, at_terminal, view, words)?;
+        return Ok(Ended::over_index(status, cell, view.into_files().failure()));
+    }
+    let tape = open_keys(rt)?;
     let platform = open_in_tpm(rt, on_tpm, folder)?;
-    let (status, platform) = run_over(rt, at_terminal, platform, folder, words)?;
+    let (status, platform) = run_over(rt, platform, tape, folder, words)?;
     Ok(Ended::over_index(status, cell, platform.into_files().failure()))
 }
 
 /// Serves the script over a platform whose ledger is in `folder`. It is refused before the words are
 /// looked at where a folder, a file in it, an index or the random source can't be made ready. The
 /// platform has its locks from before anything is changed until the run has ended.
-fn run_over<R, P>(
+fn run_over<R, P, T>(
     rt: &R,
-    at_terminal: bool,
-    platform: P,
+    mut platform: P,
+    mut tape: T,
     folder: &str,
     words: &[String],
 ) -> Result<(u8, P), NotReady>
 where
-    R: Files + Alloc<A = Global> + Input + Print + Eprint,
+    R: Files + Alloc<A = Global> + Input + Print,
     P: Platform + Drop,
+    T: Tape + Drop,
 {
-    let is_seizure = words.first().is_some_and(|word| word.as_str() == "seize");
-    let mut platform = Watched::new(platform, rt, NAME, at_terminal && is_seizure);
-    let mut tape = open_keys(rt)?;
     let mut ledger = open_ledger(rt, folder)?;
     let mut input = ReadSource::new(rt.reader());
     let mut output = WriteSink::new(io::writer(rt));
@@ -216,5 +230,5 @@ where
         &mut output,
         &mut ledger,
     );
-    Ok((status, platform.into_inner()))
+    Ok((status, platform))
 }

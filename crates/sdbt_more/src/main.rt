@@ -9,10 +9,12 @@ mod texts;
 
 use crate::texts::{HELP, NAME, USAGE, VERSION};
 use folder_files::{LockFile, open_in_folders};
-use folder_objects::{Ended, NotReady, open_keys, open_ledger, print_texts, reason_of, words_of};
+use folder_objects::{
+    Ended, NotReady, open_keys, open_ledger, print_texts, reason_of, tell_open_cell, words_of,
+};
 use nbd_core::run_nbd;
 use platform::Platform;
-use sdbt_base::{ReadSource, WriteSink};
+use sdbt_base::{ReadSource, Tape, WriteSink};
 use std::alloc::Global;
 use std::io;
 use std::process::ExitCode;
@@ -193,8 +195,10 @@ where
     R: Files + Alloc<A = Global> + Input + Print + Eprint + Clone + Drop,
     R::File: LockFile,
 {
+    let tape = open_keys(rt)?;
     let platform = open_in_folders(rt.clone()?, cell, folder)?;
-    let (status, _) = run_over(rt, server, platform, folder, words)?;
+    tell_open_cell(rt, NAME, cell);
+    let (status, _) = run_over(rt, server, platform, tape, folder, words)?;
     Ok(status)
 }
 
@@ -211,26 +215,28 @@ where
     R: Files + Alloc<A = Global> + Input + Print + Eprint + Clone + Drop,
     R::File: LockFile,
 {
+    let tape = open_keys(rt)?;
     let platform = open_in_tpm(rt, on_tpm, folder)?;
-    let (status, platform) = run_over(rt, server, platform, folder, words)?;
+    let (status, platform) = run_over(rt, server, platform, tape, folder, words)?;
     Ok(Ended::over_index(status, cell, platform.into_files().failure()))
 }
 
 /// Serves over a platform whose ledger is in `folder`. It is refused before the words behind are looked
 /// at where a folder, a file in it, an index or the random source can't be made ready. The platform has
 /// its locks from before anything is changed until the run has ended.
-fn run_over<R, P>(
+fn run_over<R, P, T>(
     rt: &R,
     server: Server,
     mut platform: P,
+    mut tape: T,
     folder: &str,
     words: &[String],
 ) -> Result<(u8, P), NotReady>
 where
     R: Files + Alloc<A = Global> + Input + Print,
     P: Platform + Drop,
+    T: Tape + Drop,
 {
-    let mut tape = open_keys(rt)?;
     let mut ledger = open_ledger(rt, folder)?;
     let mut input = ReadSource::new(rt.reader());
     let mut output = WriteSink::new(io::writer(rt));

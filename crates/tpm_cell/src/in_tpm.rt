@@ -145,8 +145,8 @@ impl<R: Files, T: TpmCalls + Drop> CellCalls for InTpm<R, T> {
     }
 }
 
-// A call on the cell failed, and why is kept.
-fn failed<V>(failure: &mut Option<TpmFault>, fault: TpmFault) -> io::Result<V>
+/// A call on the cell failed, and why is kept.
+pub(crate) fn failed<V>(failure: &mut Option<TpmFault>, fault: TpmFault) -> io::Result<V>
     ensures { IsErr result }
 {
     *failure = Some(fault);

@@ -6,6 +6,7 @@
 
 mod faults;
 mod in_tpm;
+mod look_in_tpm;
 mod opening;
 mod std_tpm;
 mod tpm_calls;
@@ -13,7 +14,8 @@ mod tpm_cell;
 
 pub use faults::{CellRefusal, TpmFault};
 pub use in_tpm::InTpm;
-pub use opening::{TPM_DEVICE, TpmNotReady, open_in_tpm};
+pub use look_in_tpm::LookInTpm;
+pub use opening::{TPM_DEVICE, TpmNotReady, open_in_tpm, view_in_tpm};
 pub use std_tpm::{StdTpm, open_tpm};
 pub use tpm_calls::TpmCalls;
 pub use tpm_cell::TpmCell;

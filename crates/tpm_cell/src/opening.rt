@@ -3,9 +3,9 @@ ghost use Rattle.std.specs.Prelude.{◌≡◌, false, IfOk, IfErr};
 ghost use Rattle.tpm_cell.specs.Opening.{ShowsFolderCause};
 ghost use Rattle.tpm_cell.specs.declared.opening.TpmNotReady.TheVariants.{Cell, Folder};
 
-use crate::{CellRefusal, InTpm, StdTpm, TpmCell, open_tpm};
-use folder_files::{LockFile, pages_in_folder};
-use folder_platform::{FolderPlatform, OpenRefusal};
+use crate::{CellRefusal, InTpm, LookInTpm, StdTpm, TpmCell, open_tpm};
+use folder_files::{LockFile, look_at_pages, pages_in_folder};
+use folder_platform::{FolderPlatform, FolderView, OpenRefusal};
 use platform::Platform;
 use std::rt::Files;
 use tpm_nv::OnTpm;
@@ -58,4 +58,22 @@ where
     let cell = TpmCell::open(tpm, cell.index)?;
     let pages = pages_in_folder(rt, folder)?;
     Ok(FolderPlatform::open(InTpm::new(pages, cell))?)
+}
+
+/// The same platform, which is only looked at: nothing is written to the index, and nothing is changed in the folder. As long as it is
+/// there, it has the shared lock on `media`, if that is there.
+pub fn view_in_tpm<R: Files + Alloc + Clone + Drop>(
+    rt: &R,
+    cell: &OnTpm<'_>,
+    folder: &str,
+) -> Result<FolderView<LookInTpm<R, StdTpm<R::File>>>, TpmNotReady>
+where
+    R::File: LockFile,
+    ensures faults { IfOk result (λ view. ⟦<FolderView<LookInTpm<R, StdTpm<R::File>>> as Platform>⟧.faults view ≡ 0) }
+    ensures cause { IfErr result (ShowsFolderCause ((held : R.File) × R.File.is_held held)) }
+{
+    let tpm = open_tpm(rt, cell.device.unwrap_or(TPM_DEVICE))?;
+    let cell = TpmCell::open(tpm, cell.index)?;
+    let pages = look_at_pages(rt, folder)?;
+    Ok(FolderView::open(LookInTpm::new(pages, cell))?)
 }

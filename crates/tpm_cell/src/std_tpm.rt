@@ -3,7 +3,7 @@ ghost use Rattle.std.specs.Prelude.{◌≡◌, ◌≤◌, length, take, IfOk};
 ghost use Rattle.std.specs.Io.KnownBytes.{Consumes};
 
 use crate::{CellRefusal, TpmCalls};
-use std::fs::{OpenFile, OpenOptions};
+use std::fs::{self, Metadata, OpenFile, OpenOptions};
 use std::io::{self, ErrorKind, Read, Write};
 use std::os::unix::fs::FileTypeExt;
 use std::rt::Files;
@@ -19,16 +19,24 @@ pub struct StdTpm<F: Read + Write + Drop> {
 
 /// The TPM behind the character device of this name. Nothing is sent.
 pub fn open_tpm<R: Files>(files: &R, device: &str) -> Result<StdTpm<R::File>, CellRefusal> {
+    of_characters(fs::metadata(files, device))?;
     let opened = OpenOptions::new()
         .read(true)
         .write(true)
         .open(files, device);
     let file = opened.map_err(CellRefusal::Io)?;
-    let metadata = file.metadata().map_err(CellRefusal::Io)?;
+    of_characters(file.metadata())?;
+    Ok(StdTpm { file })
+}
+
+// What was said of a file says that it is a character device. It is asked before that is opened too, since a FIFO would be
+// waited for.
+fn of_characters(metadata: io::Result<Metadata>) -> Result<(), CellRefusal> {
+    let metadata = metadata.map_err(CellRefusal::Io)?;
     if !metadata.file_type().is_char_device() {
         return Err(CellRefusal::NoDevice);
     }
-    Ok(StdTpm { file })
+    Ok(())
 }
 
 impl<F: Read + Write + Drop> TpmCalls for StdTpm<F> {

@@ -1,0 +1,80 @@
+//! A device whose root record is in a TPM, and that is only looked at.
+ghost use Rattle.std.specs.Prelude.{◌≡◌, ℕ, List, Option, Some, None, if◌then◌else◌, length, IfOk};
+ghost use Rattle.folder_platform.specs.Sequences.{NotesCell};
+ghost use Rattle.tpm_cell.specs.Asking.{IsInCell, Reads};
+
+use crate::in_tpm::failed;
+use crate::{TpmCalls, TpmCell, TpmFault};
+use folder_files::LookPages;
+use folder_platform::{FileCall, LookCalls};
+use sdbt_base::{RECORD, ROOT};
+use std::io;
+use std::rt::Files;
+
+/// The pages of a folder, and a cell in place: an index of a TPM. Both are only read.
+#[derive(Drop)]
+pub struct LookInTpm<R: Files, T: TpmCalls + Drop> {
+    pages: LookPages<R>,
+    cell: TpmCell<T>,
+    failure: Option<TpmFault>,
+}
+
+impl<R: Files, T: TpmCalls + Drop> LookInTpm<R, T> {
+    /// These pages, with this cell.
+    pub fn new(pages: LookPages<R>, cell: TpmCell<T>) -> LookInTpm<R, T>
+        ensures { result.pages ≡ pages }
+    {
+        LookInTpm {
+            pages,
+            cell,
+            failure: None,
+        }
+    }
+
+    /// Why the last call on the cell failed that did.
+    pub fn failure(&self) -> Option<TpmFault> {
+        self.failure
+    }
+}
+
+impl<R: Files, T: TpmCalls + Drop> LookCalls for LookInTpm<R, T> {
+    ghost use Rattle.folder_files.specs.Found.{nothing, nothing-files};
+
+    ghost start = { λ _. nothing };
+
+    ghost events = { λ it. it.pages.calls.events };
+
+    ghost occurs = { λ _ _. Unit {0} };
+
+    ghost are_files = { λ _. nothing-files };
+
+    ghost occurred = { λ _. tt };
+
+    fn look_for_pages(&mut self) -> io::Result<u64> {
+        self.pages.look_for_pages()
+    }
+
+    fn look_at_page(&mut self, addr: u64, into: &mut [u8]) -> io::Result<()> {
+        self.pages.look_at_page(addr, into)
+    }
+
+    fn look_at_cell(&mut self, into: &mut [u8]) -> io::Result<bool>
+        requires { length into.old ≡ ROOT }
+        ensures noted { NotesCell result into.new (self.old.pages.calls.events) (self.new.pages.calls.events) }
+        // What is noted is what the index holds.
+        ensures loaded { IfOk result (λ full. (held : Option (List ℕ)) × Reads T.TpmCalls.asks self.old.cell.index held self.old.cell.tpm self.new.cell.tpm
+            × IsInCell held (if full then Some into.new else None)) }
+    {
+        match self.cell.load(into) {
+            Ok(true) => {
+                self.pages.note(FileCall::ReadRoot, 1, into);
+                Ok(true)
+            }
+            Ok(false) => {
+                self.pages.note(FileCall::ReadRoot, 0, &[]);
+                Ok(false)
+            }
+            Err(fault) => failed(&mut self.failure, fault),
+        }
+    }
+}
