@@ -9,6 +9,17 @@ _sdbt_folders() {
     compopt -o filenames 2>/dev/null
 }
 
+# The files of root records behind the word seize: @FILE.
+_sdbt_records() {
+    local file
+    if [ "$1" = seize ] && [ "${2#@}" != "$2" ]; then
+        while IFS= read -r file; do
+            COMPREPLY+=("@$file")
+        done < <(compgen -f -- "${2#@}")
+        compopt -o nospace 2>/dev/null
+    fi
+}
+
 _sdbt() {
     local word=${COMP_WORDS[COMP_CWORD]} place=$COMP_CWORD first=${COMP_WORDS[1]}
     COMPREPLY=()
@@ -22,6 +33,7 @@ _sdbt() {
             ;;
         3) _sdbt_folders "$word" ;;
         4) COMPREPLY=($(compgen -W 'run check seize work' -- "$word")) ;;
+        *) _sdbt_records "${COMP_WORDS[4]}" "$word" ;;
         esac
         return
     fi
@@ -36,6 +48,7 @@ _sdbt() {
         *) COMPREPLY=($(compgen -W 'run check seize work' -- "$word")) ;;
         esac
         ;;
+    *) _sdbt_records "${COMP_WORDS[2]}" "$word" ;;
     esac
 }
 

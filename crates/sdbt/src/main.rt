@@ -17,6 +17,7 @@ use folder_objects::{
 };
 use key_tape::SeedTape;
 use platform::{MemPlatform, Platform};
+use root_words::{NoRecord, NotSpelled, is_seizure, spelled_words};
 use sdbt_base::{MemSink, ReadSource, Tape, WriteSink};
 use std::alloc::Global;
 use std::io;
@@ -29,6 +30,9 @@ use tpm_nv::{OnTpm, parse_cell};
 /// How many pages the medium in memory can have.
 const PAGES: u64 = 262_144;
 
+/// The exit status where a file of a root record can't be read, or a folder not be made ready.
+const NOT_READY: u8 = 1;
+
 /// The exit status of a faulty command line.
 const FAULTY: u8 = 2;
 
@@ -37,6 +41,17 @@ const OUTPUT_FAULT: u8 = 4;
 
 /// The exit status where memory was refused.
 const NO_MEMORY: u8 = 11;
+
+/// Where a device is, as the command line names it.
+#[derive(Clone, Copy)]
+enum Device<'a> {
+    /// In memory, and gone when the program ends.
+    InMemory,
+    /// All of it in this folder.
+    InFolder(&'a str),
+    /// Its root record in what `cell` names, and its medium and ledger in `folder`.
+    Apart { cell: &'a str, folder: &'a str },
+}
 
 fn main(rt: HostRuntime) -> ExitCode {
     let words = match words_of(&rt) {
@@ -70,19 +85,74 @@ where
     R::File: LockFile,
 {
     match words {
-        [] => serve_memory(rt, &[]).into(),
+        [] => serve_device(rt, at_terminal, Device::InMemory, &[]),
         [first, others @ ..] => match first.as_str() {
-            "-" => serve_memory(rt, others).into(),
+            "-" => serve_device(rt, at_terminal, Device::InMemory, others),
             "-h" | "--help" => print(rt, &[USAGE, HELP]).into(),
             "--version" => print(rt, &[VERSION]).into(),
             "--root" => match others {
                 [cell, folder, others @ ..] if folder.as_str() != "-" => {
-                    serve_apart(rt, at_terminal, cell.as_str(), folder.as_str(), others)
+                    let (cell, folder) = (cell.as_str(), folder.as_str());
+                    serve_device(rt, at_terminal, Device::Apart { cell, folder }, others)
                 }
                 _ => FAULTY.into(),
             },
-            folder => serve_folders(rt, at_terminal, folder, folder, others).into(),
+            folder => serve_device(rt, at_terminal, Device::InFolder(folder), others),
         },
+    }
+}
+
+/// Serves a device with the words behind it. Where they ask for a seizure, the files of root records that they name are
+/// read before any folder is opened.
+fn serve_device<'a, R>(
+    rt: &R,
+    at_terminal: bool,
+    device: Device<'a>,
+    words: &'a [String],
+) -> Ended<'a>
+where
+    R: Files + Alloc<A = Global> + Input + Print + Eprint + Clone + Drop,
+    R::File: LockFile,
+{
+    if !is_seizure(words) {
+        return serve_spelled(rt, at_terminal, device, words);
+    }
+    match spelled_words(rt, words) {
+        Ok(words) => serve_spelled(rt, at_terminal, device, words.as_slice()),
+        Err(refusal) => not_spelled(rt, &refusal).into(),
+    }
+}
+
+/// The exit status where a file of a root record was refused, which standard error names.
+fn not_spelled(rt: &impl Eprint, refusal: &NotSpelled<'_>) -> u8 {
+    match refusal {
+        NotSpelled::Memory => NO_MEMORY,
+        NotSpelled::File {
+            why: NoRecord::Io(error),
+            ..
+        } if error.kind() == io::ErrorKind::OutOfMemory => NO_MEMORY,
+        NotSpelled::File { name, why } => {
+            let _ = eprintln!(rt; "{NAME}: {name}: {why}");
+            NOT_READY
+        }
+    }
+}
+
+/// Serves a device with the words behind it, of which none names a file.
+fn serve_spelled<'a, R>(
+    rt: &R,
+    at_terminal: bool,
+    device: Device<'a>,
+    words: &[String],
+) -> Ended<'a>
+where
+    R: Files + Alloc<A = Global> + Input + Print + Eprint + Clone + Drop,
+    R::File: LockFile,
+{
+    match device {
+        Device::InMemory => serve_memory(rt, words).into(),
+        Device::InFolder(folder) => serve_folders(rt, at_terminal, folder, folder, words).into(),
+        Device::Apart { cell, folder } => serve_apart(rt, at_terminal, cell, folder, words),
     }
 }
 

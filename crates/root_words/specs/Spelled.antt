@@ -1,0 +1,24 @@
+-- Words of a command line, and what is handed on in their place.
+use Rattle.std.specs.Prelude.{◌≡◌, ℕ, List, [], ◌∷◌, codes, length, Ok}
+use Rattle.hex.specs.Hex.{decode_of}
+
+-- the first of the words is `seize`
+abbrev pub IsSeizure : List (List ℕ) → Type 0
+IsSeizure [] = ⊥
+IsSeizure (word ∷ words) = word ≡ codes "seize"
+
+-- the word names a file: it begins with an @
+abbrev pub NamesFile : List ℕ → Type 0
+NamesFile [] = ⊥
+NamesFile (first ∷ name) = first ≡ 64
+
+-- the hex digits of 128 bytes
+pub record IsRecordInHex (digits : List ℕ) : Type 0 where
+  pub bytes : List ℕ
+  pub size : length bytes ≡ 128
+  pub decoded : decode_of digits ≡ Ok bytes
+
+-- a root record in the place of a word that names a file, and every other word as it was
+pub record IsSpelled (word spelled : List ℕ) : Type 0 where
+  pub read : NamesFile word → IsRecordInHex spelled
+  pub kept : (NamesFile word → ⊥) → spelled ≡ word
