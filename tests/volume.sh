@@ -87,20 +87,21 @@ kill_brick() {
 
 # start_bricks: starts those that were ended, and waits until each of the three has all
 start_bricks() {
-    volume start device force >/dev/null
     until_done 60 is_healed
 }
 
-# is_healed: whether no brick lacks anything, and all are there
+# is_healed: whether no brick lacks anything, and all are there. It starts those that are not, since
+# one that has just been killed may count as running for a moment, and asks for the healing.
 is_healed() {
-    volume heal device >/dev/null 2>&1
+    volume start device force
+    volume heal device
     test "$(volume heal device info | grep -c '^Number of entries: 0$')" = 3
 }
 
 # stop_volume: unmounts the volume, and ends what serves it
 stop_volume() {
     for folder in one two; do
-        ! mountpoint -q "$work/$folder" || umount "$work/$folder" || umount -l "$work/$folder"
+        ! grep -q " $work/$folder " /proc/mounts || umount "$work/$folder" || umount -l "$work/$folder"
     done
     if [ -f "$gluster_state/glusterd.pid" ]; then
         volume stop device force >/dev/null 2>&1
