@@ -22,7 +22,7 @@ use Rattle.nbd_core.specs.Exchanges.{Exchange, sent_of, told_of}
 use Rattle.nbd_core.specs.Room.{Room, Came, IsShorter}
 use Rattle.nbd_core.specs.Requests.{AwaitsRequest, IsBrokenRequest, DataEnd}
 use Rattle.nbd_core.specs.Short.{AreShort, Spends, updates_in}
-use Rattle.nbd_core.specs.Turns.{Turns, Halts, IsOfCommit, OnArray}
+use Rattle.nbd_core.specs.Turns.{Turns, Halts, BeginsWith, DrawsKeys, IsOfCommit, MayHalt, OnArray}
 use Rattle.nbd_core.specs.declared.stop.Stop.TheVariants as stops
 use Rattle.nbd_core.specs.declared.halts.Halt.{Halt}
 use Rattle.nbd_core.specs.declared.halts.Halt.TheVariants as halts
@@ -49,7 +49,8 @@ AnswerEnd tells before after session size request left gone ahead written writte
     (length gone ≡ bytes_behind request.kind request.length) × (reply : Reply) × IsReplyTo size request reply × GotPart written (reply_bytes reply) written_now
     × Turns tells before after session None (record { head = request; bytes = gone }) reply × (tells → IsDamage after.history.present reply.outcome)
 AnswerEnd tells before after session size request left gone ahead written written_now (Err halt) =
-    (written_now ≡ written) × DataEnd left (bytes_behind request.kind request.length) (gone ++ ahead) halt × Halts tells before after session request.kind halt
+    (written_now ≡ written) × DataEnd left (bytes_behind request.kind request.length) (gone ++ ahead) halt × MayHalt request.kind (refusal size request) halt
+    × Halts tells before after session request.kind halt
 
 pub record Answered (tells : Type 0) (before after : Outside) (session : Session) (size : ℕ) (request : Request) (left left_now : Option (List ℕ)) (old new : Room) (written written_now : Option (List ℕ)) (result : Result Session Halt) : Type 0 where
   pub gone : List ℕ
@@ -85,7 +86,7 @@ pub record IsCutOff (size : ℕ) (rest ahead part : List ℕ) : Type 0 where
   pub put : part ≡ take count (replied_bytes exchange)
 
 -- how requests ended, all of which have their reply: with a rest behind them, and a part of one reply
--- more
+-- more. Where the device halted the run, the rest begins with a request that may do so
 abbrev pub ServedEnd : ℕ → List ℕ → List ℕ → Option (List ℕ) → List ℕ → Result (Unit {0}) Halt → Type 0
 ServedEnd size rest part left ahead (Ok done) = (part ≡ []) × (((rest ≡ []) × IsAtEnd left) ⊎ IsGoodbye rest ahead)
 ServedEnd size rest part left ahead (Err halts.Unfinished) = (part ≡ []) × IsGoodbye rest ahead
@@ -93,10 +94,10 @@ ServedEnd size rest part left ahead (Err (halts.Client stops.Source)) = (part �
 ServedEnd size rest part left ahead (Err (halts.Client stops.Limit)) = (part ≡ []) × AwaitsRequest rest
 ServedEnd size rest part left ahead (Err (halts.Client stops.Broken)) = (part ≡ []) × IsBrokenRequest left rest
 ServedEnd size rest part left ahead (Err (halts.Client stops.Sink)) = IsCutOff size rest ahead part
-ServedEnd size rest part left ahead (Err halts.Platform) = part ≡ []
-ServedEnd size rest part left ahead (Err halts.Tape) = part ≡ []
-ServedEnd size rest part left ahead (Err halts.Ledger) = part ≡ []
-ServedEnd size rest part left ahead (Err halts.Memory) = part ≡ []
+ServedEnd size rest part left ahead (Err halts.Platform) = (part ≡ []) × BeginsWith size (λ kind. Unit {0}) rest
+ServedEnd size rest part left ahead (Err halts.Tape) = (part ≡ []) × BeginsWith size DrawsKeys rest
+ServedEnd size rest part left ahead (Err halts.Ledger) = (part ≡ []) × BeginsWith size IsOfCommit rest
+ServedEnd size rest part left ahead (Err halts.Memory) = (part ≡ []) × BeginsWith size IsOfCommit rest
 ServedEnd size rest part left ahead (Err halts.BadRoot) = ⊥
 ServedEnd size rest part left ahead (Err halts.NoDevice) = ⊥
 

@@ -1,5 +1,5 @@
 -- What requests make of a session's array, and of the device below it.
-use Rattle.std.specs.Prelude.{◌≡◌, ◌⊎◌, ◌-◌, ℕ, List, [], ◌∷◌, Option, Some, Result, Ok, Err, IfOk, IfSome}
+use Rattle.std.specs.Prelude.{◌≡◌, ◌⊎◌, ◌-◌, ℕ, List, [], ◌∷◌, ◌++◌, Option, None, Some, Result, Ok, Err, IfOk, IfSome}
 use Rattle.sdbt_base.specs.Arrays.{session_on}
 use Rattle.platform.specs.declared.platforms.Platform.{Ghosts as PlatformGhosts}
 use Rattle.platform.specs.History.{History}
@@ -9,7 +9,9 @@ use Rattle.device_course.specs.Course.{MadeBetween}
 use Rattle.device_course.specs.States.{Outside}
 use Rattle.device_session.specs.Sessions.{Session}
 use Rattle.nbd_lang.specs.Replies.{Reply}
-use Rattle.nbd_lang.specs.Requests.{RequestSent}
+use Rattle.nbd_lang.specs.Requests.{RequestSent, request_head}
+use Rattle.nbd_lang.specs.declared.requests.Request.{Request}
+use Rattle.nbd_lang.specs.Refusals.{refusal}
 use Rattle.nbd_lang.specs.declared.replies.Outcome.{Outcome}
 use Rattle.nbd_lang.specs.declared.requests.RequestKind.{RequestKind}
 use Rattle.nbd_lang.specs.declared.requests.RequestKind.TheVariants as kinds
@@ -44,6 +46,37 @@ IsOfCommit kinds.Read = ⊥
 IsOfCommit kinds.Write = ⊥
 IsOfCommit kinds.Trim = ⊥
 IsOfCommit (kinds.Other number) = ⊥
+
+-- requests for which keys are drawn
+abbrev pub DrawsKeys : RequestKind → Type 0
+DrawsKeys kinds.Write = Unit {0}
+DrawsKeys kinds.Flush = Unit {0}
+DrawsKeys kinds.Disconnect = Unit {0}
+DrawsKeys kinds.Read = ⊥
+DrawsKeys kinds.Trim = ⊥
+DrawsKeys (kinds.Other number) = ⊥
+
+-- which request may halt a run where its client isn't to blame: one that its head doesn't refuse; at a
+-- fault of the tape one for which keys are drawn; and at one of the ledger, or for want of memory, one
+-- that makes a commit: to each other one want of memory is a reply
+abbrev pub MayHalt : RequestKind → Option Outcome → Halt → Type 0
+MayHalt kind refused halts.Platform = refused ≡ None
+MayHalt kind refused halts.Tape = (refused ≡ None) × DrawsKeys kind
+MayHalt kind refused halts.Ledger = (refused ≡ None) × IsOfCommit kind
+MayHalt kind refused halts.Memory = (refused ≡ None) × IsOfCommit kind
+MayHalt kind refused (halts.Client stop) = Unit {0}
+MayHalt kind refused halts.BadRoot = ⊥
+MayHalt kind refused halts.NoDevice = ⊥
+MayHalt kind refused halts.Unfinished = ⊥
+
+-- what a request comes to that its head may refuse: then that
+abbrev pub IsByHead : RequestKind → Option Outcome → Result Outcome Halt → Type 0
+IsByHead kind refused (Ok outcome) = IfSome refused (λ why. outcome ≡ why)
+IsByHead kind refused (Err halt) = MayHalt kind refused halt
+
+-- these bytes begin with a request that its head doesn't refuse, of such a kind
+abbrev pub BeginsWith : ℕ → (RequestKind → Type 0) → List ℕ → Type 0
+BeginsWith size Is bytes = (request : Request) × (more : List ℕ) × (refusal size request ≡ None) × Is request.kind × (bytes ≡ request_head request ++ more)
 
 -- what a request led to that halted the run: nothing; or, where the platform failed in a commit, it may
 -- be the commit's state. Where too few pages are free for the commit of a disconnect, they are

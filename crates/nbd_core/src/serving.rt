@@ -18,7 +18,7 @@ ghost use Rattle.nbd_terms.specs.Turn.{Answers};
 ghost use Rattle.nbd_core.specs.Halts.{Blames, commit_outcome};
 ghost use Rattle.nbd_core.specs.Requests.{DataCame, DataEnd, HeadCame};
 ghost use Rattle.nbd_core.specs.Served.{Answered, EndsByDisconnect, Served};
-ghost use Rattle.nbd_core.specs.Turns.{Finishes, Flushed, IsFrom, LeadsOn, Performs};
+ghost use Rattle.nbd_core.specs.Turns.{Finishes, Flushed, IsByHead, IsFrom, LeadsOn, MayHalt, Performs};
 ghost use Rattle.session_calls.specs.Blame.{counts_of};
 ghost use Rattle.session_calls.specs.Carrying.{Carries, IsReady};
 ghost use Rattle.nbd_core.specs.Serving.{goes_on, performed, bytes_of_reply};
@@ -222,6 +222,7 @@ fn perform<P: Platform, T: Tape, I: Source, L: Sink>(
         → 16 + request.now.length ≤ length desk.new.reply.items) }
     ensures refused { IfOk result (λ done. IfSome (refusal (4096 * blocks_of first) request.now)
         (λ why. done.outcome ≡ why)) }
+    ensures halted { IfErr result (MayHalt request.now.kind (refusal (4096 * blocks_of first) request.now)) }
     ensures damage { P.tells → IfOk result
         (λ done. IsDamage (P.history platform.new).present done.outcome) }
     ensures spends { (n : ℕ) → needed_by first ≤ 41 * n → IfOk result
@@ -285,7 +286,7 @@ fn serve_blocks<P: Platform, T: Tape, I: Source>(
         result) result }
     ensures room { IfOk result (λ outcome. request.now.kind ≡ RequestKind.Read → outcome ≡ Outcome.Done
         → 16 + request.now.length ≤ length desk.new.reply.items) }
-    ensures refused { IfOk result (λ outcome. IfSome refused (λ why. outcome ≡ why)) }
+    ensures refused { IsByHead request.now.kind refused result }
     ensures damage { P.tells → IsMounted (P.history platform.old).present session.old
         → TellsDamage (P.history platform.new).present result }
     ensures short { IfOk result (λ outcome. refused ≡ None → request.now.kind ≡ RequestKind.Write

@@ -7,6 +7,7 @@ use Rattle.nbd_core.proofs.ShortLaws.{cost_is, read_short, refused_short, trim_s
 use Rattle.nbd_lang.specs.Requests.{bytes_behind}
 use Rattle.session_calls.specs.Along.{drawn_by}
 use Rattle.session_calls.proofs.AlongLaws.{along_start}
+use Rattle.nbd_core.proofs.BlameLaws.{by_head_platform, by_head_refused, by_head_write, platform_ends}
 use Rattle.nbd_core.proofs.DamageLaws.{refused_sound}
 use Rattle.nbd_core.proofs.DataLaws.{data_did, no_data}
 use Rattle.nbd_core.proofs.TurnLaws.{answers_read, answers_refused, answers_trim, answers_write, leads_as, leads_idle}
@@ -26,7 +27,7 @@ returns-in-Read-clause-blame g c rest = c.read.ensures.blame (record rest { tape
 
 pub returns-in-Read-clause-bytes : goal.returns-in-Read-clause-bytes
 returns-in-Read-clause-bytes g c =
-    no_data (g.I.Source.left c.args.input.now) c.args.intake.now _ _ c.read.result (ap (λ k. bytes_behind k c.args.request.now.length) c.in-Read.is) (c.read.ensures.halts (g.I.Source.left c.args.input.now) c.args.intake.now.ahead)
+    no_data (g.I.Source.left c.args.input.now) c.args.intake.now _ _ c.read.result (ap (λ k. bytes_behind k c.args.request.now.length) c.in-Read.is) (platform_ends c.read.result (g.I.Source.left c.args.input.now) c.args.intake.now.ahead c.read.ensures.halts)
     (leads_as g.P.Platform _ _ _ _ _ _ _ (λ outcome entry next is. answers_read _ entry next c.args.request.now _ outcome [] _ c.in-Read.is c.in_default.is is) c.read.ensures.leads)
 
 pub returns-in-Trim-clause-along : goal.returns-in-Trim-clause-along
@@ -56,7 +57,7 @@ returns-in-Trim-clause-blame g c rest = c.trim.ensures.blame (record rest { tape
 
 pub returns-in-Trim-clause-bytes : goal.returns-in-Trim-clause-bytes
 returns-in-Trim-clause-bytes g c =
-    no_data (g.I.Source.left c.args.input.now) c.args.intake.now _ _ c.trim.result (ap (λ k. bytes_behind k c.args.request.now.length) c.in-Trim.is) (c.trim.ensures.halts (g.I.Source.left c.args.input.now) c.args.intake.now.ahead)
+    no_data (g.I.Source.left c.args.input.now) c.args.intake.now _ _ c.trim.result (ap (λ k. bytes_behind k c.args.request.now.length) c.in-Trim.is) (platform_ends c.trim.result (g.I.Source.left c.args.input.now) c.args.intake.now.ahead c.trim.ensures.halts)
     (leads_as g.P.Platform _ _ _ _ _ _ _ (λ outcome entry next is. answers_trim _ entry next c.args.request.now _ outcome [] _ c.in-Trim.is c.in_default.is is) c.trim.ensures.leads)
 
 pub returns-in-Some-clause-bytes : goal.returns-in-Some-clause-bytes
@@ -73,3 +74,15 @@ returns-in-Write-clause-bytes g c =
 
 pub returns-in-Some-clause-damage : goal.returns-in-Some-clause-damage
 returns-in-Some-clause-damage g c told mounted = refused_sound _ _ c.args.request.now _ c.in-Some.outcome _ c.requires.refusal c.in-Some.is c.let_go.ensures.outcome
+
+pub returns-in-Some-clause-refused : goal.returns-in-Some-clause-refused
+returns-in-Some-clause-refused g c = by_head_refused c.args.request.now.kind c.args.refused c.in-Some.outcome c.let_go.result c.in-Some.is c.let_go.ensures.outcome (c.let_go.ensures.halted c.args.request.now.kind c.args.refused)
+
+pub returns-in-Read-clause-refused : goal.returns-in-Read-clause-refused
+returns-in-Read-clause-refused g c = by_head_platform c.args.request.now.kind c.args.refused c.read.result c.in_default.is c.read.ensures.halts
+
+pub returns-in-Trim-clause-refused : goal.returns-in-Trim-clause-refused
+returns-in-Trim-clause-refused g c = by_head_platform c.args.request.now.kind c.args.refused c.trim.result c.in_default.is c.trim.ensures.halts
+
+pub returns-in-Write-clause-refused : goal.returns-in-Write-clause-refused
+returns-in-Write-clause-refused g c = by_head_write c.args.request.now.kind c.args.refused c.write.result c.in-Write.is c.in_default.is c.write.ensures.halted

@@ -12,7 +12,7 @@ use Rattle.nbd_core.proofs.ArrayLaws.{trim_halted, trim_step, trimmed_some}
 use Rattle.session_calls.proofs.DamageLaws.{trim_meets}
 use Rattle.nbd_core.proofs.DamageLaws.{damage_after, done_sound}
 use Rattle.nbd_core.proofs.TurnLaws.{trims_lead}
-use Rattle.nbd_core.proofs.BlameLaws.{blame_done, blame_platform, blame_then, stop_halts}
+use Rattle.nbd_core.proofs.BlameLaws.{blame_done, blame_platform, blame_then, platform_halts}
 use Rattle.session_calls.proofs.CallLaws.{along_more, draws_none, no_draw, platform_quiet}
 use Rattle.nbd_core.proofs.trimming.trim.Goals as goal
 
@@ -65,7 +65,9 @@ returns-in-Err-clause-blame g c rest =
     blame_then _ _ _ _ (ap (λ (n : ℕ). record rest { platform = n }) c.loop-block.invariant.quiet) (blame_platform rest _ _ c.in-Err.stop _ goes.along.fell.platform goes.stops goes.cause c.after_stop.ensures)
 
 pub returns-in-Err-clause-halts : goal.returns-in-Err-clause-halts
-returns-in-Err-clause-halts g c left came = stop_halts c.in-Err.stop _ left came (c.in-Err.ensures.goes no_draw).stops c.after_stop.ensures
+returns-in-Err-clause-halts g c =
+    let goes = c.in-Err.ensures.goes no_draw in
+    platform_halts _ _ c.in-Err.stop _ goes.stops goes.cause c.after_stop.ensures
 
 pub returns-in-Err-clause-leads : goal.returns-in-Err-clause-leads
 returns-in-Err-clause-leads g c =

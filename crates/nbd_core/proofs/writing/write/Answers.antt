@@ -1,6 +1,7 @@
-use Rattle.std.proofs.Common.{ap, refl, length, arith, ◌-◌}
+use Rattle.std.proofs.Common.{None, ap, refl, length, arith, ◌-◌}
 use Rattle.byte_arrays.specs.Ranges.{touched_blocks}
 use Rattle.byte_arrays.proofs.RangeLaws.{length-blocks_from}
+use Rattle.nbd_lang.specs.declared.requests.RequestKind.TheVariants.{Write}
 use Rattle.session_calls.specs.Along.{drawn_by}
 use Rattle.session_calls.proofs.AlongLaws.{along_start}
 use Rattle.session_calls.proofs.CallLaws.{along_more}
@@ -53,3 +54,6 @@ returns-then-blocks-capacity-clause-short g c =
 
 pub returns-clause-short : goal.returns-clause-short
 returns-clause-short g c = never_short _ c.write_range.result c.write_range.ensures.room
+
+pub returns-then-blocks-capacity-clause-halted : goal.returns-then-blocks-capacity-clause-halted
+returns-then-blocks-capacity-clause-halted g c = c.let_go.ensures.halted Write None
