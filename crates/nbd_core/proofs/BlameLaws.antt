@@ -13,10 +13,13 @@ use Rattle.sdbt_base.specs.Counts.{Counts, NoneFell, OutputRose, counts}
 use Rattle.session_calls.specs.Blame.{HasCause, IsOfCall}
 use Rattle.session_calls.specs.declared.stops.DeviceStop.{DeviceStop}
 use Rattle.session_calls.specs.declared.stops.DeviceStop.TheVariants as device
-use Rattle.nbd_core.specs.Halts.{Blames, IsDueTo, OfCommit, commit_halt, outcome_after}
+use Rattle.nbd_core.specs.Halts.{Blames, IsDueTo, OfCommit, commit_halt, commit_outcome, outcome_after}
 use Rattle.nbd_core.specs.Stops.{TellsTake}
 use Rattle.nbd_core.specs.Requests.{DataEnd}
-use Rattle.nbd_core.specs.Turns.{IsByHead, MayHalt}
+use Rattle.nbd_core.specs.Turns.{ComesTo, EndsAs, IsByHead, IsOfBlocks, MayCome, MayHalt}
+use Rattle.nbd_core.specs.declared.serving.Performed.{Performed}
+use Rattle.device_session.specs.declared.refusals.CommitReply.{CommitReply}
+use Rattle.device_session.specs.declared.refusals.CommitReply.TheVariants as replies
 use Rattle.nbd_core.specs.declared.stop.Stop.{Stop}
 use Rattle.nbd_core.specs.declared.stop.Stop.TheVariants as stops
 use Rattle.nbd_core.specs.declared.halts.Halt.{Halt}
@@ -132,19 +135,36 @@ pub platform_ends : (result : Result Outcome Halt) (left : Option (List ℕ)) (c
 platform_ends (Ok outcome) left came is = tt
 platform_ends (Err halt) left came is = subst (DataEnd left 0 came) (sym is) tt
 
-pub by_head_platform : (kind : RequestKind) (refused : Option Outcome) (result : Result Outcome Halt) → refused ≡ None → IfErr result (λ halt. halt ≡ halts.Platform) → IsByHead kind refused result
-by_head_platform kind refused (Ok outcome) none is = subst (λ (r : Option Outcome). IfSome r (λ why. outcome ≡ why)) (sym none) tt
-by_head_platform kind refused (Err halt) none is = subst (MayHalt kind refused) (sym is) none
+pub by_head_platform : (kind other : RequestKind) (refused : Option Outcome) (result : Result Outcome Halt) → kind ≡ other → refused ≡ None → IfErr result (λ halt. halt ≡ halts.Platform) → IfOk result (MayCome other) → IsByHead kind refused result
+by_head_platform kind other refused (Ok outcome) same none is comes = (subst (λ (r : Option Outcome). IfSome r (λ why. outcome ≡ why)) (sym none) tt, λ not. subst (λ (k : RequestKind). MayCome k outcome) (sym same) comes)
+by_head_platform kind other refused (Err halt) same none is comes = subst (MayHalt kind refused) (sym is) none
 
-pub by_head_write : (kind : RequestKind) (refused : Option Outcome) (result : Result Outcome Halt) → kind ≡ kinds.Write → refused ≡ None → IfErr result (MayHalt kinds.Write None) → IsByHead kind refused result
-by_head_write kind refused (Ok outcome) write none is = subst (λ (r : Option Outcome). IfSome r (λ why. outcome ≡ why)) (sym none) tt
-by_head_write kind refused (Err halt) write none is = subst (λ (k : RequestKind). MayHalt k refused halt) (sym write) (subst (λ (r : Option Outcome). MayHalt kinds.Write r halt) (sym none) is)
+pub by_head_write : (kind : RequestKind) (refused : Option Outcome) (result : Result Outcome Halt) → kind ≡ kinds.Write → refused ≡ None → EndsAs kinds.Write result → IsByHead kind refused result
+by_head_write kind refused (Ok outcome) write none ends = (subst (λ (r : Option Outcome). IfSome r (λ why. outcome ≡ why)) (sym none) tt, λ not. subst (λ (k : RequestKind). MayCome k outcome) (sym write) ends)
+by_head_write kind refused (Err halt) write none ends = subst (λ (k : RequestKind). MayHalt k refused halt) (sym write) (subst (λ (r : Option Outcome). MayHalt kinds.Write r halt) (sym none) ends)
 
 pub by_head_refused : (kind : RequestKind) (refused : Option Outcome) (outcome : Outcome) (result : Result Outcome Halt) → refused ≡ Some outcome → IfOk result (λ it. it ≡ outcome) → IfErr result (MayHalt kind refused) → IsByHead kind refused result
-by_head_refused kind refused outcome (Ok it) some is halted = subst (λ (r : Option Outcome). IfSome r (λ why. it ≡ why)) (sym some) is
+by_head_refused kind refused outcome (Ok it) some is halted = (subst (λ (r : Option Outcome). IfSome r (λ why. it ≡ why)) (sym some) is, λ none. absurd cc)
 by_head_refused kind refused outcome (Err halt) some is halted = halted
 
--- a call for a block that stopped in a write, and has no reply
+-- a call for a block that stopped, and has a reply
+stopped_comes : (kind : RequestKind) (stop : DeviceStop) → IsOfBlocks kind → IfOk (outcome_after stop) (MayCome kind)
+stopped_comes kind device.Platform of = tt
+stopped_comes kind device.Tape of = tt
+stopped_comes kind device.Ledger of = tt
+stopped_comes kind device.BadRoot of = tt
+stopped_comes kind (device.BadRecord addr) of = of
+stopped_comes kind device.Memory of = of
+
+pub stop_comes : (kind : RequestKind) (stop : DeviceStop) (result : Result Outcome Halt) → IsOfBlocks kind → result ≡ outcome_after stop → IfOk result (MayCome kind)
+stop_comes kind stop result of is = subst (λ (r : Result Outcome Halt). IfOk r (MayCome kind)) (sym is) (stopped_comes kind stop of)
+
+-- what is let go for an outcome
+pub given_ends : (kind : RequestKind) (outcome : Outcome) (result : Result Outcome Halt) → MayCome kind outcome → IfOk result (λ it. it ≡ outcome) → IfErr result (MayHalt kind None) → EndsAs kind result
+given_ends kind outcome (Ok it) comes is halted = subst (MayCome kind) (sym is) comes
+given_ends kind outcome (Err halt) comes is halted = halted
+
+-- a call for a block that stopped in a write, and has none
 pub write_halts : (stop : DeviceStop) (halt : Halt) → IsOfCall stop → Err halt ≡ outcome_after stop → MayHalt kinds.Write None halt
 write_halts device.Platform halt of is = let same : halt ≡ halts.Platform = cc in subst (MayHalt kinds.Write None) (sym same) refl
 write_halts device.Tape halt of is = let same : halt ≡ halts.Tape = cc in subst (MayHalt kinds.Write None) (sym same) (refl, tt)
@@ -152,6 +172,18 @@ write_halts device.Ledger halt of is = absurd of
 write_halts device.BadRoot halt of is = absurd of
 write_halts (device.BadRecord addr) halt of is = absurd cc
 write_halts device.Memory halt of is = absurd cc
+
+-- a commit that was answered
+commit_may : (reply : CommitReply) → MayCome kinds.Flush (commit_outcome reply)
+commit_may (replies.Committed number) = tt
+commit_may (replies.Full needed free) = tt
+
+pub commit_comes : (reply : CommitReply) (outcome : Outcome) → outcome ≡ commit_outcome reply → MayCome kinds.Flush outcome
+commit_comes reply outcome is = subst (MayCome kinds.Flush) (sym is) (commit_may reply)
+
+pub flush_comes : (kind : RequestKind) (refused : Option Outcome) (result : Result Performed Halt) → kind ≡ kinds.Flush → refused ≡ None → IfOk result (λ done. MayCome kinds.Flush done.outcome) → IfOk result (λ done. ComesTo kind refused done.outcome)
+flush_comes kind refused (Ok done) flush none comes = (subst (λ (r : Option Outcome). IfSome r (λ why. done.outcome ≡ why)) (sym none) tt, λ not. subst (λ (k : RequestKind). MayCome k done.outcome) (sym flush) comes)
+flush_comes kind refused (Err halt) flush none comes = tt
 
 -- a flush that halted
 flush_may : (refused : Option Outcome) (halt : Halt) → refused ≡ None → DataEnd None 0 [] halt → MayHalt kinds.Flush refused halt

@@ -1,6 +1,6 @@
 -- Requests and their replies, one after another.
 use Rattle.std.proofs.Common.{◌≡◌, ◌≢◌, ℕ, ◌-◌, ◌*◌, ◌+◌, ◌<◌, ◌≤◌, Option, None, Some, Result, Ok, Err, List, [], ◌∷◌, ◌++◌, length, take, drop, refl, sym, ap, subst, ◌∙◌, append_assoc, append-nil, length-append, length-take, length-drop, inl, inr, arith}
-use Rattle.std.specs.Prelude.{All, IfErr, IfSome, map, nat_lt}
+use Rattle.std.specs.Prelude.{All, IfErr, map, nat_lt}
 use Rattle.nbd_lang.specs.Refusals.{refusal, refusal_by}
 use Rattle.std.specs.List.{flat_map}
 use Rattle.std.proofs.lemmas.List.{length-map, map-append}
@@ -32,7 +32,7 @@ use Rattle.nbd_core.specs.Exchanges.{Exchange, sent_of, told_of}
 use Rattle.nbd_core.specs.Served.{Answered, AnswerEnd, AwaitsMore, EndsByDisconnect, FitsExchange, IsAhead, IsCommit, IsCutOff, IsGoodbye, IsReplyTo, Served, ServedEnd, bytes_told, sent_bytes, replied_bytes}
 use Rattle.nbd_core.specs.Short.{AreShort, updates_in}
 use Rattle.nbd_core.proofs.ShortLaws.{short_less, short_push, updates_push}
-use Rattle.nbd_core.specs.Turns.{BeginsWith, DrawsKeys, Finishes, Halted, Halts, HaltsAt, IsOfCommit, MayHalt, Turns}
+use Rattle.nbd_core.specs.Turns.{BeginsWith, ComesTo, DrawsKeys, Finishes, Halted, Halts, HaltsAt, IsOfCommit, MayHalt, Turns}
 use Rattle.nbd_lang.specs.declared.replies.Outcome.{Outcome}
 use Rattle.nbd_lang.specs.declared.replies.Outcome.TheVariants as outcomes
 use Rattle.nbd_lang.specs.declared.requests.RequestKind.{RequestKind}
@@ -405,9 +405,9 @@ reply_length kinds.Flush count outcome room there = refl
 reply_length kinds.Trim count outcome room there = refl
 reply_length (kinds.Other number) count outcome room there = refl
 
-pub is_reply : (size : ℕ) (request : Request) (outcome : Outcome) (room : List ℕ) → IfSome (refusal size request) (λ why. outcome ≡ why) → (request.kind ≡ kinds.Read → outcome ≡ outcomes.Done → 16 + request.length ≤ length room)
+pub is_reply : (size : ℕ) (request : Request) (outcome : Outcome) (room : List ℕ) → ComesTo request.kind (refusal size request) outcome → (request.kind ≡ kinds.Read → outcome ≡ outcomes.Done → 16 + request.length ≤ length room)
     → IsReplyTo size request (record { outcome = outcome; cookie = request.cookie; bytes = bytes_of_reply request.kind request.length outcome room })
-is_reply size request outcome room refused there = record { cookie = refl; refused = refused; bytes = reply_length request.kind request.length outcome room there }
+is_reply size request outcome room comes there = record { cookie = refl; comes = comes; bytes = reply_length request.kind request.length outcome room there }
 
 -- one that could not be told whole
 pub answer_cut : (tells : Type 0) (before after : Outside) (session : Session) (size : ℕ) (request : Request) (left : Option (List ℕ)) (gone ahead : List ℕ) (written written_now : Option (List ℕ)) (stop : Stop) (reply : Reply) → stop ≡ stops.Sink

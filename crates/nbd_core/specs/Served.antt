@@ -1,5 +1,5 @@
 -- Requests that came, and their replies, on any image.
-use Rattle.std.specs.Prelude.{◌≡◌, ◌≢◌, ◌≤◌, ◌<◌, ◌-◌, ◌*◌, ◌⊎◌, ℕ, List, [], ◌∷◌, ◌++◌, All, Option, None, Some, Result, Ok, Err, IfErr, IfSome, length, map, take}
+use Rattle.std.specs.Prelude.{◌≡◌, ◌≢◌, ◌≤◌, ◌<◌, ◌-◌, ◌*◌, ◌⊎◌, ℕ, List, [], ◌∷◌, ◌++◌, All, Option, None, Some, Result, Ok, Err, IfErr, length, map, take}
 use Rattle.std.specs.List.{flat_map}
 use Rattle.sdbt_base.specs.Told.{Got, GotPart, IsAtEnd}
 use Rattle.device_course.specs.States.{Outside}
@@ -22,7 +22,7 @@ use Rattle.nbd_core.specs.Exchanges.{Exchange, sent_of, told_of}
 use Rattle.nbd_core.specs.Room.{Room, Came, IsShorter}
 use Rattle.nbd_core.specs.Requests.{AwaitsRequest, IsBrokenRequest, DataEnd}
 use Rattle.nbd_core.specs.Short.{AreShort, Spends, updates_in}
-use Rattle.nbd_core.specs.Turns.{Turns, Halts, BeginsWith, DrawsKeys, IsOfCommit, MayHalt, OnArray}
+use Rattle.nbd_core.specs.Turns.{Turns, Halts, BeginsWith, ComesTo, DrawsKeys, IsOfCommit, MayHalt, OnArray}
 use Rattle.nbd_core.specs.declared.stop.Stop.TheVariants as stops
 use Rattle.nbd_core.specs.declared.halts.Halt.{Halt}
 use Rattle.nbd_core.specs.declared.halts.Halt.TheVariants as halts
@@ -32,10 +32,11 @@ abbrev pub bytes_told : RequestKind → Outcome → ℕ → ℕ
 bytes_told kinds.Read outcomes.Done count = count
 bytes_told _ _ count = 0
 
--- a reply to a request on a device of so many bytes: what is refused by its head is answered so
+-- a reply to a request on a device of so many bytes: what is refused by its head is answered so, and
+-- else what such a request may come to
 pub record IsReplyTo (size : ℕ) (request : Request) (reply : Reply) : Type 0 where
   pub cookie : reply.cookie ≡ request.cookie
-  pub refused : IfSome (refusal size request) (λ why. reply.outcome ≡ why)
+  pub comes : ComesTo request.kind (refusal size request) reply.outcome
   pub bytes : length reply.bytes ≡ bytes_told request.kind reply.outcome request.length
 
 -- how a request ended of which these bytes came behind its head: its reply was put, or a part of it;

@@ -13,6 +13,7 @@ use Rattle.nbd_lang.specs.Requests.{RequestSent, request_head}
 use Rattle.nbd_lang.specs.declared.requests.Request.{Request}
 use Rattle.nbd_lang.specs.Refusals.{refusal}
 use Rattle.nbd_lang.specs.declared.replies.Outcome.{Outcome}
+use Rattle.nbd_lang.specs.declared.replies.Outcome.TheVariants as outcomes
 use Rattle.nbd_lang.specs.declared.requests.RequestKind.{RequestKind}
 use Rattle.nbd_lang.specs.declared.requests.RequestKind.TheVariants as kinds
 use Rattle.device_course.specs.Held.{Held, IsHeld, device_of}
@@ -69,9 +70,34 @@ MayHalt kind refused halts.BadRoot = ⊥
 MayHalt kind refused halts.NoDevice = ⊥
 MayHalt kind refused halts.Unfinished = ⊥
 
--- what a request comes to that its head may refuse: then that
+-- requests for which blocks are read, written or trimmed
+abbrev pub IsOfBlocks : RequestKind → Type 0
+IsOfBlocks kinds.Read = Unit {0}
+IsOfBlocks kinds.Write = Unit {0}
+IsOfBlocks kinds.Trim = Unit {0}
+IsOfBlocks kinds.Flush = ⊥
+IsOfBlocks kinds.Disconnect = ⊥
+IsOfBlocks (kinds.Other number) = ⊥
+
+-- what a request may come to that its head doesn't refuse, on any image: it is done; memory lacks, or a
+-- page doesn't fit, for one of blocks; and pages lack for one that draws keys
+abbrev pub MayCome : RequestKind → Outcome → Type 0
+MayCome kind outcomes.Done = Unit {0}
+MayCome kind outcomes.NoMemory = IsOfBlocks kind
+MayCome kind outcomes.Damaged = IsOfBlocks kind
+MayCome kind outcomes.NoSpace = DrawsKeys kind
+MayCome kind outcomes.Invalid = ⊥
+
+abbrev pub EndsAs : RequestKind → Result Outcome Halt → Type 0
+EndsAs kind (Ok outcome) = MayCome kind outcome
+EndsAs kind (Err halt) = MayHalt kind None halt
+
+-- what a request comes to: what its head is refused with, if it is; else what it may come to
+abbrev pub ComesTo : RequestKind → Option Outcome → Outcome → Type 0
+ComesTo kind refused outcome = IfSome refused (λ why. outcome ≡ why) × (refused ≡ None → MayCome kind outcome)
+
 abbrev pub IsByHead : RequestKind → Option Outcome → Result Outcome Halt → Type 0
-IsByHead kind refused (Ok outcome) = IfSome refused (λ why. outcome ≡ why)
+IsByHead kind refused (Ok outcome) = ComesTo kind refused outcome
 IsByHead kind refused (Err halt) = MayHalt kind refused halt
 
 -- these bytes begin with a request that its head doesn't refuse, of such a kind

@@ -12,7 +12,7 @@ ghost use Rattle.nbd_core.specs.Halts.{Blames};
 ghost use Rattle.nbd_terms.specs.Turn.{Reads};
 ghost use Rattle.session_calls.specs.Calling.{Calls};
 ghost use Rattle.nbd_core.specs.Serving.{IsWithin, bytes_of_reply};
-ghost use Rattle.nbd_core.specs.Turns.{LeadsOn};
+ghost use Rattle.nbd_core.specs.Turns.{LeadsOn, MayCome};
 
 use crate::halts::{Halt, after_stop};
 use byte_arrays::Part;
@@ -38,6 +38,7 @@ pub(crate) fn read<P: Platform>(
         → Blames (record rest { platform = P.faults platform.old })
         (record rest { platform = P.faults platform.new }) result }
     ensures halts { IfErr result (λ halt. halt ≡ Halt.Platform) }
+    ensures comes { IfOk result (MayCome RequestKind.Read) }
     ensures room { IfOk result (λ outcome. outcome ≡ Outcome.Done
         → 16 + request.now.length ≤ length reply.new.items) }
     ensures leads { LeadsOn P.Platform platform.old platform.new session.old session.new

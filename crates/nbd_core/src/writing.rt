@@ -1,5 +1,5 @@
 //! Writes.
-ghost use Rattle.std.specs.Prelude.{None, Option, Some, IfErr, OnErr, ◌≡◌, ◌≢◌, ◌+◌, ◌-◌, ◌*◌, ◌≤◌, ◌<◌, ◌^◌, ℕ, IfOk, length};
+ghost use Rattle.std.specs.Prelude.{Option, Some, IfErr, OnErr, ◌≡◌, ◌≢◌, ◌+◌, ◌-◌, ◌*◌, ◌≤◌, ◌<◌, ◌^◌, ℕ, IfOk, length};
 ghost use Rattle.byte_arrays.specs.Ranges.{touched_blocks};
 ghost use Rattle.device_session.specs.Open.{IsOpen, blocks_of, needed_by};
 ghost use Rattle.device_course.specs.States.{IsAt};
@@ -15,7 +15,7 @@ ghost use Rattle.nbd_core.specs.Halts.{Blames, outcome_after};
 ghost use Rattle.session_calls.specs.Calling.{Calls};
 ghost use Rattle.nbd_core.specs.Serving.{IsWithin};
 ghost use Rattle.nbd_core.specs.Requests.{DataCame};
-ghost use Rattle.nbd_core.specs.Turns.{LeadsOn, MayHalt};
+ghost use Rattle.nbd_core.specs.Turns.{EndsAs, LeadsOn, MayHalt};
 
 use crate::halts::{Halt, after_stop};
 use crate::intake::Intake;
@@ -51,7 +51,7 @@ pub(crate) fn write<P: Platform, T: Tape, I: Source>(
         (λ outcome entry next. Writes (P.capacity platform.old - entry.pages) entry
         request.now.offset gone (touched_blocks request.now.offset request.now.length)
         outcome next) result) result }
-    ensures halted { IfErr result (MayHalt RequestKind.Write None) }
+    ensures ends { EndsAs RequestKind.Write result }
     ensures damage { P.tells → IsMounted (P.history platform.old).present session.old
         → TellsDamage (P.history platform.new).present result }
     ensures short { IfOk result (λ outcome. outcome ≡ Outcome.NoSpace
@@ -102,7 +102,7 @@ fn write_range<P: Platform, T: Tape, I: Source>(
         → IfOk result (WroteRange (P.history platform.new).present (P.head platform.old)
         (P.head platform.new) (needed_by session.old) session.new device array at gone
         (touched_blocks at count))) result }
-    ensures halted { IfErr result (MayHalt RequestKind.Write None) }
+    ensures ends { EndsAs RequestKind.Write result }
     ensures damage { P.tells → IsMounted (P.history platform.old).present session.old
         → TellsDamage (P.history platform.new).present result }
     ensures room { IfOk result (λ outcome. outcome ≢ Outcome.NoSpace) }
@@ -141,7 +141,7 @@ fn give_up<I: Source>(
     ensures bytes { DataCame (I.left input.old) (I.left input.new) intake.old intake.new left
         (λ gone. Unit {0}) result }
     ensures outcome { IfOk result (λ outcome. outcome_after stop ≡ Ok outcome) }
-    ensures halted { IfErr result (MayHalt RequestKind.Write None) }
+    ensures ends { EndsAs RequestKind.Write result }
 {
     match after_stop(stop) {
         Ok(outcome) => let_go(intake, input, left, outcome),

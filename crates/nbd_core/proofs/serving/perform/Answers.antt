@@ -6,11 +6,11 @@ use Rattle.nbd_lang.specs.Refusals.{refusal}
 use Rattle.nbd_lang.specs.declared.replies.Outcome.{Outcome}
 use Rattle.device_session.specs.Sessions.{Session}
 use Rattle.nbd_core.proofs.DataLaws.{data_over, data_went, no_data}
-use Rattle.nbd_core.proofs.BlameLaws.{blame_as, blame_on, flush_may_halt}
+use Rattle.nbd_core.proofs.BlameLaws.{blame_as, blame_on, flush_comes, flush_may_halt}
 use Rattle.nbd_core.proofs.DamageLaws.{on_performed}
 use Rattle.nbd_core.proofs.ShortLaws.{blocks_spend, flush_spends}
 use Rattle.nbd_core.proofs.TurnLaws.{blocks_halted, blocks_performed, flush_performed}
-use Rattle.nbd_core.specs.Turns.{MayHalt}
+use Rattle.nbd_core.specs.Turns.{ComesTo, MayHalt}
 use Rattle.nbd_core.proofs.serving.perform.Goals as goal
 
 size_of_session : (session : Session) (blocks : ℕ) → blocks ≡ blocks_of session → 4096 * blocks_of session ≡ blocks * 4096
@@ -77,4 +77,15 @@ returns-then-is_flush-clause-halted g c =
 pub returns-in-Err-clause-halted : goal.returns-in-Err-clause-halted
 returns-in-Err-clause-halted g c =
     let whole = c.refusal-refused.ensures ∙ ap (λ (s : ℕ). refusal s c.args.request.now) (sym (size_of_session c.args.first _ c.blocks-2.ensures)) in
-    subst (λ (r : Option Outcome). MayHalt c.args.request.now.kind r c.in-Err.halt) whole c.in-Err.ensures.refused
+    subst (λ (r : Option Outcome). MayHalt c.args.request.now.kind r c.in-Err.halt) whole c.in-Err.ensures.ends
+
+pub returns-then-is_flush-clause-comes : goal.returns-then-is_flush-clause-comes
+returns-then-is_flush-clause-comes g c =
+    let both = c.if-is_flush.ensures.0 refl in
+    flush_comes c.args.request.now.kind _ c.flush.result both.0
+    (ap (λ (s : ℕ). refusal s c.args.request.now) (size_of_session c.args.first _ c.blocks-2.ensures) ∙ sym c.refusal-refused.ensures ∙ both.1) c.flush.ensures.comes
+
+pub returns-in-Ok-clause-comes : goal.returns-in-Ok-clause-comes
+returns-in-Ok-clause-comes g c =
+    let whole = c.refusal-refused.ensures ∙ ap (λ (s : ℕ). refusal s c.args.request.now) (sym (size_of_session c.args.first _ c.blocks-2.ensures)) in
+    subst (λ (r : Option Outcome). ComesTo c.args.request.now.kind r c.in-Ok.outcome) whole c.in-Ok.ensures.ends

@@ -1,6 +1,6 @@
 use Rattle.std.proofs.Common.{ap, arith, length, sym, []}
 use Rattle.byte_arrays.specs.Ranges.{covered_blocks, touched_blocks}
-use Rattle.nbd_lang.specs.declared.requests.RequestKind.TheVariants.{Trim, Write}
+use Rattle.nbd_lang.specs.declared.requests.RequestKind.TheVariants.{Read, Trim, Write}
 use Rattle.nbd_core.specs.Ample.{blocks_of_range, unless_refused}
 use Rattle.session_calls.proofs.CallLaws.{along_more}
 use Rattle.nbd_core.proofs.ShortLaws.{cost_is, read_short, refused_short, trim_short, write_short}
@@ -75,14 +75,14 @@ returns-in-Write-clause-bytes g c =
 pub returns-in-Some-clause-damage : goal.returns-in-Some-clause-damage
 returns-in-Some-clause-damage g c told mounted = refused_sound _ _ c.args.request.now _ c.in-Some.outcome _ c.requires.refusal c.in-Some.is c.let_go.ensures.outcome
 
-pub returns-in-Some-clause-refused : goal.returns-in-Some-clause-refused
-returns-in-Some-clause-refused g c = by_head_refused c.args.request.now.kind c.args.refused c.in-Some.outcome c.let_go.result c.in-Some.is c.let_go.ensures.outcome (c.let_go.ensures.halted c.args.request.now.kind c.args.refused)
+pub returns-in-Some-clause-ends : goal.returns-in-Some-clause-ends
+returns-in-Some-clause-ends g c = by_head_refused c.args.request.now.kind c.args.refused c.in-Some.outcome c.let_go.result c.in-Some.is c.let_go.ensures.outcome (c.let_go.ensures.halted c.args.request.now.kind c.args.refused)
 
-pub returns-in-Read-clause-refused : goal.returns-in-Read-clause-refused
-returns-in-Read-clause-refused g c = by_head_platform c.args.request.now.kind c.args.refused c.read.result c.in_default.is c.read.ensures.halts
+pub returns-in-Read-clause-ends : goal.returns-in-Read-clause-ends
+returns-in-Read-clause-ends g c = by_head_platform c.args.request.now.kind Read c.args.refused c.read.result c.in-Read.is c.in_default.is c.read.ensures.halts c.read.ensures.comes
 
-pub returns-in-Trim-clause-refused : goal.returns-in-Trim-clause-refused
-returns-in-Trim-clause-refused g c = by_head_platform c.args.request.now.kind c.args.refused c.trim.result c.in_default.is c.trim.ensures.halts
+pub returns-in-Trim-clause-ends : goal.returns-in-Trim-clause-ends
+returns-in-Trim-clause-ends g c = by_head_platform c.args.request.now.kind Trim c.args.refused c.trim.result c.in-Trim.is c.in_default.is c.trim.ensures.halts c.trim.ensures.comes
 
-pub returns-in-Write-clause-refused : goal.returns-in-Write-clause-refused
-returns-in-Write-clause-refused g c = by_head_write c.args.request.now.kind c.args.refused c.write.result c.in-Write.is c.in_default.is c.write.ensures.halted
+pub returns-in-Write-clause-ends : goal.returns-in-Write-clause-ends
+returns-in-Write-clause-ends g c = by_head_write c.args.request.now.kind c.args.refused c.write.result c.in-Write.is c.in_default.is c.write.ensures.ends

@@ -5,6 +5,8 @@ use Rattle.nbd_lang.specs.declared.requests.RequestKind.TheVariants.{Write}
 use Rattle.session_calls.specs.Along.{drawn_by}
 use Rattle.session_calls.proofs.AlongLaws.{along_start}
 use Rattle.session_calls.proofs.CallLaws.{along_more}
+use Rattle.nbd_lang.specs.declared.replies.Outcome.TheVariants.{NoSpace}
+use Rattle.nbd_core.proofs.BlameLaws.{given_ends}
 use Rattle.nbd_core.proofs.DamageLaws.{space_sound}
 use Rattle.nbd_core.proofs.ShortLaws.{never_short}
 use Rattle.nbd_core.proofs.DataLaws.{data_did}
@@ -55,5 +57,5 @@ returns-then-blocks-capacity-clause-short g c =
 pub returns-clause-short : goal.returns-clause-short
 returns-clause-short g c = never_short _ c.write_range.result c.write_range.ensures.room
 
-pub returns-then-blocks-capacity-clause-halted : goal.returns-then-blocks-capacity-clause-halted
-returns-then-blocks-capacity-clause-halted g c = c.let_go.ensures.halted Write None
+pub returns-then-blocks-capacity-clause-ends : goal.returns-then-blocks-capacity-clause-ends
+returns-then-blocks-capacity-clause-ends g c = given_ends Write NoSpace c.let_go.result tt c.let_go.ensures.outcome (c.let_go.ensures.halted Write None)
