@@ -1,6 +1,6 @@
 -- With enough pages free each request is done.
 use Rattle.std.proofs.Common.{◌≡◌, ◌≤◌, ◌+◌, ◌-◌, ◌*◌, ◌∙◌, ◌∷◌, ℕ, Bool, true, false, List, [], Option, None, Some, inl, inr, length, take, refl, sym, ap, arith, length-take}
-use Rattle.std.specs.Prelude.{◌⊎◌, All, map}
+use Rattle.std.specs.Prelude.{All, map}
 use Rattle.std.proofs.lemmas.List.Elements.{All-cons}
 use Rattle.sdbt_base.specs.Arrays.{Device, Session as OpenSession, committed_if}
 use Rattle.nbd_lang.specs.Refusals.{refusal}

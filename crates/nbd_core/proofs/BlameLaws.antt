@@ -1,8 +1,10 @@
 -- Whom a request blames that halts a run.
-use Rattle.std.proofs.Common.{◌≡◌, ◌≤◌, ◌<◌, ◌∙◌, refl, ℕ, Bool, List, Option, None, Result, Ok, Err, inl, inr, ap, sym, subst, arith}
+use Rattle.std.proofs.Common.{◌≡◌, ◌≤◌, ◌<◌, ◌∙◌, refl, ℕ, Bool, List, Option, None, Some, Result, Ok, Err, [], inl, inr, ap, sym, subst, arith}
 use Rattle.std.proofs.lemmas.Bool.{cases_lt}
-use Rattle.std.specs.Prelude.{IfErr}
+use Rattle.std.specs.Prelude.{IfErr, IfOk, IfSome}
 use Rattle.nbd_lang.specs.declared.requests.Request.{Request}
+use Rattle.nbd_lang.specs.declared.requests.RequestKind.{RequestKind}
+use Rattle.nbd_lang.specs.declared.requests.RequestKind.TheVariants as kinds
 use Rattle.nbd_lang.specs.declared.replies.Outcome.{Outcome}
 use Rattle.sdbt_base.specs.declared.tapes.Tape.{Ghosts as TapeGhosts}
 use Rattle.platform.specs.declared.platforms.Platform.{Ghosts as PlatformGhosts}
@@ -11,9 +13,13 @@ use Rattle.sdbt_base.specs.Counts.{Counts, NoneFell, OutputRose, counts}
 use Rattle.session_calls.specs.Blame.{HasCause, IsOfCall}
 use Rattle.session_calls.specs.declared.stops.DeviceStop.{DeviceStop}
 use Rattle.session_calls.specs.declared.stops.DeviceStop.TheVariants as device
-use Rattle.nbd_core.specs.Halts.{Blames, IsDueTo, OfCommit, commit_halt, outcome_after}
+use Rattle.nbd_core.specs.Halts.{Blames, IsDueTo, OfCommit, commit_halt, commit_outcome, outcome_after}
 use Rattle.nbd_core.specs.Stops.{TellsTake}
 use Rattle.nbd_core.specs.Requests.{DataEnd}
+use Rattle.nbd_core.specs.Turns.{ComesTo, EndsAs, IsByHead, IsOfBlocks, MayCome, MayHalt}
+use Rattle.nbd_core.specs.declared.serving.Performed.{Performed}
+use Rattle.device_session.specs.declared.refusals.CommitReply.{CommitReply}
+use Rattle.device_session.specs.declared.refusals.CommitReply.TheVariants as replies
 use Rattle.nbd_core.specs.declared.stop.Stop.{Stop}
 use Rattle.nbd_core.specs.declared.stop.Stop.TheVariants as stops
 use Rattle.nbd_core.specs.declared.halts.Halt.{Halt}
@@ -109,18 +115,92 @@ pub blame_committed : {X : Type 0} (rest : Counts) (platform platform_now tape t
 blame_committed rest platform platform_now tape tape_now ledger ledger_now x same =
     blame_done (record rest { platform = platform; tape = tape; ledger = ledger }) (record rest { platform = platform_now; tape = tape_now; ledger = ledger_now }) x (ap (λ (c : Counts). record rest { platform = c.platform; tape = c.tape; ledger = c.ledger }) same)
 
--- ---- a request without bytes behind its head
+-- ---- at which requests a run halts
 
-by_halt : (stop : DeviceStop) (left : Option (List ℕ)) (came : List ℕ) → IsOfCall stop → IfErr (outcome_after stop) (DataEnd left 0 came)
-by_halt device.Platform left came of = tt
-by_halt device.Tape left came of = tt
-by_halt device.Ledger left came of = absurd of
-by_halt device.BadRoot left came of = absurd of
-by_halt (device.BadRecord addr) left came of = tt
-by_halt device.Memory left came of = tt
+-- a call without a tape that stopped, and has no reply, stopped at a fault of the platform
+at_platform : (platform platform_now : ℕ) (stop : DeviceStop) → IsOfCall stop → HasCause (counts platform 0 0 0 0) (counts platform_now 0 0 0 0) stop → IfErr (outcome_after stop) (λ halt. halt ≡ halts.Platform)
+at_platform platform platform_now device.Platform of cause = refl
+at_platform platform platform_now device.Tape of (inl rose, same) = absurd (omega (arith, rose))
+at_platform platform platform_now device.Tape of (inr last, same) = absurd (omega (arith, last))
+at_platform platform platform_now device.Ledger of cause = absurd of
+at_platform platform platform_now device.BadRoot of cause = absurd of
+at_platform platform platform_now (device.BadRecord addr) of cause = tt
+at_platform platform platform_now device.Memory of cause = tt
 
-pub stop_halts : (stop : DeviceStop) (result : Result Outcome Halt) (left : Option (List ℕ)) (came : List ℕ) → IsOfCall stop → result ≡ outcome_after stop → IfErr result (DataEnd left 0 came)
-stop_halts stop result left came of is = subst (λ (r : Result Outcome Halt). IfErr r (DataEnd left 0 came)) (sym is) (by_halt stop left came of)
+pub platform_halts : (platform platform_now : ℕ) (stop : DeviceStop) (result : Result Outcome Halt) → IsOfCall stop → HasCause (counts platform 0 0 0 0) (counts platform_now 0 0 0 0) stop → result ≡ outcome_after stop → IfErr result (λ halt. halt ≡ halts.Platform)
+platform_halts platform platform_now stop result of cause is = subst (λ (r : Result Outcome Halt). IfErr r (λ halt. halt ≡ halts.Platform)) (sym is) (at_platform platform platform_now stop of cause)
+
+-- no byte of such a request is behind its head
+pub platform_ends : (result : Result Outcome Halt) (left : Option (List ℕ)) (came : List ℕ) → IfErr result (λ halt. halt ≡ halts.Platform) → IfErr result (DataEnd left 0 came)
+platform_ends (Ok outcome) left came is = tt
+platform_ends (Err halt) left came is = subst (DataEnd left 0 came) (sym is) tt
+
+pub by_head_platform : (kind other : RequestKind) (refused : Option Outcome) (result : Result Outcome Halt) → kind ≡ other → refused ≡ None → IfErr result (λ halt. halt ≡ halts.Platform) → IfOk result (MayCome other) → IsByHead kind refused result
+by_head_platform kind other refused (Ok outcome) same none is comes = (subst (λ (r : Option Outcome). IfSome r (λ why. outcome ≡ why)) (sym none) tt, λ not. subst (λ (k : RequestKind). MayCome k outcome) (sym same) comes)
+by_head_platform kind other refused (Err halt) same none is comes = subst (MayHalt kind refused) (sym is) none
+
+pub by_head_write : (kind : RequestKind) (refused : Option Outcome) (result : Result Outcome Halt) → kind ≡ kinds.Write → refused ≡ None → EndsAs kinds.Write result → IsByHead kind refused result
+by_head_write kind refused (Ok outcome) write none ends = (subst (λ (r : Option Outcome). IfSome r (λ why. outcome ≡ why)) (sym none) tt, λ not. subst (λ (k : RequestKind). MayCome k outcome) (sym write) ends)
+by_head_write kind refused (Err halt) write none ends = subst (λ (k : RequestKind). MayHalt k refused halt) (sym write) (subst (λ (r : Option Outcome). MayHalt kinds.Write r halt) (sym none) ends)
+
+pub by_head_refused : (kind : RequestKind) (refused : Option Outcome) (outcome : Outcome) (result : Result Outcome Halt) → refused ≡ Some outcome → IfOk result (λ it. it ≡ outcome) → IfErr result (MayHalt kind refused) → IsByHead kind refused result
+by_head_refused kind refused outcome (Ok it) some is halted = (subst (λ (r : Option Outcome). IfSome r (λ why. it ≡ why)) (sym some) is, λ none. absurd cc)
+by_head_refused kind refused outcome (Err halt) some is halted = halted
+
+-- a call for a block that stopped, and has a reply
+stopped_comes : (kind : RequestKind) (stop : DeviceStop) → IsOfBlocks kind → IfOk (outcome_after stop) (MayCome kind)
+stopped_comes kind device.Platform of = tt
+stopped_comes kind device.Tape of = tt
+stopped_comes kind device.Ledger of = tt
+stopped_comes kind device.BadRoot of = tt
+stopped_comes kind (device.BadRecord addr) of = of
+stopped_comes kind device.Memory of = of
+
+pub stop_comes : (kind : RequestKind) (stop : DeviceStop) (result : Result Outcome Halt) → IsOfBlocks kind → result ≡ outcome_after stop → IfOk result (MayCome kind)
+stop_comes kind stop result of is = subst (λ (r : Result Outcome Halt). IfOk r (MayCome kind)) (sym is) (stopped_comes kind stop of)
+
+-- what is let go for an outcome
+pub given_ends : (kind : RequestKind) (outcome : Outcome) (result : Result Outcome Halt) → MayCome kind outcome → IfOk result (λ it. it ≡ outcome) → IfErr result (MayHalt kind None) → EndsAs kind result
+given_ends kind outcome (Ok it) comes is halted = subst (MayCome kind) (sym is) comes
+given_ends kind outcome (Err halt) comes is halted = halted
+
+-- a call for a block that stopped in a write, and has none
+pub write_halts : (stop : DeviceStop) (halt : Halt) → IsOfCall stop → Err halt ≡ outcome_after stop → MayHalt kinds.Write None halt
+write_halts device.Platform halt of is = let same : halt ≡ halts.Platform = cc in subst (MayHalt kinds.Write None) (sym same) refl
+write_halts device.Tape halt of is = let same : halt ≡ halts.Tape = cc in subst (MayHalt kinds.Write None) (sym same) (refl, tt)
+write_halts device.Ledger halt of is = absurd of
+write_halts device.BadRoot halt of is = absurd of
+write_halts (device.BadRecord addr) halt of is = absurd cc
+write_halts device.Memory halt of is = absurd cc
+
+-- a commit that was answered
+commit_may : (reply : CommitReply) → MayCome kinds.Flush (commit_outcome reply)
+commit_may (replies.Committed number) = tt
+commit_may (replies.Full needed free) = tt
+
+pub commit_comes : (reply : CommitReply) (outcome : Outcome) → outcome ≡ commit_outcome reply → MayCome kinds.Flush outcome
+commit_comes reply outcome is = subst (MayCome kinds.Flush) (sym is) (commit_may reply)
+
+pub flush_comes : (kind : RequestKind) (refused : Option Outcome) (result : Result Performed Halt) → kind ≡ kinds.Flush → refused ≡ None → IfOk result (λ done. MayCome kinds.Flush done.outcome) → IfOk result (λ done. ComesTo kind refused done.outcome)
+flush_comes kind refused (Ok done) flush none comes = (subst (λ (r : Option Outcome). IfSome r (λ why. done.outcome ≡ why)) (sym none) tt, λ not. subst (λ (k : RequestKind). MayCome k done.outcome) (sym flush) comes)
+flush_comes kind refused (Err halt) flush none comes = tt
+
+-- a flush that halted
+flush_may : (refused : Option Outcome) (halt : Halt) → refused ≡ None → DataEnd None 0 [] halt → MayHalt kinds.Flush refused halt
+flush_may refused (halts.Client stop) none ends = tt
+flush_may refused halts.Platform none ends = none
+flush_may refused halts.Tape none ends = (none, tt)
+flush_may refused halts.Ledger none ends = (none, tt)
+flush_may refused halts.Memory none ends = (none, tt)
+flush_may refused halts.BadRoot none ends = ends
+flush_may refused halts.NoDevice none ends = ends
+flush_may refused halts.Unfinished none ends = ends
+
+pub flush_may_halt : {X : Type 0} (kind : RequestKind) (refused : Option Outcome) (result : Result X Halt) → kind ≡ kinds.Flush → refused ≡ None → IfErr result (DataEnd None 0 []) → IfErr result (MayHalt kind refused)
+flush_may_halt kind refused (Ok x) flush none ends = tt
+flush_may_halt kind refused (Err halt) flush none ends = subst (λ (k : RequestKind). MayHalt k refused halt) (sym flush) (flush_may refused halt none ends)
+
+-- ---- a commit
 
 pub commit_halts : (stop : DeviceStop) (halt : Halt) (left : Option (List ℕ)) (came : List ℕ) → OfCommit stop → halt ≡ commit_halt stop → DataEnd left 0 came halt
 commit_halts device.Platform halt left came of is = subst (DataEnd left 0 came) (sym is) tt

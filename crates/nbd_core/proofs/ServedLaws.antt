@@ -1,7 +1,7 @@
 -- Requests and their replies, one after another.
 use Rattle.std.proofs.Common.{◌≡◌, ◌≢◌, ℕ, ◌-◌, ◌*◌, ◌+◌, ◌<◌, ◌≤◌, Option, None, Some, Result, Ok, Err, List, [], ◌∷◌, ◌++◌, length, take, drop, refl, sym, ap, subst, ◌∙◌, append_assoc, append-nil, length-append, length-take, length-drop, inl, inr, arith}
-use Rattle.std.specs.Prelude.{All, IfErr, IfSome, map}
-use Rattle.nbd_lang.specs.Refusals.{refusal}
+use Rattle.std.specs.Prelude.{All, IfErr, map, nat_lt}
+use Rattle.nbd_lang.specs.Refusals.{refusal, refusal_by}
 use Rattle.std.specs.List.{flat_map}
 use Rattle.std.proofs.lemmas.List.{length-map, map-append}
 use Rattle.std.proofs.lemmas.List.Elements.{All-push}
@@ -32,7 +32,7 @@ use Rattle.nbd_core.specs.Exchanges.{Exchange, sent_of, told_of}
 use Rattle.nbd_core.specs.Served.{Answered, AnswerEnd, AwaitsMore, EndsByDisconnect, FitsExchange, IsAhead, IsCommit, IsCutOff, IsGoodbye, IsReplyTo, Served, ServedEnd, bytes_told, sent_bytes, replied_bytes}
 use Rattle.nbd_core.specs.Short.{AreShort, updates_in}
 use Rattle.nbd_core.proofs.ShortLaws.{short_less, short_push, updates_push}
-use Rattle.nbd_core.specs.Turns.{Finishes, Halted, Halts, HaltsAt, IsOfCommit, Turns}
+use Rattle.nbd_core.specs.Turns.{BeginsWith, ComesTo, DrawsKeys, Finishes, Halted, Halts, HaltsAt, IsOfCommit, MayHalt, Turns}
 use Rattle.nbd_lang.specs.declared.replies.Outcome.{Outcome}
 use Rattle.nbd_lang.specs.declared.replies.Outcome.TheVariants as outcomes
 use Rattle.nbd_lang.specs.declared.requests.RequestKind.{RequestKind}
@@ -237,12 +237,19 @@ served_over From tells before there session size a b c old mid now w0 w1 exchang
     served_by From tells before there there session size a b c old mid now w0 w1 w1 exchanges head.came [] (Ok tt) so_far head.takes (Got-nothing w1) (refl, inl head.ends) tt (λ told. Extends-refl there.history) refl (omega arith) (λ is. absurd cc)
     (λ entry from last held. nothing_ahead before.capacity there session last (IsAhead before.capacity size head.came now.ahead [] (Ok tt)) held (inl (head.ends.0, refl)))
 
+-- a disconnect isn't refused
+never_refused : (size : ℕ) (request : Request) → request.kind ≡ kinds.Disconnect → refusal size request ≡ None
+never_refused size request is = ap (λ (k : RequestKind). refusal_by k (nat_lt 0 request.flags) (nat_lt 33554432 request.length) (nat_lt size (request.offset + request.length))) is
+
+goodbye_begins : (size : ℕ) (Is : RequestKind → Type 0) (rest ahead : List ℕ) → Is kinds.Disconnect → IsGoodbye rest ahead → BeginsWith size Is rest
+goodbye_begins size Is rest ahead disconnect bye = (bye.0, ahead, never_refused size bye.0 bye.1, subst Is (sym bye.1) disconnect, bye.2)
+
 goodbye_end : (size : ℕ) (rest ahead : List ℕ) (left : Option (List ℕ)) (result : Result (Unit {0}) Halt) → IsGoodbye rest ahead → EndsByDisconnect result → ServedEnd size rest [] left ahead result
 goodbye_end size rest ahead left (Ok done) bye ends = (refl, inr bye)
-goodbye_end size rest ahead left (Err halts.Platform) bye ends = refl
-goodbye_end size rest ahead left (Err halts.Tape) bye ends = refl
-goodbye_end size rest ahead left (Err halts.Ledger) bye ends = refl
-goodbye_end size rest ahead left (Err halts.Memory) bye ends = refl
+goodbye_end size rest ahead left (Err halts.Platform) bye ends = (refl, goodbye_begins size (λ kind. Unit {0}) rest ahead tt bye)
+goodbye_end size rest ahead left (Err halts.Tape) bye ends = (refl, goodbye_begins size DrawsKeys rest ahead tt bye)
+goodbye_end size rest ahead left (Err halts.Ledger) bye ends = (refl, goodbye_begins size IsOfCommit rest ahead tt bye)
+goodbye_end size rest ahead left (Err halts.Memory) bye ends = (refl, goodbye_begins size IsOfCommit rest ahead tt bye)
 goodbye_end size rest ahead left (Err halts.Unfinished) bye ends = (refl, bye)
 goodbye_end size rest ahead left (Err halts.BadRoot) bye ends = absurd ends
 goodbye_end size rest ahead left (Err halts.NoDevice) bye ends = absurd ends
@@ -341,16 +348,16 @@ served_halted From tells before there after session size a b c d old mid read no
         (λ entry from last held.
         let turned = turns (told entry from) last held in
         record { ahead = turned.next ∷ []; made = turned.made; is = (cut, turned.next, refl, subst (λ (n : ℕ). Turn n last sent reply turned.next) same turned.turn) })
-    by (halts.Client stops.Source) limit (same_put, short, halts_so) = none (halts.Client stops.Source) (λ e. cc) limit same_put (refl, head_awaits request (answered.gone ++ now.ahead) head.ends.0 short) tt (λ e. cc) halts_so
-    by (halts.Client stops.Limit) limit (same_put, short, halts_so) = none (halts.Client stops.Limit) (λ e. cc) limit same_put (refl, head_awaits request (answered.gone ++ now.ahead) head.ends.0 short) tt (λ e. cc) halts_so
-    by (halts.Client stops.Broken) limit (same_put, both, halts_so) = none (halts.Client stops.Broken) (λ e. cc) limit same_put (refl, inl (both.1, omega arith, head_awaits request (answered.gone ++ now.ahead) head.ends.0 both.0)) tt (λ e. cc) halts_so
-    by halts.Platform limit (same_put, ends, halts_so) = none halts.Platform (λ e. cc) limit same_put refl tt (λ e. cc) halts_so
-    by halts.Tape limit (same_put, ends, halts_so) = none halts.Tape (λ e. cc) limit same_put refl tt (λ e. cc) halts_so
-    by halts.Ledger limit (same_put, ends, halts_so) = none halts.Ledger (λ e. cc) limit same_put refl tt (λ e. cc) halts_so
-    by halts.Memory limit (same_put, ends, halts_so) = none halts.Memory (λ e. cc) limit same_put refl tt (λ e. cc) halts_so
-    by halts.BadRoot limit (same_put, ends, halts_so) = absurd ends
-    by halts.NoDevice limit (same_put, ends, halts_so) = absurd ends
-    by halts.Unfinished limit (same_put, ends, halts_so) = absurd ends
+    by (halts.Client stops.Source) limit (same_put, short, may, halts_so) = none (halts.Client stops.Source) (λ e. cc) limit same_put (refl, head_awaits request (answered.gone ++ now.ahead) head.ends.0 short) tt (λ e. cc) halts_so
+    by (halts.Client stops.Limit) limit (same_put, short, may, halts_so) = none (halts.Client stops.Limit) (λ e. cc) limit same_put (refl, head_awaits request (answered.gone ++ now.ahead) head.ends.0 short) tt (λ e. cc) halts_so
+    by (halts.Client stops.Broken) limit (same_put, both, may, halts_so) = none (halts.Client stops.Broken) (λ e. cc) limit same_put (refl, inl (both.1, omega arith, head_awaits request (answered.gone ++ now.ahead) head.ends.0 both.0)) tt (λ e. cc) halts_so
+    by halts.Platform limit (same_put, ends, may, halts_so) = none halts.Platform (λ e. cc) limit same_put (refl, (request, answered.gone ++ now.ahead, may, tt, refl)) tt (λ e. cc) halts_so
+    by halts.Tape limit (same_put, ends, may, halts_so) = none halts.Tape (λ e. cc) limit same_put (refl, (request, answered.gone ++ now.ahead, may.0, may.1, refl)) tt (λ e. cc) halts_so
+    by halts.Ledger limit (same_put, ends, may, halts_so) = none halts.Ledger (λ e. cc) limit same_put (refl, (request, answered.gone ++ now.ahead, may.0, may.1, refl)) tt (λ e. cc) halts_so
+    by halts.Memory limit (same_put, ends, may, halts_so) = none halts.Memory (λ e. cc) limit same_put (refl, (request, answered.gone ++ now.ahead, may.0, may.1, refl)) tt (λ e. cc) halts_so
+    by halts.BadRoot limit (same_put, ends, may, halts_so) = absurd ends
+    by halts.NoDevice limit (same_put, ends, may, halts_so) = absurd ends
+    by halts.Unfinished limit (same_put, ends, may, halts_so) = absurd ends
 
 -- ---- one request
 
@@ -373,18 +380,18 @@ flush_finished halt ends is = subst (DataEnd None 0 []) (halt_same halt halts.Un
 
 -- one that halted
 pub answer_halted : (tells : Type 0) (before after : Outside) (session : Session) (size : ℕ) (request : Request) (left : Option (List ℕ)) (gone ahead : List ℕ) (written : Option (List ℕ)) (halt : Halt) → DataEnd left (bytes_behind request.kind request.length) (gone ++ ahead) halt
-    → Halts tells before after session request.kind halt → AnswerEnd tells before after session size request left gone ahead written written (Err halt)
-answer_halted tells before after session size request left gone ahead written (halts.Client stops.Source) ends halts_so = (refl, ends, halts_so)
-answer_halted tells before after session size request left gone ahead written (halts.Client stops.Limit) ends halts_so = (refl, ends, halts_so)
-answer_halted tells before after session size request left gone ahead written (halts.Client stops.Broken) ends halts_so = (refl, ends, halts_so)
-answer_halted tells before after session size request left gone ahead written (halts.Client stops.Sink) ends halts_so = absurd ends
-answer_halted tells before after session size request left gone ahead written halts.Platform ends halts_so = (refl, ends, halts_so)
-answer_halted tells before after session size request left gone ahead written halts.Tape ends halts_so = (refl, ends, halts_so)
-answer_halted tells before after session size request left gone ahead written halts.Ledger ends halts_so = (refl, ends, halts_so)
-answer_halted tells before after session size request left gone ahead written halts.Memory ends halts_so = (refl, ends, halts_so)
-answer_halted tells before after session size request left gone ahead written halts.BadRoot ends halts_so = (refl, ends, halts_so)
-answer_halted tells before after session size request left gone ahead written halts.NoDevice ends halts_so = (refl, ends, halts_so)
-answer_halted tells before after session size request left gone ahead written halts.Unfinished ends halts_so = (refl, ends, halts_so)
+    → MayHalt request.kind (refusal size request) halt → Halts tells before after session request.kind halt → AnswerEnd tells before after session size request left gone ahead written written (Err halt)
+answer_halted tells before after session size request left gone ahead written (halts.Client stops.Source) ends may halts_so = (refl, ends, may, halts_so)
+answer_halted tells before after session size request left gone ahead written (halts.Client stops.Limit) ends may halts_so = (refl, ends, may, halts_so)
+answer_halted tells before after session size request left gone ahead written (halts.Client stops.Broken) ends may halts_so = (refl, ends, may, halts_so)
+answer_halted tells before after session size request left gone ahead written (halts.Client stops.Sink) ends may halts_so = absurd ends
+answer_halted tells before after session size request left gone ahead written halts.Platform ends may halts_so = (refl, ends, may, halts_so)
+answer_halted tells before after session size request left gone ahead written halts.Tape ends may halts_so = (refl, ends, may, halts_so)
+answer_halted tells before after session size request left gone ahead written halts.Ledger ends may halts_so = (refl, ends, may, halts_so)
+answer_halted tells before after session size request left gone ahead written halts.Memory ends may halts_so = (refl, ends, may, halts_so)
+answer_halted tells before after session size request left gone ahead written halts.BadRoot ends may halts_so = (refl, ends, may, halts_so)
+answer_halted tells before after session size request left gone ahead written halts.NoDevice ends may halts_so = (refl, ends, may, halts_so)
+answer_halted tells before after session size request left gone ahead written halts.Unfinished ends may halts_so = (refl, ends, may, halts_so)
 
 reply_length : (kind : RequestKind) (count : ℕ) (outcome : Outcome) (room : List ℕ) → (kind ≡ kinds.Read → outcome ≡ outcomes.Done → 16 + count ≤ length room) → length (bytes_of_reply kind count outcome room) ≡ bytes_told kind outcome count
 reply_length kinds.Read count outcomes.Done room there = let long = there refl refl in omega (arith, long, length-take count (drop 16 room), length-drop 16 room)
@@ -398,9 +405,9 @@ reply_length kinds.Flush count outcome room there = refl
 reply_length kinds.Trim count outcome room there = refl
 reply_length (kinds.Other number) count outcome room there = refl
 
-pub is_reply : (size : ℕ) (request : Request) (outcome : Outcome) (room : List ℕ) → IfSome (refusal size request) (λ why. outcome ≡ why) → (request.kind ≡ kinds.Read → outcome ≡ outcomes.Done → 16 + request.length ≤ length room)
+pub is_reply : (size : ℕ) (request : Request) (outcome : Outcome) (room : List ℕ) → ComesTo request.kind (refusal size request) outcome → (request.kind ≡ kinds.Read → outcome ≡ outcomes.Done → 16 + request.length ≤ length room)
     → IsReplyTo size request (record { outcome = outcome; cookie = request.cookie; bytes = bytes_of_reply request.kind request.length outcome room })
-is_reply size request outcome room refused there = record { cookie = refl; refused = refused; bytes = reply_length request.kind request.length outcome room there }
+is_reply size request outcome room comes there = record { cookie = refl; comes = comes; bytes = reply_length request.kind request.length outcome room there }
 
 -- one that could not be told whole
 pub answer_cut : (tells : Type 0) (before after : Outside) (session : Session) (size : ℕ) (request : Request) (left : Option (List ℕ)) (gone ahead : List ℕ) (written written_now : Option (List ℕ)) (stop : Stop) (reply : Reply) → stop ≡ stops.Sink

@@ -1,5 +1,5 @@
 -- Requests that came, and their replies, on any image.
-use Rattle.std.specs.Prelude.{◌≡◌, ◌≢◌, ◌≤◌, ◌<◌, ◌-◌, ◌*◌, ◌⊎◌, ℕ, List, [], ◌∷◌, ◌++◌, All, Option, None, Some, Result, Ok, Err, IfErr, IfSome, length, map, take}
+use Rattle.std.specs.Prelude.{◌≡◌, ◌≢◌, ◌≤◌, ◌<◌, ◌-◌, ◌*◌, ◌⊎◌, ℕ, List, [], ◌∷◌, ◌++◌, All, Option, None, Some, Result, Ok, Err, IfErr, length, map, take}
 use Rattle.std.specs.List.{flat_map}
 use Rattle.sdbt_base.specs.Told.{Got, GotPart, IsAtEnd}
 use Rattle.device_course.specs.States.{Outside}
@@ -22,7 +22,7 @@ use Rattle.nbd_core.specs.Exchanges.{Exchange, sent_of, told_of}
 use Rattle.nbd_core.specs.Room.{Room, Came, IsShorter}
 use Rattle.nbd_core.specs.Requests.{AwaitsRequest, IsBrokenRequest, DataEnd}
 use Rattle.nbd_core.specs.Short.{AreShort, Spends, updates_in}
-use Rattle.nbd_core.specs.Turns.{Turns, Halts, IsOfCommit, OnArray}
+use Rattle.nbd_core.specs.Turns.{Turns, Halts, BeginsWith, ComesTo, DrawsKeys, IsOfCommit, MayHalt, OnArray}
 use Rattle.nbd_core.specs.declared.stop.Stop.TheVariants as stops
 use Rattle.nbd_core.specs.declared.halts.Halt.{Halt}
 use Rattle.nbd_core.specs.declared.halts.Halt.TheVariants as halts
@@ -32,10 +32,11 @@ abbrev pub bytes_told : RequestKind → Outcome → ℕ → ℕ
 bytes_told kinds.Read outcomes.Done count = count
 bytes_told _ _ count = 0
 
--- a reply to a request on a device of so many bytes: what is refused by its head is answered so
+-- a reply to a request on a device of so many bytes: what is refused by its head is answered so, and
+-- else what such a request may come to
 pub record IsReplyTo (size : ℕ) (request : Request) (reply : Reply) : Type 0 where
   pub cookie : reply.cookie ≡ request.cookie
-  pub refused : IfSome (refusal size request) (λ why. reply.outcome ≡ why)
+  pub comes : ComesTo request.kind (refusal size request) reply.outcome
   pub bytes : length reply.bytes ≡ bytes_told request.kind reply.outcome request.length
 
 -- how a request ended of which these bytes came behind its head: its reply was put, or a part of it;
@@ -49,7 +50,8 @@ AnswerEnd tells before after session size request left gone ahead written writte
     (length gone ≡ bytes_behind request.kind request.length) × (reply : Reply) × IsReplyTo size request reply × GotPart written (reply_bytes reply) written_now
     × Turns tells before after session None (record { head = request; bytes = gone }) reply × (tells → IsDamage after.history.present reply.outcome)
 AnswerEnd tells before after session size request left gone ahead written written_now (Err halt) =
-    (written_now ≡ written) × DataEnd left (bytes_behind request.kind request.length) (gone ++ ahead) halt × Halts tells before after session request.kind halt
+    (written_now ≡ written) × DataEnd left (bytes_behind request.kind request.length) (gone ++ ahead) halt × MayHalt request.kind (refusal size request) halt
+    × Halts tells before after session request.kind halt
 
 pub record Answered (tells : Type 0) (before after : Outside) (session : Session) (size : ℕ) (request : Request) (left left_now : Option (List ℕ)) (old new : Room) (written written_now : Option (List ℕ)) (result : Result Session Halt) : Type 0 where
   pub gone : List ℕ
@@ -85,7 +87,7 @@ pub record IsCutOff (size : ℕ) (rest ahead part : List ℕ) : Type 0 where
   pub put : part ≡ take count (replied_bytes exchange)
 
 -- how requests ended, all of which have their reply: with a rest behind them, and a part of one reply
--- more
+-- more. Where the device halted the run, the rest begins with a request that may do so
 abbrev pub ServedEnd : ℕ → List ℕ → List ℕ → Option (List ℕ) → List ℕ → Result (Unit {0}) Halt → Type 0
 ServedEnd size rest part left ahead (Ok done) = (part ≡ []) × (((rest ≡ []) × IsAtEnd left) ⊎ IsGoodbye rest ahead)
 ServedEnd size rest part left ahead (Err halts.Unfinished) = (part ≡ []) × IsGoodbye rest ahead
@@ -93,10 +95,10 @@ ServedEnd size rest part left ahead (Err (halts.Client stops.Source)) = (part �
 ServedEnd size rest part left ahead (Err (halts.Client stops.Limit)) = (part ≡ []) × AwaitsRequest rest
 ServedEnd size rest part left ahead (Err (halts.Client stops.Broken)) = (part ≡ []) × IsBrokenRequest left rest
 ServedEnd size rest part left ahead (Err (halts.Client stops.Sink)) = IsCutOff size rest ahead part
-ServedEnd size rest part left ahead (Err halts.Platform) = part ≡ []
-ServedEnd size rest part left ahead (Err halts.Tape) = part ≡ []
-ServedEnd size rest part left ahead (Err halts.Ledger) = part ≡ []
-ServedEnd size rest part left ahead (Err halts.Memory) = part ≡ []
+ServedEnd size rest part left ahead (Err halts.Platform) = (part ≡ []) × BeginsWith size (λ kind. Unit {0}) rest
+ServedEnd size rest part left ahead (Err halts.Tape) = (part ≡ []) × BeginsWith size DrawsKeys rest
+ServedEnd size rest part left ahead (Err halts.Ledger) = (part ≡ []) × BeginsWith size IsOfCommit rest
+ServedEnd size rest part left ahead (Err halts.Memory) = (part ≡ []) × BeginsWith size IsOfCommit rest
 ServedEnd size rest part left ahead (Err halts.BadRoot) = ⊥
 ServedEnd size rest part left ahead (Err halts.NoDevice) = ⊥
 

@@ -1,5 +1,5 @@
 -- What requests make of a session's array, and of the device below it.
-use Rattle.std.specs.Prelude.{◌≡◌, ◌⊎◌, ◌-◌, ℕ, List, [], ◌∷◌, Option, Some, Result, Ok, Err, IfOk, IfSome}
+use Rattle.std.specs.Prelude.{◌≡◌, ◌⊎◌, ◌-◌, ℕ, List, [], ◌∷◌, ◌++◌, Option, None, Some, Result, Ok, Err, IfOk, IfSome}
 use Rattle.sdbt_base.specs.Arrays.{session_on}
 use Rattle.platform.specs.declared.platforms.Platform.{Ghosts as PlatformGhosts}
 use Rattle.platform.specs.History.{History}
@@ -9,8 +9,11 @@ use Rattle.device_course.specs.Course.{MadeBetween}
 use Rattle.device_course.specs.States.{Outside}
 use Rattle.device_session.specs.Sessions.{Session}
 use Rattle.nbd_lang.specs.Replies.{Reply}
-use Rattle.nbd_lang.specs.Requests.{RequestSent}
+use Rattle.nbd_lang.specs.Requests.{RequestSent, request_head}
+use Rattle.nbd_lang.specs.declared.requests.Request.{Request}
+use Rattle.nbd_lang.specs.Refusals.{refusal}
 use Rattle.nbd_lang.specs.declared.replies.Outcome.{Outcome}
+use Rattle.nbd_lang.specs.declared.replies.Outcome.TheVariants as outcomes
 use Rattle.nbd_lang.specs.declared.requests.RequestKind.{RequestKind}
 use Rattle.nbd_lang.specs.declared.requests.RequestKind.TheVariants as kinds
 use Rattle.device_course.specs.Held.{Held, IsHeld, device_of}
@@ -44,6 +47,62 @@ IsOfCommit kinds.Read = ⊥
 IsOfCommit kinds.Write = ⊥
 IsOfCommit kinds.Trim = ⊥
 IsOfCommit (kinds.Other number) = ⊥
+
+-- requests for which keys are drawn
+abbrev pub DrawsKeys : RequestKind → Type 0
+DrawsKeys kinds.Write = Unit {0}
+DrawsKeys kinds.Flush = Unit {0}
+DrawsKeys kinds.Disconnect = Unit {0}
+DrawsKeys kinds.Read = ⊥
+DrawsKeys kinds.Trim = ⊥
+DrawsKeys (kinds.Other number) = ⊥
+
+-- which request may halt a run where its client isn't to blame: one that its head doesn't refuse; at a
+-- fault of the tape one for which keys are drawn; and at one of the ledger, or for want of memory, one
+-- that makes a commit: to each other one want of memory is a reply
+abbrev pub MayHalt : RequestKind → Option Outcome → Halt → Type 0
+MayHalt kind refused halts.Platform = refused ≡ None
+MayHalt kind refused halts.Tape = (refused ≡ None) × DrawsKeys kind
+MayHalt kind refused halts.Ledger = (refused ≡ None) × IsOfCommit kind
+MayHalt kind refused halts.Memory = (refused ≡ None) × IsOfCommit kind
+MayHalt kind refused (halts.Client stop) = Unit {0}
+MayHalt kind refused halts.BadRoot = ⊥
+MayHalt kind refused halts.NoDevice = ⊥
+MayHalt kind refused halts.Unfinished = ⊥
+
+-- requests for which blocks are read, written or trimmed
+abbrev pub IsOfBlocks : RequestKind → Type 0
+IsOfBlocks kinds.Read = Unit {0}
+IsOfBlocks kinds.Write = Unit {0}
+IsOfBlocks kinds.Trim = Unit {0}
+IsOfBlocks kinds.Flush = ⊥
+IsOfBlocks kinds.Disconnect = ⊥
+IsOfBlocks (kinds.Other number) = ⊥
+
+-- what a request may come to that its head doesn't refuse, on any image: it is done; memory lacks, or a
+-- page doesn't fit, for one of blocks; and pages lack for one that draws keys
+abbrev pub MayCome : RequestKind → Outcome → Type 0
+MayCome kind outcomes.Done = Unit {0}
+MayCome kind outcomes.NoMemory = IsOfBlocks kind
+MayCome kind outcomes.Damaged = IsOfBlocks kind
+MayCome kind outcomes.NoSpace = DrawsKeys kind
+MayCome kind outcomes.Invalid = ⊥
+
+abbrev pub EndsAs : RequestKind → Result Outcome Halt → Type 0
+EndsAs kind (Ok outcome) = MayCome kind outcome
+EndsAs kind (Err halt) = MayHalt kind None halt
+
+-- what a request comes to: what its head is refused with, if it is; else what it may come to
+abbrev pub ComesTo : RequestKind → Option Outcome → Outcome → Type 0
+ComesTo kind refused outcome = IfSome refused (λ why. outcome ≡ why) × (refused ≡ None → MayCome kind outcome)
+
+abbrev pub IsByHead : RequestKind → Option Outcome → Result Outcome Halt → Type 0
+IsByHead kind refused (Ok outcome) = ComesTo kind refused outcome
+IsByHead kind refused (Err halt) = MayHalt kind refused halt
+
+-- these bytes begin with a request that its head doesn't refuse, of such a kind
+abbrev pub BeginsWith : ℕ → (RequestKind → Type 0) → List ℕ → Type 0
+BeginsWith size Is bytes = (request : Request) × (more : List ℕ) × (refusal size request ≡ None) × Is request.kind × (bytes ≡ request_head request ++ more)
 
 -- what a request led to that halted the run: nothing; or, where the platform failed in a commit, it may
 -- be the commit's state. Where too few pages are free for the commit of a disconnect, they are

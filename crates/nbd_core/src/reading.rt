@@ -1,5 +1,5 @@
 //! Reads.
-ghost use Rattle.std.specs.Prelude.{Some, ◌≡◌, ◌+◌, ◌*◌, ◌≤◌, ◌<◌, ℕ, List, Option, IfErr, IfOk, IsTrue, length};
+ghost use Rattle.std.specs.Prelude.{Some, ◌≡◌, ◌+◌, ◌*◌, ◌≤◌, ◌<◌, ℕ, IfErr, IfOk, IsTrue, length};
 ghost use Rattle.device_session.specs.Open.{IsOpen, blocks_of};
 ghost use Rattle.session_calls.specs.Along.{Along, Drawn};
 ghost use Rattle.sdbt_base.specs.Counts.{Counts};
@@ -9,11 +9,10 @@ ghost use Rattle.nbd_core.specs.Arrays.{ReadsBytes};
 ghost use Rattle.session_calls.specs.Damage.{IsMounted, MeetsDamage};
 ghost use Rattle.nbd_core.specs.Damages.{TellsDamage};
 ghost use Rattle.nbd_core.specs.Halts.{Blames};
-ghost use Rattle.nbd_core.specs.Requests.{DataEnd};
 ghost use Rattle.nbd_terms.specs.Turn.{Reads};
 ghost use Rattle.session_calls.specs.Calling.{Calls};
 ghost use Rattle.nbd_core.specs.Serving.{IsWithin, bytes_of_reply};
-ghost use Rattle.nbd_core.specs.Turns.{LeadsOn};
+ghost use Rattle.nbd_core.specs.Turns.{LeadsOn, MayCome};
 
 use crate::halts::{Halt, after_stop};
 use byte_arrays::Part;
@@ -38,7 +37,8 @@ pub(crate) fn read<P: Platform>(
     ensures blame { (rest : Counts)
         → Blames (record rest { platform = P.faults platform.old })
         (record rest { platform = P.faults platform.new }) result }
-    ensures halts { (left : Option (List ℕ)) (came : List ℕ) → IfErr result (DataEnd left 0 came) }
+    ensures halts { IfErr result (λ halt. halt ≡ Halt.Platform) }
+    ensures comes { IfOk result (MayCome RequestKind.Read) }
     ensures room { IfOk result (λ outcome. outcome ≡ Outcome.Done
         → 16 + request.now.length ≤ length reply.new.items) }
     ensures leads { LeadsOn P.Platform platform.old platform.new session.old session.new

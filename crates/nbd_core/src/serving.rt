@@ -18,7 +18,7 @@ ghost use Rattle.nbd_terms.specs.Turn.{Answers};
 ghost use Rattle.nbd_core.specs.Halts.{Blames, commit_outcome};
 ghost use Rattle.nbd_core.specs.Requests.{DataCame, DataEnd, HeadCame};
 ghost use Rattle.nbd_core.specs.Served.{Answered, EndsByDisconnect, Served};
-ghost use Rattle.nbd_core.specs.Turns.{Finishes, Flushed, IsFrom, LeadsOn, Performs};
+ghost use Rattle.nbd_core.specs.Turns.{ComesTo, Finishes, Flushed, IsByHead, IsFrom, LeadsOn, MayCome, MayHalt, Performs};
 ghost use Rattle.session_calls.specs.Blame.{counts_of};
 ghost use Rattle.session_calls.specs.Carrying.{Carries, IsReady};
 ghost use Rattle.nbd_core.specs.Serving.{goes_on, performed, bytes_of_reply};
@@ -220,8 +220,8 @@ fn perform<P: Platform, T: Tape, I: Source, L: Sink>(
         (record { head = request.now; bytes = gone }) desk.new.reply.items result) result }
     ensures room { IfOk result (λ done. request.now.kind ≡ RequestKind.Read → done.outcome ≡ Outcome.Done
         → 16 + request.now.length ≤ length desk.new.reply.items) }
-    ensures refused { IfOk result (λ done. IfSome (refusal (4096 * blocks_of first) request.now)
-        (λ why. done.outcome ≡ why)) }
+    ensures comes { IfOk result (λ done. ComesTo request.now.kind (refusal (4096 * blocks_of first) request.now) done.outcome) }
+    ensures halted { IfErr result (MayHalt request.now.kind (refusal (4096 * blocks_of first) request.now)) }
     ensures damage { P.tells → IfOk result
         (λ done. IsDamage (P.history platform.new).present done.outcome) }
     ensures spends { (n : ℕ) → needed_by first ≤ 41 * n → IfOk result
@@ -285,7 +285,7 @@ fn serve_blocks<P: Platform, T: Tape, I: Source>(
         result) result }
     ensures room { IfOk result (λ outcome. request.now.kind ≡ RequestKind.Read → outcome ≡ Outcome.Done
         → 16 + request.now.length ≤ length desk.new.reply.items) }
-    ensures refused { IfOk result (λ outcome. IfSome refused (λ why. outcome ≡ why)) }
+    ensures ends { IsByHead request.now.kind refused result }
     ensures damage { P.tells → IsMounted (P.history platform.old).present session.old
         → TellsDamage (P.history platform.new).present result }
     ensures short { IfOk result (λ outcome. refused ≡ None → request.now.kind ≡ RequestKind.Write
@@ -341,6 +341,7 @@ fn flush<P: Platform, T: Tape, L: Sink>(
         (around P.Platform T.Tape L.Sink platform.old tape.old ledger.old)
         (around P.Platform T.Tape L.Sink platform.new tape.new ledger.new) session result }
     ensures sound { IfOk result (λ done. done.outcome ≢ Outcome.Damaged) }
+    ensures comes { IfOk result (λ done. MayCome RequestKind.Flush done.outcome) }
     ensures spends { IfOk result (λ done. FlushSpends (needed_by session)
         (P.capacity platform.new - P.head platform.new) done.session done.outcome) }
 {

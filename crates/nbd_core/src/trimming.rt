@@ -1,5 +1,5 @@
 //! Trims.
-ghost use Rattle.std.specs.Prelude.{ℕ, List, Option, IfErr, length};
+ghost use Rattle.std.specs.Prelude.{◌≡◌, IfErr, IfOk, length};
 ghost use Rattle.byte_arrays.specs.Ranges.{covered_blocks};
 ghost use Rattle.device_session.specs.Open.{IsOpen, blocks_of};
 ghost use Rattle.nbd_terms.specs.Turn.{Trims};
@@ -8,14 +8,13 @@ ghost use Rattle.sdbt_base.specs.Counts.{Counts};
 ghost use Rattle.session_calls.specs.Damage.{IsMounted};
 ghost use Rattle.nbd_core.specs.Damages.{TellsDamage};
 ghost use Rattle.nbd_core.specs.Halts.{Blames};
-ghost use Rattle.nbd_core.specs.Requests.{DataEnd};
 ghost use Rattle.nbd_core.specs.Serving.{IsWithin};
-ghost use Rattle.nbd_core.specs.Turns.{LeadsOn};
+ghost use Rattle.nbd_core.specs.Turns.{LeadsOn, MayCome};
 
 use crate::halts::{Halt, after_stop};
 use byte_arrays::covered;
 use device_session::Session;
-use nbd_lang::{Outcome, Request};
+use nbd_lang::{Outcome, Request, RequestKind};
 use platform::Platform;
 use session_calls::trim_block;
 
@@ -33,7 +32,8 @@ pub(crate) fn trim<P: Platform>(
     ensures blame { (rest : Counts)
         → Blames (record rest { platform = P.faults platform.old })
         (record rest { platform = P.faults platform.new }) result }
-    ensures halts { (left : Option (List ℕ)) (came : List ℕ) → IfErr result (DataEnd left 0 came) }
+    ensures halts { IfErr result (λ halt. halt ≡ Halt.Platform) }
+    ensures comes { IfOk result (MayCome RequestKind.Trim) }
     ensures leads { LeadsOn P.Platform platform.old platform.new session.old session.new
         (λ outcome entry next. Trims entry
         (covered_blocks request.now.offset request.now.length) outcome next) result }

@@ -1,5 +1,5 @@
 //! Writes.
-ghost use Rattle.std.specs.Prelude.{Some, IfErr, OnErr, ◌≡◌, ◌≢◌, ◌+◌, ◌-◌, ◌*◌, ◌≤◌, ◌<◌, ◌^◌, ℕ, IfOk, length};
+ghost use Rattle.std.specs.Prelude.{Option, Some, IfErr, OnErr, ◌≡◌, ◌≢◌, ◌+◌, ◌-◌, ◌*◌, ◌≤◌, ◌<◌, ◌^◌, ℕ, IfOk, length};
 ghost use Rattle.byte_arrays.specs.Ranges.{touched_blocks};
 ghost use Rattle.device_session.specs.Open.{IsOpen, blocks_of, needed_by};
 ghost use Rattle.device_course.specs.States.{IsAt};
@@ -15,14 +15,14 @@ ghost use Rattle.nbd_core.specs.Halts.{Blames, outcome_after};
 ghost use Rattle.session_calls.specs.Calling.{Calls};
 ghost use Rattle.nbd_core.specs.Serving.{IsWithin};
 ghost use Rattle.nbd_core.specs.Requests.{DataCame};
-ghost use Rattle.nbd_core.specs.Turns.{LeadsOn};
+ghost use Rattle.nbd_core.specs.Turns.{EndsAs, LeadsOn, MayHalt};
 
 use crate::halts::{Halt, after_stop};
 use crate::intake::Intake;
 use crate::stop::Stop;
 use byte_arrays::{Part, touched};
 use device_session::Session;
-use nbd_lang::{Outcome, Request};
+use nbd_lang::{Outcome, Request, RequestKind};
 use platform::Platform;
 use sdbt_base::{BLOCK, Source, Tape};
 use session_calls::{DeviceStop, read_block, write_block};
@@ -51,6 +51,7 @@ pub(crate) fn write<P: Platform, T: Tape, I: Source>(
         (λ outcome entry next. Writes (P.capacity platform.old - entry.pages) entry
         request.now.offset gone (touched_blocks request.now.offset request.now.length)
         outcome next) result) result }
+    ensures ends { EndsAs RequestKind.Write result }
     ensures damage { P.tells → IsMounted (P.history platform.old).present session.old
         → TellsDamage (P.history platform.new).present result }
     ensures short { IfOk result (λ outcome. outcome ≡ Outcome.NoSpace
@@ -101,6 +102,7 @@ fn write_range<P: Platform, T: Tape, I: Source>(
         → IfOk result (WroteRange (P.history platform.new).present (P.head platform.old)
         (P.head platform.new) (needed_by session.old) session.new device array at gone
         (touched_blocks at count))) result }
+    ensures ends { EndsAs RequestKind.Write result }
     ensures damage { P.tells → IsMounted (P.history platform.old).present session.old
         → TellsDamage (P.history platform.new).present result }
     ensures room { IfOk result (λ outcome. outcome ≢ Outcome.NoSpace) }
@@ -139,6 +141,7 @@ fn give_up<I: Source>(
     ensures bytes { DataCame (I.left input.old) (I.left input.new) intake.old intake.new left
         (λ gone. Unit {0}) result }
     ensures outcome { IfOk result (λ outcome. outcome_after stop ≡ Ok outcome) }
+    ensures ends { EndsAs RequestKind.Write result }
 {
     match after_stop(stop) {
         Ok(outcome) => let_go(intake, input, left, outcome),
@@ -154,6 +157,8 @@ pub(crate) fn let_go<I: Source>(
     outcome: Outcome,
 ) -> Result<Outcome, Halt>
     ensures outcome { IfOk result (λ it. it ≡ outcome) }
+    ensures halted { (kind : RequestKind) (refused : Option Outcome)
+        → IfErr result (MayHalt kind refused) }
     ensures blame { (rest : Counts)
         → Blames (record rest { input = I.faults input.old })
         (record rest { input = I.faults input.new }) result }

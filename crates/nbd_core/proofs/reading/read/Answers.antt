@@ -1,9 +1,10 @@
 use Rattle.std.proofs.Common.{◌≡◌, ◌≤◌, ◌+◌, ◌∙◌, ℕ, List, ap, arith, length, length-take, refl, take}
 use Rattle.byte_arrays.specs.Arrays.{bytes_at}
 use Rattle.nbd_terms.specs.Bytes.{array_of}
+use Rattle.nbd_lang.specs.declared.requests.RequestKind.TheVariants.{Read}
 use Rattle.session_calls.proofs.AlongLaws.{along_start}
 use Rattle.session_calls.proofs.CallLaws.{draws_none, no_draw, platform_quiet}
-use Rattle.nbd_core.proofs.BlameLaws.{blame_done, blame_platform, stop_halts}
+use Rattle.nbd_core.proofs.BlameLaws.{blame_done, blame_platform, platform_halts, stop_comes}
 use Rattle.nbd_core.proofs.DamageLaws.{damage_after, done_sound, memory_sound}
 use Rattle.nbd_core.proofs.TurnLaws.{held_still, read_halted, read_room}
 use Rattle.nbd_core.proofs.reading.read.Goals as goal
@@ -29,7 +30,9 @@ returns-in-Err-clause-blame g c rest =
     blame_platform rest _ _ c.in-Err.stop _ calls.along.fell.platform calls.stops calls.cause c.after_stop.ensures
 
 pub returns-in-Err-clause-halts : goal.returns-in-Err-clause-halts
-returns-in-Err-clause-halts g c left came = stop_halts c.in-Err.stop _ left came (c.in-Err.ensures.calls no_draw).stops c.after_stop.ensures
+returns-in-Err-clause-halts g c =
+    let calls = c.in-Err.ensures.calls no_draw in
+    platform_halts _ _ c.in-Err.stop _ calls.stops calls.cause c.after_stop.ensures
 
 pub after_stop-requires : goal.after_stop-requires
 after_stop-requires g c = (c.in-Err.ensures.calls no_draw).stops
@@ -63,3 +66,6 @@ returns-in-Ok-clause-damage g c told mounted = done_sound _
 
 pub returns-in-Err-clause-damage : goal.returns-in-Err-clause-damage
 returns-in-Err-clause-damage g c told mounted = damage_after _ c.in-Err.stop _ (c.in-Err.ensures.damage told mounted) c.after_stop.ensures
+
+pub returns-in-Err-clause-comes : goal.returns-in-Err-clause-comes
+returns-in-Err-clause-comes g c = stop_comes Read c.in-Err.stop _ tt c.after_stop.ensures

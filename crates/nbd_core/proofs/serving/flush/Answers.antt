@@ -1,5 +1,5 @@
 use Rattle.session_calls.proofs.CarryLaws.{carries_committed, carries_stopped, carries_going}
-use Rattle.nbd_core.proofs.BlameLaws.{blame_commit, blame_committed, commit_halts, of_commit}
+use Rattle.nbd_core.proofs.BlameLaws.{blame_commit, blame_committed, commit_comes, commit_halts, of_commit}
 use Rattle.platform.proofs.Moments.{During-now}
 use Rattle.device_terms.specs.Served.{IsServedImage}
 use Rattle.nbd_core.proofs.DamageLaws.{commit_sound}
@@ -43,3 +43,6 @@ returns-in-Ok-clause-sound g c = commit_sound c.in-Ok.done.reply _ c.outcome_of.
 
 pub returns-in-Ok-clause-spends : goal.returns-in-Ok-clause-spends
 returns-in-Ok-clause-spends g c = flush_spent g.P.Platform _ _ _ _ _ _ _ _ c.in-Ok.done.reply _ c.outcome_of.ensures c.in-Ok.ensures.answers
+
+pub returns-in-Ok-clause-comes : goal.returns-in-Ok-clause-comes
+returns-in-Ok-clause-comes g c = commit_comes c.in-Ok.done.reply _ c.outcome_of.ensures

@@ -1,14 +1,16 @@
-use Rattle.std.proofs.Common.{◌≡◌, ◌*◌, ◌∙◌, ℕ, true, false, refl, sym, arith, ap}
+use Rattle.std.proofs.Common.{◌≡◌, ◌*◌, ◌∙◌, ℕ, [], Option, None, true, false, refl, sym, subst, arith, ap}
 use Rattle.nbd_lang.specs.Requests.{bytes_behind}
 use Rattle.session_calls.proofs.CarryLaws.{carries_along, carries_end, carries_going}
 use Rattle.device_session.specs.Open.{blocks_of}
 use Rattle.nbd_lang.specs.Refusals.{refusal}
+use Rattle.nbd_lang.specs.declared.replies.Outcome.{Outcome}
 use Rattle.device_session.specs.Sessions.{Session}
 use Rattle.nbd_core.proofs.DataLaws.{data_over, data_went, no_data}
-use Rattle.nbd_core.proofs.BlameLaws.{blame_as, blame_on}
+use Rattle.nbd_core.proofs.BlameLaws.{blame_as, blame_on, flush_comes, flush_may_halt}
 use Rattle.nbd_core.proofs.DamageLaws.{on_performed}
 use Rattle.nbd_core.proofs.ShortLaws.{blocks_spend, flush_spends}
 use Rattle.nbd_core.proofs.TurnLaws.{blocks_halted, blocks_performed, flush_performed}
+use Rattle.nbd_core.specs.Turns.{ComesTo, MayHalt}
 use Rattle.nbd_core.proofs.serving.perform.Goals as goal
 
 size_of_session : (session : Session) (blocks : ℕ) → blocks ≡ blocks_of session → 4096 * blocks_of session ≡ blocks * 4096
@@ -65,3 +67,25 @@ returns-in-Ok-clause-spends g c n few =
     let whole = c.refusal-refused.ensures ∙ ap (λ (s : ℕ). refusal s c.args.request.now) (sym (size_of_session c.args.first _ c.blocks-2.ensures)) in
     blocks_spend _ _ n c.args.request.now c.refusal-refused.result c.args.first c.serve_blocks.new.session c.in-Ok.outcome whole few c.in-Ok.ensures.along.needs c.in-Ok.ensures.short
     (λ flush none. let no : false ≡ true = c.if-is_flush.ensures.1 (flush, none) in cc)
+
+pub returns-then-is_flush-clause-halted : goal.returns-then-is_flush-clause-halted
+returns-then-is_flush-clause-halted g c =
+    let both = c.if-is_flush.ensures.0 refl in
+    flush_may_halt c.args.request.now.kind _ c.flush.result both.0
+    (ap (λ (s : ℕ). refusal s c.args.request.now) (size_of_session c.args.first _ c.blocks-2.ensures) ∙ sym c.refusal-refused.ensures ∙ both.1) (c.flush.ensures.halts None [])
+
+pub returns-in-Err-clause-halted : goal.returns-in-Err-clause-halted
+returns-in-Err-clause-halted g c =
+    let whole = c.refusal-refused.ensures ∙ ap (λ (s : ℕ). refusal s c.args.request.now) (sym (size_of_session c.args.first _ c.blocks-2.ensures)) in
+    subst (λ (r : Option Outcome). MayHalt c.args.request.now.kind r c.in-Err.halt) whole c.in-Err.ensures.ends
+
+pub returns-then-is_flush-clause-comes : goal.returns-then-is_flush-clause-comes
+returns-then-is_flush-clause-comes g c =
+    let both = c.if-is_flush.ensures.0 refl in
+    flush_comes c.args.request.now.kind _ c.flush.result both.0
+    (ap (λ (s : ℕ). refusal s c.args.request.now) (size_of_session c.args.first _ c.blocks-2.ensures) ∙ sym c.refusal-refused.ensures ∙ both.1) c.flush.ensures.comes
+
+pub returns-in-Ok-clause-comes : goal.returns-in-Ok-clause-comes
+returns-in-Ok-clause-comes g c =
+    let whole = c.refusal-refused.ensures ∙ ap (λ (s : ℕ). refusal s c.args.request.now) (sym (size_of_session c.args.first _ c.blocks-2.ensures)) in
+    subst (λ (r : Option Outcome). ComesTo c.args.request.now.kind r c.in-Ok.outcome) whole c.in-Ok.ensures.ends

@@ -1,12 +1,13 @@
 use Rattle.std.proofs.Common.{ap, arith, length, sym, []}
 use Rattle.byte_arrays.specs.Ranges.{covered_blocks, touched_blocks}
-use Rattle.nbd_lang.specs.declared.requests.RequestKind.TheVariants.{Trim, Write}
+use Rattle.nbd_lang.specs.declared.requests.RequestKind.TheVariants.{Read, Trim, Write}
 use Rattle.nbd_core.specs.Ample.{blocks_of_range, unless_refused}
 use Rattle.session_calls.proofs.CallLaws.{along_more}
 use Rattle.nbd_core.proofs.ShortLaws.{cost_is, read_short, refused_short, trim_short, write_short}
 use Rattle.nbd_lang.specs.Requests.{bytes_behind}
 use Rattle.session_calls.specs.Along.{drawn_by}
 use Rattle.session_calls.proofs.AlongLaws.{along_start}
+use Rattle.nbd_core.proofs.BlameLaws.{by_head_platform, by_head_refused, by_head_write, platform_ends}
 use Rattle.nbd_core.proofs.DamageLaws.{refused_sound}
 use Rattle.nbd_core.proofs.DataLaws.{data_did, no_data}
 use Rattle.nbd_core.proofs.TurnLaws.{answers_read, answers_refused, answers_trim, answers_write, leads_as, leads_idle}
@@ -26,7 +27,7 @@ returns-in-Read-clause-blame g c rest = c.read.ensures.blame (record rest { tape
 
 pub returns-in-Read-clause-bytes : goal.returns-in-Read-clause-bytes
 returns-in-Read-clause-bytes g c =
-    no_data (g.I.Source.left c.args.input.now) c.args.intake.now _ _ c.read.result (ap (λ k. bytes_behind k c.args.request.now.length) c.in-Read.is) (c.read.ensures.halts (g.I.Source.left c.args.input.now) c.args.intake.now.ahead)
+    no_data (g.I.Source.left c.args.input.now) c.args.intake.now _ _ c.read.result (ap (λ k. bytes_behind k c.args.request.now.length) c.in-Read.is) (platform_ends c.read.result (g.I.Source.left c.args.input.now) c.args.intake.now.ahead c.read.ensures.halts)
     (leads_as g.P.Platform _ _ _ _ _ _ _ (λ outcome entry next is. answers_read _ entry next c.args.request.now _ outcome [] _ c.in-Read.is c.in_default.is is) c.read.ensures.leads)
 
 pub returns-in-Trim-clause-along : goal.returns-in-Trim-clause-along
@@ -56,7 +57,7 @@ returns-in-Trim-clause-blame g c rest = c.trim.ensures.blame (record rest { tape
 
 pub returns-in-Trim-clause-bytes : goal.returns-in-Trim-clause-bytes
 returns-in-Trim-clause-bytes g c =
-    no_data (g.I.Source.left c.args.input.now) c.args.intake.now _ _ c.trim.result (ap (λ k. bytes_behind k c.args.request.now.length) c.in-Trim.is) (c.trim.ensures.halts (g.I.Source.left c.args.input.now) c.args.intake.now.ahead)
+    no_data (g.I.Source.left c.args.input.now) c.args.intake.now _ _ c.trim.result (ap (λ k. bytes_behind k c.args.request.now.length) c.in-Trim.is) (platform_ends c.trim.result (g.I.Source.left c.args.input.now) c.args.intake.now.ahead c.trim.ensures.halts)
     (leads_as g.P.Platform _ _ _ _ _ _ _ (λ outcome entry next is. answers_trim _ entry next c.args.request.now _ outcome [] _ c.in-Trim.is c.in_default.is is) c.trim.ensures.leads)
 
 pub returns-in-Some-clause-bytes : goal.returns-in-Some-clause-bytes
@@ -73,3 +74,15 @@ returns-in-Write-clause-bytes g c =
 
 pub returns-in-Some-clause-damage : goal.returns-in-Some-clause-damage
 returns-in-Some-clause-damage g c told mounted = refused_sound _ _ c.args.request.now _ c.in-Some.outcome _ c.requires.refusal c.in-Some.is c.let_go.ensures.outcome
+
+pub returns-in-Some-clause-ends : goal.returns-in-Some-clause-ends
+returns-in-Some-clause-ends g c = by_head_refused c.args.request.now.kind c.args.refused c.in-Some.outcome c.let_go.result c.in-Some.is c.let_go.ensures.outcome (c.let_go.ensures.halted c.args.request.now.kind c.args.refused)
+
+pub returns-in-Read-clause-ends : goal.returns-in-Read-clause-ends
+returns-in-Read-clause-ends g c = by_head_platform c.args.request.now.kind Read c.args.refused c.read.result c.in-Read.is c.in_default.is c.read.ensures.halts c.read.ensures.comes
+
+pub returns-in-Trim-clause-ends : goal.returns-in-Trim-clause-ends
+returns-in-Trim-clause-ends g c = by_head_platform c.args.request.now.kind Trim c.args.refused c.trim.result c.in-Trim.is c.in_default.is c.trim.ensures.halts c.trim.ensures.comes
+
+pub returns-in-Write-clause-ends : goal.returns-in-Write-clause-ends
+returns-in-Write-clause-ends g c = by_head_write c.args.request.now.kind c.args.refused c.write.result c.in-Write.is c.in_default.is c.write.ensures.ends

@@ -5,6 +5,7 @@ use Rattle.byte_arrays.proofs.RangeLaws.{covered_is, length-blocks_from}
 use Rattle.device_course.specs.States.{IsAt}
 use Rattle.device_session.specs.Open.{needed_by}
 use Rattle.device_course.specs.Held.{trim_all}
+use Rattle.nbd_lang.specs.declared.requests.RequestKind.TheVariants.{Trim}
 use Rattle.session_calls.specs.Along.{Along}
 use Rattle.session_calls.proofs.AlongLaws.{along_start, along_then}
 use Rattle.nbd_lang.specs.declared.replies.Outcome.TheVariants.{Done}
@@ -12,7 +13,7 @@ use Rattle.nbd_core.proofs.ArrayLaws.{trim_halted, trim_step, trimmed_some}
 use Rattle.session_calls.proofs.DamageLaws.{trim_meets}
 use Rattle.nbd_core.proofs.DamageLaws.{damage_after, done_sound}
 use Rattle.nbd_core.proofs.TurnLaws.{trims_lead}
-use Rattle.nbd_core.proofs.BlameLaws.{blame_done, blame_platform, blame_then, stop_halts}
+use Rattle.nbd_core.proofs.BlameLaws.{blame_done, blame_platform, blame_then, platform_halts, stop_comes}
 use Rattle.session_calls.proofs.CallLaws.{along_more, draws_none, no_draw, platform_quiet}
 use Rattle.nbd_core.proofs.trimming.trim.Goals as goal
 
@@ -65,7 +66,9 @@ returns-in-Err-clause-blame g c rest =
     blame_then _ _ _ _ (ap (λ (n : ℕ). record rest { platform = n }) c.loop-block.invariant.quiet) (blame_platform rest _ _ c.in-Err.stop _ goes.along.fell.platform goes.stops goes.cause c.after_stop.ensures)
 
 pub returns-in-Err-clause-halts : goal.returns-in-Err-clause-halts
-returns-in-Err-clause-halts g c left came = stop_halts c.in-Err.stop _ left came (c.in-Err.ensures.goes no_draw).stops c.after_stop.ensures
+returns-in-Err-clause-halts g c =
+    let goes = c.in-Err.ensures.goes no_draw in
+    platform_halts _ _ c.in-Err.stop _ goes.stops goes.cause c.after_stop.ensures
 
 pub returns-in-Err-clause-leads : goal.returns-in-Err-clause-leads
 returns-in-Err-clause-leads g c =
@@ -103,3 +106,6 @@ returns-in-Err-clause-damage g c told mounted =
 
 pub returns-clause-damage : goal.returns-clause-damage
 returns-clause-damage g c told mounted = done_sound _
+
+pub returns-in-Err-clause-comes : goal.returns-in-Err-clause-comes
+returns-in-Err-clause-comes g c = stop_comes Trim c.in-Err.stop _ tt c.after_stop.ensures

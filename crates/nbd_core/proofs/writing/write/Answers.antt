@@ -1,9 +1,12 @@
-use Rattle.std.proofs.Common.{ap, refl, length, arith, ◌-◌}
+use Rattle.std.proofs.Common.{None, ap, refl, length, arith, ◌-◌}
 use Rattle.byte_arrays.specs.Ranges.{touched_blocks}
 use Rattle.byte_arrays.proofs.RangeLaws.{length-blocks_from}
+use Rattle.nbd_lang.specs.declared.requests.RequestKind.TheVariants.{Write}
 use Rattle.session_calls.specs.Along.{drawn_by}
 use Rattle.session_calls.proofs.AlongLaws.{along_start}
 use Rattle.session_calls.proofs.CallLaws.{along_more}
+use Rattle.nbd_lang.specs.declared.replies.Outcome.TheVariants.{NoSpace}
+use Rattle.nbd_core.proofs.BlameLaws.{given_ends}
 use Rattle.nbd_core.proofs.DamageLaws.{space_sound}
 use Rattle.nbd_core.proofs.ShortLaws.{never_short}
 use Rattle.nbd_core.proofs.DataLaws.{data_did}
@@ -53,3 +56,6 @@ returns-then-blocks-capacity-clause-short g c =
 
 pub returns-clause-short : goal.returns-clause-short
 returns-clause-short g c = never_short _ c.write_range.result c.write_range.ensures.room
+
+pub returns-then-blocks-capacity-clause-ends : goal.returns-then-blocks-capacity-clause-ends
+returns-then-blocks-capacity-clause-ends g c = given_ends Write NoSpace c.let_go.result tt c.let_go.ensures.outcome (c.let_go.ensures.halted Write None)
