@@ -28,12 +28,7 @@ pub(crate) fn sync(files: &impl Files, path: &str) -> io::Result<()> {
 
 // Opens a file of its own to be read, if there is one of this name.
 fn open<R: Files>(files: &R, path: &str) -> io::Result<Option<R::File>> {
-    answer_of(open_own(
-        files,
-        FolderFile::Root,
-        path,
-        OpenOptions::new().read(true),
-    ))
+    answer_of(open_own(files, FolderFile::Root, path, OpenOptions::new().read(true)))
 }
 
 // What was opened, if there is one; a refusal is an error of the system's.
