@@ -13,11 +13,17 @@ abbrev pub TellsMissing : {T : Type 0} → Result T Error → Result (Option T) 
 TellsMissing (Ok value) told = told ≡ Ok (Some value)
 TellsMissing (Err error) told = (error_kind error ≡ NotFound → told ≡ Ok None) × (error_kind error ≢ NotFound → told ≡ Err error)
 
--- what was opened is there, a missing file isn't, and every failure is handed on
-abbrev pub IsNoneIfMissing : {F T : Type 0} → Result (Option F) Error → Result (Option T) Error → Type 0
+-- what was found is there, what is missing isn't, and every failure is handed on
+abbrev pub IsNoneIfMissing : {E F T : Type 0} → Result (Option F) E → Result (Option T) E → Type 0
 IsNoneIfMissing (Ok (Some file)) told = told ≢ Ok None
 IsNoneIfMissing (Ok None) told = told ≡ Ok None
 IsNoneIfMissing (Err error) told = told ≡ Err error
+
+-- there is nothing only where nothing was found: of every failure, and of what was found, something is said
+abbrev pub IsNoneOnlyIfNone : {E E' F T : Type 0} → Result (Option F) E → Result (Option T) E' → Type 0
+IsNoneOnlyIfNone (Ok (Some file)) told = told ≢ Ok None
+IsNoneOnlyIfNone (Ok None) told = told ≡ Ok None
+IsNoneOnlyIfNone (Err error) told = told ≢ Ok None
 
 -- a lock that another has is a use by another, and that is said of no other failure
 abbrev pub TellsHeld : {T : Type 0} → FolderFile → Result T Error → Result T OpenRefusal → Type 0

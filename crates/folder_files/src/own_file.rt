@@ -5,7 +5,7 @@ ghost use Rattle.std.specs.Prelude.{◌≡◌, ◌≢◌, ◌↔◌, ⊤, IfOk, 
 ghost use Rattle.std.specs.IoError.{error_kind};
 ghost use Rattle.std.specs.declared.io.ErrorKind.TheVariants.{OutOfMemory};
 ghost use Rattle.folder_platform.specs.Refusals.{ShowsCause, IsOwn, IsSame, IsMemory};
-ghost use Rattle.folder_files.specs.Answers.{TellsMissing};
+ghost use Rattle.folder_files.specs.Answers.{TellsMissing, IsNoneIfMissing, IsNoneOnlyIfNone};
 
 use folder_platform::{FolderFile, Found, OpenRefusal, told};
 use std::fs::{self, Metadata, OpenFile, OpenOptions};
@@ -32,7 +32,19 @@ pub fn look<R: Files>(files: &R, file: FolderFile, path: &str) -> Result<Option<
     ensures own { IfOk result (λ found. MatchOption found ⊤ IsOwn) }
     ensures cause { IfErr result (ShowsCause ⊥) }
 {
-    match told(file, unless_missing(fs::symlink_metadata(files, path)))? {
+    own_if_there(file, unless_missing(fs::symlink_metadata(files, path)))
+}
+
+// What was said of a file by its name, if there is one, and it is one of its own.
+fn own_if_there(
+    file: FolderFile,
+    outcome: io::Result<Option<Metadata>>,
+) -> Result<Option<Found>, OpenRefusal>
+    ensures missing { IsNoneOnlyIfNone outcome result }
+    ensures own { IfOk result (λ found. MatchOption found ⊤ IsOwn) }
+    ensures cause { IfErr result (ShowsCause ⊥) }
+{
+    match told(file, outcome)? {
         Some(metadata) => Ok(Some(own(file, &metadata)?)),
         None => Ok(None),
     }
@@ -47,7 +59,22 @@ pub fn open_own<R: Files>(
 ) -> Result<Option<R::File>, OpenRefusal>
     ensures cause { IfErr result (ShowsCause ⊥) }
 {
-    let Some(looked) = look(files, file, path)? else {
+    open_looked(files, file, path, how, look(files, file, path))
+}
+
+// The same once it was looked at: there is none only where none was found.
+fn open_looked<R: Files>(
+    files: &R,
+    file: FolderFile,
+    path: &str,
+    how: &OpenOptions,
+    looked: Result<Option<Found>, OpenRefusal>,
+) -> Result<Option<R::File>, OpenRefusal>
+    requires { IfErr looked (ShowsCause ⊥) }
+    ensures missing { IsNoneIfMissing looked result }
+    ensures cause { IfErr result (ShowsCause ⊥) }
+{
+    let Some(looked) = looked? else {
         return Ok(None);
     };
     let opened = told(file, how.open(files, path))?;

@@ -1,10 +1,11 @@
 //! What is done with the files of a root record, by their names.
-ghost use Rattle.std.specs.Prelude.{◌≡◌, ◌≤◌, ⊤, min, take, length, IfOk, MatchOption};
+ghost use Rattle.std.specs.Prelude.{◌≡◌, ◌≤◌, ⊤, min, take, length, IfOk, IfErr, MatchOption};
 ghost use Rattle.std.specs.Io.KnownBytes.{Consumes};
-ghost use Rattle.folder_files.specs.Answers.{IsNoneIfMissing};
+ghost use Rattle.folder_files.specs.Answers.{IsNoneIfMissing, IsNoneOnlyIfNone};
+ghost use Rattle.folder_platform.specs.Refusals.{ShowsCause};
 
 use crate::own_file::{OWNER_ALONE, error_of, open_own, unless_missing};
-use folder_platform::FolderFile;
+use folder_platform::{FolderFile, OpenRefusal};
 use sdbt_base::{read_whole, write_whole};
 use std::fs::{self, OpenFile, OpenOptions};
 use std::io::{self, Read};
@@ -27,7 +28,15 @@ pub(crate) fn sync(files: &impl Files, path: &str) -> io::Result<()> {
 
 // Opens a file of its own to be read, if there is one of this name.
 fn open<R: Files>(files: &R, path: &str) -> io::Result<Option<R::File>> {
-    match open_own(files, FolderFile::Root, path, OpenOptions::new().read(true)) {
+    answer_of(open_own(files, FolderFile::Root, path, OpenOptions::new().read(true)))
+}
+
+// What was opened, if there is one; a refusal is an error of the system's.
+fn answer_of<F: Drop>(opened: Result<Option<F>, OpenRefusal>) -> io::Result<Option<F>>
+    requires { IfErr opened (ShowsCause ⊥) }
+    ensures { IsNoneOnlyIfNone opened result }
+{
+    match opened {
         Ok(file) => Ok(file),
         Err(refusal) => Err(error_of(refusal)),
     }
