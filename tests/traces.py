@@ -35,7 +35,10 @@ class Call:
         descriptor = re.match(r"(\d+)(?:<([^>]*)>|(?=[,)]|$))", self.words) if self.name not in MEMORY else None
         self.descriptor = int(descriptor[1]) if descriptor else None
         path = self.paths[0] if self.paths else descriptor and descriptor[2] or ""
-        self.kind = {0: "input", 1: "output", 2: "errors"}.get(self.descriptor) or names.get(os.path.realpath(path) if path.startswith("/") else path, "another")
+        if self.paths and (within := re.match(r"(?:AT_FDCWD|\d+)<([^>]*)>", self.words)):
+            path = os.path.join(within[1], path)
+        named = names.get(os.path.realpath(path) if path.startswith("/") else path, "another")
+        self.kind = {0: "input", 1: "output", 2: "errors"}.get(None if self.paths else self.descriptor) or named
         self.text = line
 
 
