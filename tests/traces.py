@@ -13,8 +13,11 @@ PAGE = 4128
 # Calls on memory and time.
 MEMORY = {"mmap", "munmap", "mremap", "brk", "madvise", "exit_group", "rt_sigaction", "clock_gettime", "futex", "ioctl"}
 
+# What only looks at a file, by its name or by a descriptor.
+LOOKING = re.compile(r"^(statx|newfstatat|stat|lstat|fstat)$")
+
 # What names another file or changes one, wherever it is called.
-NAMING = re.compile(r"^(open|creat|truncate|link|symlink|mkdir|mknod|rmdir|chmod|chown|rename|unlink|utime|setxattr|mount|connect|bind|fchmod|fchown|pwrite|writev|sendfile|copy_file|fallocate|memfd)")
+NAMING = re.compile(r"^(statx$|newfstatat$|stat$|lstat$|open|creat|truncate|link|symlink|mkdir|mknod|rmdir|chmod|chown|rename|unlink|utime|setxattr|mount|connect|bind|fchmod|fchown|pwrite|writev|sendfile|copy_file|fallocate|memfd)")
 
 
 def can_trace():
@@ -31,7 +34,9 @@ class Call:
         self.answer = int(answer, 0) if answer != "?" else 0
         counts[self.name] = counts.get(self.name, 0) + 1
         self.number = counts[self.name]
-        self.paths = re.findall(r'(?:^|, )"((?:[^"\\]|\\.)*)"', self.words) if NAMING.match(self.name) else []
+        # A look at a descriptor names the empty path.
+        self.paths = [it for it in re.findall(r'(?:^|, )"((?:[^"\\]|\\.)*)"', self.words) if it] if NAMING.match(self.name) else []
+        self.looks = bool(LOOKING.match(self.name))
         descriptor = re.match(r"(\d+)(?:<([^>]*)>|(?=[,)]|$))", self.words) if self.name not in MEMORY else None
         self.descriptor = int(descriptor[1]) if descriptor else None
         path = self.paths[0] if self.paths else descriptor and descriptor[2] or ""
@@ -43,7 +48,7 @@ class Call:
 
 
 def traced(words, script, cell, folder, more=(), shown=256):
-    """The calls of a run, of whose bytes so many are shown, its outcome, and the place of the first call on its folders."""
+    """The calls of a run, of whose bytes so many are shown, its outcome, and the place of the first call on its source of keys or its folders."""
     names = {str(folder / "media"): "media", str(folder): "folder", str(folder / "ledger"): "ledger", "/dev/urandom": "urandom"}
     names |= {str(cell): "cell", str(cell / "root"): "root", str(cell / "root.new"): "root.new"}
     with tempfile.NamedTemporaryFile("r") as trace:
@@ -53,7 +58,7 @@ def traced(words, script, cell, folder, more=(), shown=256):
         for line in trace:
             if re.match(r"(?:\d+ +)?\w+\(.*\) += ", line):
                 calls.append(Call(line.rstrip("\n"), counts, names | dict(more)))
-    first = next((n for n, call in enumerate(calls) if call.kind in ("cell", "folder")), len(calls))
+    first = next((n for n, call in enumerate(calls) if call.kind in ("urandom", "cell", "folder")), len(calls))
     return calls, ran, first
 
 
