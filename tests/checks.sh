@@ -46,6 +46,12 @@ files() {
     ls "$work/$1" | tr '\n' ' ' | sed 's/ $//'
 }
 
+# spent: sets seconds to the processor time that the commands of this shell have taken
+spent() {
+    times >"$work/times"
+    seconds=$(awk 'NR == 2 { gsub(/[ms]/, " "); print int($1 * 60 + $2 + $3 * 60 + $4) }' "$work/times")
+}
+
 # ends: says how the test ended, which is its status
 ends() {
     if [ "$failed" != 0 ]; then
