@@ -1,9 +1,9 @@
 -- Which keys lines draw that are handled one after another.
-use Rattle.std.proofs.Common.{◌≡◌, ◌⊎◌, ℕ, List, [], ◌∷◌, ◌++◌, Option, Result, Ok, Err, length, inl, inr, refl, sym, ◌∙◌, subst, arith}
+use Rattle.std.proofs.Common.{◌≡◌, ◌⊎◌, ℕ, List, [], ◌∷◌, ◌++◌, Option, Result, Ok, Err, length, inl, inr, refl, sym, subst, arith}
 use Rattle.std.specs.Prelude.{IfOk}
 use Rattle.page_store.specs.Keeping.{DrewAll}
 use Rattle.page_store.proofs.KeepingLaws.{drew_none}
-use Rattle.script_lang.specs.Grammar.{Spells, IsBad}
+use Rattle.script_lang.specs.Grammar.{Spells}
 use Rattle.script_lang.specs.Commands.{Command}
 use Rattle.script_lang.specs.Commands as commands
 use Rattle.script_lang.specs.Replies.{Reply, said}
@@ -11,7 +11,7 @@ use Rattle.script_lang.specs.declared.replies.Reply.{Reply as Given}
 use Rattle.script_lang.specs.declared.replies.Reply.TheVariants as given
 use Rattle.session_calls.specs.declared.stops.DeviceStop.{DeviceStop}
 use Rattle.device_cli.specs.Causes.{Draws, IsOf, PutsEntry}
-use Rattle.device_cli.specs.Drawing.{AreDrawnAt, AreDrawnFor, DrewFor, DrewOn, DrewUntil, Spends}
+use Rattle.device_cli.specs.Drawing.{AreDrawnAt, DrewFor, DrewOn, DrewUntil, Spends}
 use Rattle.device_cli.specs.Pages.{IfNext}
 use Rattle.device_cli.specs.Replied.{outcome}
 

@@ -1,11 +1,12 @@
 -- Replies that were so at a moment, over lines that are handled one after another.
-use Rattle.std.proofs.Common.{◌≡◌, ◌≤◌, ℕ, false, List, [], ◌∷◌, ◌++◌, Option, None, Some, Result, Ok, Err, length, inl, inr, sym, ◌∙◌, subst, arith}
-use Rattle.std.specs.Prelude.{◌⊎◌, IfSome, IfOk, IfErr}
+use Rattle.std.proofs.Common.{◌≡◌, ◌≤◌, ℕ, true, false, List, [], ◌∷◌, ◌++◌, ◌+◌, Option, None, Some, Result, Ok, Err, length, inl, inr, sym, ◌∙◌, ap, subst, arith}
+use Rattle.std.specs.Prelude.{◌≢◌, ◌⊎◌, IfSome, IfOk, IfErr}
+use Rattle.std.proofs.lemmas.Bool.{cases_Bool}
 use Rattle.platform.specs.Image.{Image}
 use Rattle.platform.specs.History.{History, Extends, image_at, moment}
 use Rattle.platform.proofs.Moments.{image_at-now, Extends-refl, Extends-trans}
 use Rattle.root_codec.specs.RootRecord.{FitsRoot}
-use Rattle.device_session.specs.Open.{IsOpen, root_of}
+use Rattle.device_session.specs.Open.{IsOpen, is_touched, number_of, root_of}
 use Rattle.device_session.specs.Sessions.{Session}
 use Rattle.script_lang.specs.Grammar.{Spells, IsBad}
 use Rattle.script_lang.specs.Commands.{Command, Format}
@@ -16,7 +17,7 @@ use Rattle.script_lang.specs.declared.replies.Reply.TheVariants as given
 use Rattle.session_calls.specs.Damage.{IsMounted}
 use Rattle.session_calls.specs.declared.stops.DeviceStop.{DeviceStop}
 use Rattle.session_calls.specs.declared.stops.DeviceStop.TheVariants as stops
-use Rattle.device_cli.specs.Causes.{AnswersAny, AreSo, IsOf, MayReply, MayStop, OnHeld, SoOn, WasSo}
+use Rattle.device_cli.specs.Causes.{AnswersAny, AreSo, IsOf, MayReply, MayStop, OnHeld, SoOn, WasSo, number_behind}
 use Rattle.device_cli.specs.Replied.{outcome}
 use Rattle.device_cli.specs.World.{World}
 
@@ -104,9 +105,27 @@ so_there tells held head old new line command reply spells ready mounted extends
 pub held_has : (held : Option Session) (session : Session) (P : Session → Type 0) → held ≡ Some session → P session → OnHeld held P
 held_has held session P is h = subst (λ (s : Option Session). OnHeld s P) (sym is) h
 
+-- the number that a session has behind a commit
+pub number_is : (session now : Session) (number : ℕ) → number ≡ number_of now → (is_touched session ≡ false → now ≡ session) → (is_touched session ≡ true → number_of now ≡ number_of session + 1)
+    → number ≡ number_behind session
+number_is session now number is same next = elim (cases_Bool (is_touched session)) [
+  | inl holds ↦ rw holds (is ∙ next holds)
+  | inr fails ↦ rw fails (is ∙ ap number_of (same fails))
+]
+
 -- a format of numbers that no device has
+refused_reply : (tells : Type 0) (image : Image) (held : Option Session) (blocks order : ℕ) (reply : Given) (buffer : List ℕ) → (reply ≡ given.NotEmpty) ⊎ (reply ≡ given.Range)
+    → (tells → ((reply ≡ given.NotEmpty) × (image.cell ≢ None)) ⊎ ((reply ≡ given.Range) × (image.cell ≡ None))) → in_limits blocks order ≡ false → MayReply tells image held (Format blocks order) (said reply buffer)
+refused_reply tells image held blocks order reply buffer (inl e) why past =
+    subst (λ (r : Given). MayReply tells image held (Format blocks order) (said r buffer)) (sym e) (tt, λ told. is_full (why told))
+  where
+  is_full : ((reply ≡ given.NotEmpty) × (image.cell ≢ None)) ⊎ ((reply ≡ given.Range) × (image.cell ≡ None)) → image.cell ≢ None
+  is_full (inl (not_empty, full)) = full
+  is_full (inr (range, empty)) = let never : given.NotEmpty ≡ given.Range = sym e ∙ range in absurd cc
+refused_reply tells image held blocks order reply buffer (inr e) why past = subst (λ (r : Given). MayReply tells image held (Format blocks order) (said r buffer)) (sym e) past
+
 pub refused_any : (tells : Type 0) (old now : World) (blocks order : ℕ) (result : Result Given DeviceStop) (buffer : List ℕ) → IfOk result (λ reply. (reply ≡ given.NotEmpty) ⊎ (reply ≡ given.Range))
+    → (tells → IfOk result (λ reply. ((reply ≡ given.NotEmpty) × (old.history.present.cell ≢ None)) ⊎ ((reply ≡ given.Range) × (old.history.present.cell ≡ None))))
     → IfErr result (λ stop. stop ≡ stops.Platform) → in_limits blocks order ≡ false → AnswersAny tells old now (Format blocks order) (outcome result buffer)
-refused_any tells old now blocks order (Ok reply) buffer (inl e) cause past = subst (λ (r : Given). MayReply tells old.history.present old.session (Format blocks order) (said r buffer)) (sym e) tt
-refused_any tells old now blocks order (Ok reply) buffer (inr e) cause past = subst (λ (r : Given). MayReply tells old.history.present old.session (Format blocks order) (said r buffer)) (sym e) past
-refused_any tells old now blocks order (Err stop) buffer either cause past = subst (λ (s : DeviceStop). MayStop tells old.session now.history.present now.head now.capacity (Format blocks order) s) (sym cause) tt
+refused_any tells old now blocks order (Ok reply) buffer either why cause past = refused_reply tells old.history.present old.session blocks order reply buffer either why past
+refused_any tells old now blocks order (Err stop) buffer either why cause past = subst (λ (s : DeviceStop). MayStop tells old.session now.history.present now.head now.capacity (Format blocks order) s) (sym cause) tt

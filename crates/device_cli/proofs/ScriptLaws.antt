@@ -1,6 +1,5 @@
 -- From how a run ends to its exit status.
 use Rattle.std.proofs.Common.{◌≡◌, ◌≢◌, ℕ, ◌+◌, ◌*◌, ◌≤◌, List, [], ◌∷◌, ◌++◌, Option, None, Ok, Err, length, ◌⊎◌, inl, inr, refl, sym, subst, arith, length-append}
-use Rattle.platform.specs.Image.{Image}
 use Rattle.sdbt_base.specs.Told.{Got, IsAtEnd}
 use Rattle.sdbt_base.proofs.ToldLaws.{Gave-nothing, Got-nothing}
 use Rattle.text_lines.specs.Lines.{whole_lines_of, lines_of}

@@ -1,10 +1,12 @@
 -- What a `seize` line tells, and that no other does.
-use Rattle.std.proofs.Common.{◌≡◌, ◌≢◌, ℕ, Bool, Option, None, Some, Result, Ok, Err, refl, sym, ◌∙◌, subst, ap, arith, inl, inr}
-use Rattle.std.specs.Prelude.{nat_lt, ◌&&◌, IfOk}
+use Rattle.std.proofs.Common.{◌≡◌, ◌≢◌, ℕ, Bool, List, [], Option, None, Some, Result, Ok, Err, refl, sym, ◌∙◌, subst, ap, arith, inl, inr}
+use Rattle.std.specs.Prelude.{nat_lt, ◌&&◌, IfOk, length}
 use Rattle.std.proofs.lemmas.Bool.{cases_Bool}
 use Rattle.platform.specs.Image.{Image}
 use Rattle.platform.specs.History.{Steps, moment}
 use Rattle.platform.proofs.Moments.{image_at-now}
+use Rattle.seizure.specs.Opened.{count_of_kind}
+use Rattle.seizure.specs.Report.{Begins, IsSeizure, Seized as Report}
 use Rattle.script_lang.specs.Arrays.{Counted, in_limits, needs_room, step}
 use Rattle.script_lang.specs.Answers.{answer}
 use Rattle.script_lang.specs.Commands.{Command}
@@ -81,6 +83,19 @@ saw_of old new entry command (Ok reply) other (now, is, rep, turns) =
     saw_plain old.history new.history entry.device old.head reply turns.extends
     (λ told nodes blocks e. answer_seized (is_full old command) is.0 entry command told nodes blocks other (sym (ap (λ (p : Reply × State). p.0) is.1) ∙ e))
 saw_of old new entry command (Err stop) other h = tt
+
+-- what a seizure's report counts of an image
+pub counted_of : (image : Image) (head : ℕ) (report : Report) → length image.recorded ≡ head → (there : (roots : List (List ℕ)) × Begins head image.cell [] roots × IsSeizure roots image.readable report)
+    → IsCounted image report.pages (count_of_kind 2 report.opened) (count_of_kind 1 report.opened)
+counted_of image head report pages (roots, begins, exact) = record {
+  roots = roots;
+  begins = subst (λ (n : ℕ). Begins n image.cell [] roots) (sym pages) begins;
+  seized = report;
+  exact = exact;
+  pages_are = refl;
+  nodes_are = refl;
+  blocks_are = refl;
+}
 
 -- what a seizure counted of an image that stayed
 pub saw_seized : (old new : World) (entry : State) (told nodes blocks : ℕ) → Represents old entry → Steps old.history new.history → new.history.present ≡ old.history.present

@@ -11,9 +11,9 @@ use Rattle.sdbt_base.specs.Arrays.{Blocks, content_of, closed, Device, Session a
 use Rattle.device_session.specs.Open.{is_touched}
 use Rattle.device_session.specs.Holds.{Holds}
 use Rattle.device_session.specs.Sessions.{Session}
-use Rattle.script_lang.specs.Commands.{Command, Format, Mount, Read, Write, Trim, Commit, Drop, Erase, Seize}
+use Rattle.script_lang.specs.Commands.{Command, Format, Read, Write, Trim, Commit, Drop}
 use Rattle.script_lang.specs.Commands as commands
-use Rattle.script_lang.specs.Replies.{Reply, Formatted, Mounted, Content, Done, Committed, Dropped, Erased, Unmounted, AlreadyMounted, NotEmpty, NoDevice, Range, Full}
+use Rattle.script_lang.specs.Replies.{Reply, Formatted, Done, Committed, Unmounted, Range, Full}
 use Rattle.script_lang.specs.Replies as replies
 use Rattle.script_lang.specs.Arrays.{content_reply, in_limits}
 use Rattle.script_lang.specs.Answers.{answer, none_counted}

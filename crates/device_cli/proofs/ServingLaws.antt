@@ -11,10 +11,10 @@ use Rattle.device_session.specs.Open.{is_touched, needed_by}
 use Rattle.device_session.specs.Holds.{Holds}
 use Rattle.device_session.specs.Sessions.{Session}
 use Rattle.script_lang.specs.Commands.{Command}
-use Rattle.script_lang.specs.Commands.{Format, Mount, Read, Write, Trim, Commit, Drop, Erase, Seize}
+use Rattle.script_lang.specs.Commands.{Format, Mount, Drop, Erase, Seize}
 use Rattle.script_lang.specs.Commands as commands
 use Rattle.script_lang.specs.Replies.{Reply}
-use Rattle.script_lang.specs.Replies.{Formatted, Mounted, Done, Committed, Dropped, Erased, Unmounted, AlreadyMounted, NotEmpty, NoDevice, Range, Full, Seized}
+use Rattle.script_lang.specs.Replies.{Formatted, Mounted, Dropped, Erased, Unmounted, AlreadyMounted, NotEmpty, NoDevice, Full, Seized}
 use Rattle.script_lang.specs.Replies as replies
 use Rattle.sdbt_base.specs.Arrays.{Device, Session as OpenSession, State, new_device, session_on, closed}
 use Rattle.script_lang.specs.Arrays.{in_limits}

@@ -1,12 +1,12 @@
 -- Why a command is answered so, on any image, forged ones too.
-use Rattle.std.specs.Prelude.{◌≡◌, ◌<◌, ◌≤◌, ◌⊎◌, ℕ, true, false, List, [], ◌∷◌, Option, None, Some, Result, Ok, Err, IfSome}
+use Rattle.std.specs.Prelude.{if◌then◌else◌, ◌≡◌, ◌≢◌, ◌<◌, ◌≤◌, ◌⊎◌, ◌+◌, ℕ, true, false, List, [], ◌∷◌, Option, None, Some, Result, Ok, Err, IfSome}
 use Rattle.platform.specs.Image.{Image}
 use Rattle.platform.specs.History.{History, Extends, image_at, moment}
 use Rattle.root_codec.specs.declared.root.Root.{Root}
 use Rattle.root_codec.specs.RootRecord.{FitsRoot, root_bytes}
 use Rattle.page_store.specs.Roots.{IsBadCell, IsRootWithin}
 use Rattle.device_session.specs.Damage.{IsFound, HasRoom}
-use Rattle.device_session.specs.Open.{blocks_of, is_touched, root_of}
+use Rattle.device_session.specs.Open.{blocks_of, is_touched, number_of, root_of}
 use Rattle.device_session.specs.Reading.{FindsContent}
 use Rattle.device_session.specs.Sessions.{Session}
 use Rattle.script_lang.specs.Arrays.{in_limits, trimmed}
@@ -18,6 +18,7 @@ use Rattle.script_lang.specs.Replies as given
 use Rattle.session_calls.specs.Damage.{IsMounted, IsWrongPlace, IsWrongPage}
 use Rattle.session_calls.specs.declared.stops.DeviceStop.{DeviceStop}
 use Rattle.session_calls.specs.declared.stops.DeviceStop.TheVariants as device
+use Rattle.device_cli.specs.Seen.{IsCounted}
 use Rattle.device_cli.specs.World.{World}
 
 -- ---- stops
@@ -108,23 +109,45 @@ CanBeDone tells image held (commands.Write block content) = OnHeld held (λ sess
 CanBeDone tells image held (commands.Trim block) = OnHeld held (λ session. tells → IsFound false image.readable session block ⊎ (1 ≤ session.mapped))
 CanBeDone tells image held _ = ⊥
 
--- the reply is one of the command's own, which gives no content and tells of no block
-abbrev pub IsOwnReply : Command → Reply → Type 0
-IsOwnReply (commands.Format blocks order) given.Formatted = Unit {0}
-IsOwnReply (commands.Format blocks order) given.NotEmpty = Unit {0}
-IsOwnReply (commands.Format blocks order) given.Full = Unit {0}
-IsOwnReply commands.Mount (given.Mounted number) = Unit {0}
-IsOwnReply commands.Mount given.AlreadyMounted = Unit {0}
-IsOwnReply commands.Mount given.NoDevice = Unit {0}
-IsOwnReply (commands.Write block content) given.Full = Unit {0}
-IsOwnReply commands.Commit (given.Committed number) = Unit {0}
-IsOwnReply commands.Commit given.Full = Unit {0}
-IsOwnReply commands.Drop given.Dropped = Unit {0}
-IsOwnReply commands.Erase given.Erased = Unit {0}
-IsOwnReply commands.Erase given.NoDevice = Unit {0}
-IsOwnReply commands.Stat (given.Stat mapped number) = Unit {0}
-IsOwnReply commands.Seize (given.Seized pages nodes blocks) = Unit {0}
-IsOwnReply _ _ = ⊥
+-- the cell has a root record with this commit number
+abbrev pub HasNumber : Image → ℕ → Type 0
+HasNumber image number = (root : Root) × FitsRoot root × (image.cell ≡ Some (root_bytes root)) × (number ≡ root.commit)
+
+-- the number of a commit of the session: the next one, if something was changed
+abbrev pub number_behind : Session → ℕ
+number_behind session = if is_touched session then number_of session + 1 else number_of session
+
+-- the reply is one of the command's own, which gives no content and tells of no block: there is a session, or none; its numbers are the session's; and pages lack for numbers of a device, for a block of it,
+-- or for changes
+abbrev pub IsOwnReply : Option Session → Command → Reply → Type 0
+IsOwnReply held (commands.Format blocks order) given.Formatted = in_limits blocks order ≡ true
+IsOwnReply held (commands.Format blocks order) given.NotEmpty = Unit {0}
+IsOwnReply held (commands.Format blocks order) given.Full = in_limits blocks order ≡ true
+IsOwnReply held commands.Mount (given.Mounted number) = held ≡ None
+IsOwnReply held commands.Mount given.AlreadyMounted = held ≢ None
+IsOwnReply held commands.Mount given.NoDevice = held ≡ None
+IsOwnReply held (commands.Write block content) given.Full = OnHeld held (λ session. block < blocks_of session)
+IsOwnReply held commands.Commit (given.Committed number) = OnHeld held (λ session. number ≡ number_behind session)
+IsOwnReply held commands.Commit given.Full = OnHeld held (λ session. is_touched session ≡ true)
+IsOwnReply held commands.Drop given.Dropped = held ≢ None
+IsOwnReply held commands.Erase given.Erased = Unit {0}
+IsOwnReply held commands.Erase given.NoDevice = Unit {0}
+IsOwnReply held commands.Stat (given.Stat mapped number) = OnHeld held (λ session. (mapped ≡ session.mapped) × (number ≡ number_of session))
+IsOwnReply held commands.Seize (given.Seized pages nodes blocks) = Unit {0}
+IsOwnReply held _ _ = ⊥
+
+-- and it is so of the image: the cell is full where there is a device to be erased or in the way of a format, and empty where there is none or one is made; the number of a mount is that of the root record in
+-- it; and a seizure of the image counts so many
+abbrev pub IsOfImage : Image → Command → Reply → Type 0
+IsOfImage image (commands.Format blocks order) given.Formatted = image.cell ≡ None
+IsOfImage image (commands.Format blocks order) given.NotEmpty = image.cell ≢ None
+IsOfImage image (commands.Format blocks order) given.Full = image.cell ≡ None
+IsOfImage image commands.Mount (given.Mounted number) = HasNumber image number
+IsOfImage image commands.Mount given.NoDevice = image.cell ≡ None
+IsOfImage image commands.Erase given.Erased = image.cell ≢ None
+IsOfImage image commands.Erase given.NoDevice = image.cell ≡ None
+IsOfImage image commands.Seize (given.Seized pages nodes blocks) = IsCounted image pages nodes blocks
+IsOfImage image _ _ = Unit {0}
 
 -- the command may have the reply
 abbrev pub MayReply : Type 0 → Image → Option Session → Command → Reply → Type 0
@@ -132,7 +155,7 @@ MayReply tells image held command given.Range = IsOutOfRange held command
 MayReply tells image held command (given.Content bytes) = HasContent tells image held command bytes
 MayReply tells image held command given.Done = CanBeDone tells image held command
 MayReply tells image held command given.Unmounted = held ≡ None
-MayReply tells image held command reply = IsOwnReply command reply
+MayReply tells image held command reply = IsOwnReply held command reply × (tells → IsOfImage image command reply)
 
 -- the one table of a command's answers on any image
 abbrev pub AnswersAny : Type 0 → World → World → Command → Result Reply DeviceStop → Type 0

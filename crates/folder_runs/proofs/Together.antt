@@ -33,7 +33,7 @@ use Rattle.script_lang.specs.Answers.{IsMark}
 use Rattle.script_lang.specs.Replies.{Reply}
 use Rattle.script_lang.specs.Commands.{Command}
 use Rattle.script_lang.specs.Commands as commands
-use Rattle.device_cli.specs.Causes.{MeetsRecord, IsOf}
+use Rattle.device_cli.specs.Causes.{MeetsRecord}
 use Rattle.device_cli.specs.Pages.{IfNext}
 use Rattle.device_cli.specs.World.{World}
 use Rattle.device_cli.specs.Represents.{StandsFor}

@@ -48,18 +48,18 @@ told_reply tells image held command (given.Content bytes) told h = told_content 
 told_reply tells image held command given.Done told h = told_done tells image held command told h
 told_reply tells image held command given.Range told h = h
 told_reply tells image held command given.Unmounted told h = h
-told_reply tells image held command given.Formatted told h = h
-told_reply tells image held command (given.Mounted number) told h = h
-told_reply tells image held command (given.Committed number) told h = h
-told_reply tells image held command given.Dropped told h = h
-told_reply tells image held command given.Erased told h = h
-told_reply tells image held command (given.Stat mapped number) told h = h
-told_reply tells image held command (given.Seized pages nodes blocks) told h = h
-told_reply tells image held command given.Bad told h = h
-told_reply tells image held command given.AlreadyMounted told h = h
-told_reply tells image held command given.NotEmpty told h = h
-told_reply tells image held command given.NoDevice told h = h
-told_reply tells image held command given.Full told h = h
+told_reply tells image held command given.Formatted told h = (h.0, λ _. h.1 told)
+told_reply tells image held command (given.Mounted number) told h = (h.0, λ _. h.1 told)
+told_reply tells image held command (given.Committed number) told h = (h.0, λ _. h.1 told)
+told_reply tells image held command given.Dropped told h = (h.0, λ _. h.1 told)
+told_reply tells image held command given.Erased told h = (h.0, λ _. h.1 told)
+told_reply tells image held command (given.Stat mapped number) told h = (h.0, λ _. h.1 told)
+told_reply tells image held command (given.Seized pages nodes blocks) told h = (h.0, λ _. h.1 told)
+told_reply tells image held command given.Bad told h = (h.0, λ _. h.1 told)
+told_reply tells image held command given.AlreadyMounted told h = (h.0, λ _. h.1 told)
+told_reply tells image held command given.NotEmpty told h = (h.0, λ _. h.1 told)
+told_reply tells image held command given.NoDevice told h = (h.0, λ _. h.1 told)
+told_reply tells image held command given.Full told h = (h.0, λ _. h.1 told)
 
 told_line : (tells : Type 0) (history : History) (from : ℕ) (line : List ℕ) (reply : Reply) → tells → (IsBad line × (reply ≡ given.Bad)) ⊎ IsOf (λ command. WasSo tells history from command reply) line
     → (IsBad line × (reply ≡ given.Bad)) ⊎ IsOf (λ command. WasSo (Unit {0}) history from command reply) line

@@ -1,11 +1,13 @@
-use Rattle.std.proofs.Common.{◌≡◌, [], Option, Some, Err, refl, sym, ◌∙◌, ap, subst}
+use Rattle.std.proofs.Common.{◌≡◌, true, [], Option, Some, Err, refl, sym, ◌∙◌, ap, subst}
 use Rattle.std.specs.Prelude.{IfSome}
-use Rattle.device_session.specs.Open.{IsOpen}
+use Rattle.device_session.specs.Open.{IsOpen, is_touched}
 use Rattle.device_session.specs.Sessions.{Session}
 use Rattle.std.proofs.lemmas.Result.{err_from_is_err_and}
 use Rattle.device_course.proofs.KeysLaws.{listed_none, on_done, on_start}
 use Rattle.script_lang.specs.Commands.{Commit}
 use Rattle.page_store.proofs.KeepingLaws.{drew_none}
+use Rattle.device_cli.specs.Causes.{number_behind}
+use Rattle.device_cli.proofs.ReplyLaws.{held_has, number_is}
 use Rattle.device_cli.proofs.CallLaws.{commit_stops, halts_commit, on_held, serves_number, serves_short}
 use Rattle.device_cli.proofs.ServedLaws.{gives_unmounted_commit}
 use Rattle.device_cli.proofs.ServingLaws.{serves_unmounted}
@@ -77,3 +79,13 @@ returns-in-Full-clause-drew g c = ([], refl, drew_none _ _ (ap g.T.Tape.drawn (r
 
 pub returns-in_err-done-clause-drew : goal.returns-in_err-done-clause-drew
 returns-in_err-done-clause-drew g c = rw (stopped g c) tt
+
+pub returns-in-Committed-clause-any : goal.returns-in-Committed-clause-any
+returns-in-Committed-clause-any g c =
+    let answers = rw c.in-Committed.is at c.in_ok-done.ensures.answers in
+    (held_has c.args.self.now.session c.in-Some.session (λ (s : Session). c.in-Committed.number ≡ number_behind s) (sym c.take.ensures.value ∙ c.in-Some.is)
+    (number_is c.in-Some.session c.in_ok-done.done.session c.in-Committed.number answers.is_number (λ idle. (answers.idle idle).0) answers.next), λ told. tt)
+
+pub returns-in-Full-clause-any : goal.returns-in-Full-clause-any
+returns-in-Full-clause-any g c =
+    (held_has c.args.self.now.session c.in-Some.session (λ (s : Session). is_touched s ≡ true) (sym c.take.ensures.value ∙ c.in-Some.is) (rw c.in-Full.is at c.in_ok-done.ensures.answers).touched, λ told. tt)

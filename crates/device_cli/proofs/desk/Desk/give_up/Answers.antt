@@ -41,3 +41,6 @@ returns-clause-looks g c told before warm look = (omega arith, λ done. subst (�
 
 pub returns-then-is_none-clause-any : goal.returns-then-is_none-clause-any
 returns-then-is_none-clause-any g c = grind (arith, common_steps, c.is_none.ensures, c.if-is_none.true)
+
+pub returns-clause-any : goal.returns-clause-any
+returns-clause-any g c = (λ none. grind (arith, common_steps, none, c.is_none.ensures, c.if-is_none.false), λ told. tt)

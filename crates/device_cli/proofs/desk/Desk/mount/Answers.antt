@@ -4,6 +4,7 @@ use Rattle.std.proofs.lemmas.Result.{err_from_is_err_and}
 use Rattle.device_course.specs.States.{IsListed}
 use Rattle.device_course.proofs.KeysLaws.{on_start}
 use Rattle.device_session.proofs.CountLaws.{needs_none}
+use Rattle.device_session.specs.Open.{root_of}
 use Rattle.device_session.specs.Sessions.{Session}
 use Rattle.script_lang.specs.Commands as commands
 use Rattle.script_lang.specs.Replies as replies
@@ -91,3 +92,17 @@ returns-in_err-session-clause-any g c =
     let none : c.args.self.now.session ≡ None = grind (arith, common_steps, c.is_some.ensures, c.if-is_some.false) in
     rw (stopped g c) (mount_stops P.tells c.args.self.now.session (P.history c.args.platform.now).present (P.head c.args.platform.now) (world_of P c.args.self.now.session c.mount_session.new.platform) c.in_err-session.field-0.0 none
     c.in_err-session.ensures.looks.image c.in_err-session.ensures.looks.head c.in_err-session.ensures.stops)
+
+pub returns-then-is_some-clause-any : goal.returns-then-is_some-clause-any
+returns-then-is_some-clause-any g c = (λ none. grind (arith, common_steps, none, c.is_some.ensures, c.if-is_some.true), λ told. tt)
+
+pub returns-clause-any : goal.returns-clause-any
+returns-clause-any g c =
+    let none : c.args.self.now.session ≡ None = grind (arith, common_steps, c.is_some.ensures, c.if-is_some.false) in
+    let mounts = (rw c.in-Some.is at c.in_ok-session.ensures.finds).0 in
+    (none, λ told. (root_of c.in-Some.session, mounts.is_open.served.in_range, mounts.found told, c.number-number.ensures))
+
+pub returns-in_default-clause-any : goal.returns-in_default-clause-any
+returns-in_default-clause-any g c =
+    let none : c.args.self.now.session ≡ None = grind (arith, common_steps, c.is_some.ensures, c.if-is_some.false) in
+    (none, rw c.in_default.is at c.in_ok-session.ensures.finds)

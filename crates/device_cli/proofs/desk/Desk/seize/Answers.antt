@@ -14,7 +14,7 @@ use Rattle.device_cli.specs.World.{World, world_of}
 use Rattle.session_calls.specs.declared.stops.DeviceStop.TheVariants as device
 use Rattle.device_cli.proofs.ServedLaws.{halts_still}
 use Rattle.device_cli.proofs.ServingLaws.{serves_seized}
-use Rattle.device_cli.proofs.SeizingLaws.{saw_seized}
+use Rattle.device_cli.proofs.SeizingLaws.{counted_of, saw_seized}
 use Rattle.device_cli.proofs.SeizeWordLaws.{not_bad}
 use Rattle.device_course.proofs.KeysLaws.{on_look, listed_image}
 use Rattle.device_cli.specs.Causes.{MayReply}
@@ -70,15 +70,7 @@ returns-in-Ok-clause-seen g c told entry rep =
     let report = c.in-Ok.ensures.report told in
     subst (λ (r : Given). Saw new.history (moment old.history) entry.device old.head (said r c.args.self.now.buffer)) (sym c.reply_with_counts.ensures)
     (saw_seized old new entry c.in-Ok.report.pages (count_of_kind 2 c.in-Ok.report.opened) (count_of_kind 1 c.in-Ok.report.opened) rep (c.seize.ensures.looks.time told) (c.seize.ensures.looks.image told)
-    (record {
-      roots = report.0;
-      begins = subst (λ (n : ℕ). Begins n image.cell [] report.0) (sym (g.met.P.Platform.counts_pages told c.args.platform.now)) report.1;
-      seized = c.in-Ok.report;
-      exact = report.2;
-      pages_are = refl;
-      nodes_are = refl;
-      blocks_are = refl;
-    })
+    (counted_of image (P.head c.args.platform.now) c.in-Ok.report (g.met.P.Platform.counts_pages told c.args.platform.now) report)
     c.in-Ok.ensures.pages)
 
 pub returns-in-Ok-clause-keeps : goal.returns-in-Ok-clause-keeps
@@ -100,7 +92,8 @@ returns-in-Ok-clause-enough g c updates enough =
 pub returns-in-Ok-clause-any : goal.returns-in-Ok-clause-any
 returns-in-Ok-clause-any g c =
     let P = g.P.Platform in
-    subst (λ (r : Given). MayReply P.tells (P.history c.args.platform.now).present c.args.self.now.session commands.Seize (said r c.args.self.now.buffer)) (sym c.reply_with_counts.ensures) tt
+    subst (λ (r : Given). MayReply P.tells (P.history c.args.platform.now).present c.args.self.now.session commands.Seize (said r c.args.self.now.buffer)) (sym c.reply_with_counts.ensures)
+    (tt, λ told. counted_of (P.history c.args.platform.now).present (P.head c.args.platform.now) c.in-Ok.report (g.met.P.Platform.counts_pages told c.args.platform.now) (c.in-Ok.ensures.report told))
 
 pub returns-in-Err-Memory-clause-any : goal.returns-in-Err-Memory-clause-any
 returns-in-Err-Memory-clause-any g c told bad =

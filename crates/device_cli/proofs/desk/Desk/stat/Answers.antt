@@ -1,7 +1,10 @@
-use Rattle.std.proofs.Common.{◌∙◌, arith}
+use Rattle.std.proofs.Common.{◌≡◌, ◌∙◌, arith}
 use Rattle.device_cli.proofs.LookLaws.{warm_less}
 use Rattle.device_session.proofs.CountLaws.{mapped_len}
+use Rattle.device_session.specs.Open.{number_of}
+use Rattle.device_session.specs.Sessions.{Session}
 use Rattle.script_lang.specs.Commands as commands
+use Rattle.device_cli.proofs.ReplyLaws.{held_has}
 use Rattle.device_cli.proofs.ServedLaws.{gives_unmounted_stat}
 use Rattle.device_cli.proofs.ServingLaws.{serves_unmounted, serves_stat}
 use Rattle.device_cli.proofs.desk.Desk.stat.Goals as goal
@@ -27,3 +30,7 @@ returns-in-None-clause-looks g c told before warm look = (omega arith, λ done. 
 
 pub returns-in-None-clause-any : goal.returns-in-None-clause-any
 returns-in-None-clause-any g c = c.in-None.is
+
+pub returns-in-Some-clause-any : goal.returns-in-Some-clause-any
+returns-in-Some-clause-any g c =
+    (held_has c.args.self.now.session c.in-Some.session (λ (s : Session). (c.mapped.result ≡ s.mapped) × (c.number.result ≡ number_of s)) c.in-Some.is (c.mapped.ensures, c.number.ensures), λ told. tt)

@@ -110,6 +110,10 @@ returns-clause-any g c =
 pub returns-then-block-blocks-clause-any : goal.returns-then-block-blocks-clause-any
 returns-then-block-blocks-clause-any g c = held_has c.args.self.now.session c.in-Some.session (λ (s : Session). blocks_of s ≤ c.args.block) c.in-Some.is (omega (arith, c.if-block-blocks.true, c.blocks-2.ensures))
 
+pub returns-then-head-capacity-clause-any : goal.returns-then-head-capacity-clause-any
+returns-then-head-capacity-clause-any g c =
+    (held_has c.args.self.now.session c.in-Some.session (λ (s : Session). c.args.block < blocks_of s) c.in-Some.is (omega (arith, c.if-block-blocks.false, c.blocks-2.ensures)), λ told. tt)
+
 -- ---- a stop
 
 stopped : (g : Over) (c : goal.After-from_residual g) → c.from_residual.result ≡ Err c.in_err-write_block.field-0.0
