@@ -13,7 +13,8 @@ use Rattle.device_cli.specs.Ran.{AnswersScript, IsAmple, IsComplete}
 use Rattle.device_course.specs.Reaching.{DisclosesTree}
 use Rattle.line_run.specs.Puts.{damage_line}
 use Rattle.device_cli.specs.Represents.{StandsFor}
-use Rattle.device_cli.specs.Run.{IsStatus, IsBlamedAt, Took}
+use Rattle.session_calls.specs.Handed.{IsBlamedAt}
+use Rattle.device_cli.specs.Run.{IsStatus, Took}
 use Rattle.sdbt_base.specs.Counts.{NoneRose}
 use Rattle.device_cli.specs.Seen.{SeizesMaps}
 use Rattle.session_calls.specs.Cells.{IsUntouched}

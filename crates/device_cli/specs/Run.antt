@@ -1,20 +1,9 @@
 -- How a run ends, what it took from its input, and what its stops are due to.
 use Rattle.std.specs.Prelude.{◌≡◌, ℕ, ◌^◌, ◌<◌, ◌≤◌, ◌⊎◌, List, [], Option, length}
 use Rattle.sdbt_base.specs.Told.{IsAtEnd}
-use Rattle.sdbt_base.specs.Counts.{Counts, PlatformRose, TapeRose, InputRose, OutputRose, LedgerRose, NoneFell}
 use Rattle.line_run.specs.declared.stop.Stop.{Stop}
 use Rattle.line_run.specs.declared.stop.Stop.TheVariants as stops
 use Rattle.session_calls.specs.declared.stops.DeviceStop.TheVariants as device
-
--- no count fell; and an exit status that names a fault comes only where the count of that object rose, and that of no other: at each other one all are as they were
-pub record IsBlamedAt (status : ℕ) (before now : Counts) : Type 0 where
-  pub none_fell : NoneFell before now
-  pub input : status ≡ 3 → InputRose before now
-  pub output : status ≡ 4 → OutputRose before now
-  pub platform : status ≡ 5 → PlatformRose before now
-  pub tape : status ≡ 6 → TapeRose before now
-  pub ledger : status ≡ 7 → LedgerRose before now
-  pub quiet : (3 ≤ status → status ≤ 7 → ⊥) → now ≡ before
 
 -- what was taken when a run ended with this exit status, and what was left
 pub record Took (status : ℕ) (taken : List ℕ) (left : Option (List ℕ)) : Type 0 where

@@ -3,7 +3,8 @@ use Rattle.std.proofs.Common.{◌≡◌, List, [], ◌∷◌, Ok, Err, inl, inr,
 use Rattle.std.specs.Prelude.{map}
 use Rattle.sdbt_base.specs.Counts.{Counts}
 use Rattle.nbd_core.specs.Halts.{Blames, status_at}
-use Rattle.nbd_core.specs.Program.{IsStatus, IsBlamedAt}
+use Rattle.session_calls.specs.Handed.{IsBlamedAt}
+use Rattle.nbd_core.specs.Program.{IsStatus}
 use Rattle.nbd_core.specs.declared.stop.Stop.TheVariants as stops
 use Rattle.nbd_core.specs.declared.halts.Halt.{Halt}
 use Rattle.nbd_core.specs.declared.halts.Halt.TheVariants as halts

@@ -2,13 +2,9 @@
 use Rattle.std.proofs.Common.{inl, inr}
 use Rattle.std.specs.Prelude.{◌≡◌, ◌≢◌, ◌≤◌, ◌+◌, ◌*◌, ◌⊎◌, ◌↔◌, ◌^◌, ℕ, List, [], All, length, Option, None, Some, Result, Ok, Err}
 use Rattle.sdbt_base.specs.Told.{Gave}
-use Rattle.sdbt_base.specs.declared.sinks.Sink.{Ghosts as SinkGhosts}
-use Rattle.sdbt_base.specs.declared.sources.Source.{Ghosts as SourceGhosts}
-use Rattle.sdbt_base.specs.declared.tapes.Tape.{Ghosts as TapeGhosts}
-use Rattle.platform.specs.declared.platforms.Platform.{Ghosts as PlatformGhosts}
-use Rattle.device_course.specs.States.{Outside, around}
+use Rattle.session_calls.specs.Handed.{Handed, IsBlamedAt}
 use Rattle.device_terms.specs.Served.{IsServedImage}
-use Rattle.sdbt_base.specs.Counts.{Counts, InputRose, LedgerRose, NoneFell, NoneRose, OutputRose, PlatformRose, TapeRose}
+use Rattle.sdbt_base.specs.Counts.{NoneRose}
 use Rattle.sdbt_base.specs.Arrays.{Device}
 use Rattle.page_store.specs.Stands.{Stands}
 use Rattle.device_course.specs.Held.{Held}
@@ -20,37 +16,9 @@ use Rattle.nbd_core.specs.Turns.{IsStart}
 use Rattle.nbd_core.specs.declared.haggling.Agreed.{Agreed}
 use Rattle.nbd_core.specs.declared.haggling.Agreed.TheVariants as agreed
 use Rattle.nbd_core.specs.declared.stop.Stop.{Stop}
-use Rattle.session_calls.specs.Blame.{counts_of}
 use Rattle.nbd_core.specs.Running.{GoesOn, Talks, Untouched}
 use Rattle.nbd_core.specs.declared.halts.Halt.{Halt}
 use Rattle.nbd_core.specs.declared.halts.Halt.TheVariants as halts
-
--- the five objects at one moment, and what they tell then: the moments of the platform, its pages,
--- the keys that the tape drew and what the ledger has got; what the input has left; what the output
--- has got; and the counts of their faults
-pub record Handed (S R I O L : Type 0) : Type 0 where
-  pub platform : S
-  pub tape : R
-  pub input : I
-  pub output : O
-  pub ledger : L
-  pub outside : Outside
-  pub left : Option (List ℕ)
-  pub written : Option (List ℕ)
-  pub counts : Counts
-
-abbrev pub handed : {S R I O L : Type 0} → PlatformGhosts S → TapeGhosts R → SourceGhosts I → SinkGhosts O → SinkGhosts L → S → R → I → O → L → Handed S R I O L
-handed P T I O L platform tape input output ledger = record {
-  platform = platform;
-  tape = tape;
-  input = input;
-  output = output;
-  ledger = ledger;
-  outside = around P T L platform tape ledger;
-  left = I.left input;
-  written = O.written output;
-  counts = counts_of P T I O L platform tape input output ledger;
-}
 
 -- the exit status of a run that ends so
 abbrev pub exit_of : Result (Unit {0}) Halt → ℕ
@@ -61,17 +29,6 @@ exit_of (Err halt) = status_at halt
 abbrev pub IsStatus : ℕ → Type 0
 IsStatus status =
     (status ≡ 0) ⊎ (status ≡ 2) ⊎ (status ≡ 3) ⊎ (status ≡ 4) ⊎ (status ≡ 5) ⊎ (status ≡ 6) ⊎ (status ≡ 7) ⊎ (status ≡ 8) ⊎ (status ≡ 10) ⊎ (status ≡ 11) ⊎ (status ≡ 12) ⊎ (status ≡ 14)
-
--- no count fell; and an exit status that names a fault comes only where the count of that object rose,
--- and that of no other: at each other one all are as they were
-pub record IsBlamedAt (status : ℕ) (before now : Counts) : Type 0 where
-  pub none_fell : NoneFell before now
-  pub input : status ≡ 3 → InputRose before now
-  pub output : status ≡ 4 → OutputRose before now
-  pub platform : status ≡ 5 → PlatformRose before now
-  pub tape : status ≡ 6 → TapeRose before now
-  pub ledger : status ≡ 7 → LedgerRose before now
-  pub quiet : (3 ≤ status → status ≤ 7 → ⊥) → now ≡ before
 
 -- what was taken when a run ended with this exit status: 2^40 bytes at most; all of them at 12, and none
 -- where words are given

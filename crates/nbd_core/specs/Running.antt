@@ -1,14 +1,11 @@
 -- A run, from the look at the cell on.
 use Rattle.std.specs.Prelude.{◌≡◌, ◌≢◌, ◌⊎◌, ◌^◌, ◌*◌, ℕ, List, [], Option, None, Some, Result, Ok, Err, IfErr}
-use Rattle.sdbt_base.specs.Arrays.{Device, closed}
+use Rattle.sdbt_base.specs.Arrays.{Device}
 use Rattle.platform.specs.Image.{Image}
 use Rattle.platform.specs.History.{History, During}
 use Rattle.page_store.specs.Stands.{Stands}
 use Rattle.device_terms.specs.Served.{IsServedImage}
-use Rattle.device_course.specs.Course.{Made}
-use Rattle.device_course.specs.Keys.{KeepsOn}
-use Rattle.device_course.specs.Marks.{last_mark}
-use Rattle.device_course.specs.States.{Outside, IsLater}
+use Rattle.device_course.specs.States.{Outside}
 use Rattle.session_calls.specs.declared.stops.DeviceStop.{DeviceStop}
 use Rattle.session_calls.specs.declared.stops.DeviceStop.TheVariants as device
 use Rattle.device_course.specs.Held.{Held}
@@ -22,14 +19,6 @@ use Rattle.nbd_core.specs.declared.halts.Halt.{Halt}
 use Rattle.nbd_core.specs.declared.halts.Halt.TheVariants as halts
 use Rattle.nbd_core.specs.declared.haggling.Agreed.{Agreed}
 use Rattle.nbd_core.specs.declared.haggling.Agreed.TheVariants as agreed
-
--- a run, whatever it served: pages were only added; keys were kept, and the ledger got what belongs
--- to the root records that came into the cell; and from the device that there was it made others
-pub record Spans (tells : Type 0) (old new : Outside) (Going : Type 0) : Type 0 where
-  pub later : IsLater old new
-  pub keeps : KeepsOn tells old.drawn new.drawn old.written new.written None old.history new.history Going (λ keys. Unit {0})
-  pub made : tells → (device : Option Device) → Stands old.history.present device → IsServedImage old.history.present
-      → (marks : List (Option Device)) × Made old.history new.history None (closed device) marks (closed (last_mark device marks))
 
 -- all that a run is handed is as it was, at each moment
 pub record Untouched {R I O L : Type 0} (tells : Type 0) (tape tape_now : R) (input input_now : I) (output output_now : O) (ledger ledger_now : L) (head head_now : ℕ) (old new : History) : Type 0 where

@@ -7,7 +7,8 @@ ghost use Rattle.nbd_core.specs.Halts.{Blames, IsLate};
 ghost use Rattle.session_calls.specs.Blame.{counts_of};
 ghost use Rattle.session_calls.specs.Carrying.{Carries, IsReady};
 ghost use Rattle.nbd_core.specs.Turns.{IsFrom};
-ghost use Rattle.nbd_core.specs.Running.{Spans, Says, Talks, Looked, Untouched, OfCell, OfMount, cell_halt, mount_halt, IsOnCell};
+ghost use Rattle.session_calls.specs.Spans.{Spans};
+ghost use Rattle.nbd_core.specs.Running.{Says, Talks, Looked, Untouched, OfCell, OfMount, cell_halt, mount_halt, IsOnCell};
 
 use crate::haggling::{Agreed, haggle};
 use crate::halts::Halt;

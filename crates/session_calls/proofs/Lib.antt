@@ -9,3 +9,4 @@ pub mod CarryLaws
 pub mod CallLaws
 pub mod DamageLaws
 pub mod HeldLaws
+pub mod SpanLaws

@@ -7,3 +7,5 @@ pub mod Cells
 pub mod Mounts
 pub mod Calling
 pub mod Carrying
+pub mod Handed
+pub mod Spans

@@ -11,7 +11,7 @@ use Rattle.sdbt_base.specs.Arrays.{State, Device, closed}
 use Rattle.script_lang.specs.Answers.{IsMark}
 use Rattle.script_lang.specs.Replies.{Reply}
 use Rattle.device_terms.specs.Served.{IsServedImage}
-use Rattle.device_cli.specs.Run.{IsBlamedAt}
+use Rattle.session_calls.specs.Handed.{IsBlamedAt}
 use Rattle.sdbt_base.specs.Counts.{Counts}
 use Rattle.device_cli.specs.World.{World}
 use Rattle.device_cli.specs.Represents.{StandsFor}

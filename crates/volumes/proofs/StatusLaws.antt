@@ -9,7 +9,8 @@ use Rattle.line_run.proofs.StopLaws.{ArePart, cause_wide, quiet_wide}
 use Rattle.session_calls.specs.declared.stops.DeviceStop.TheVariants as device
 use Rattle.line_run.proofs.BlameLaws.{fell_wide}
 use Rattle.volumes.specs.Halts.{Blames, HasCause, HasLastLine, TellsLine, status_at}
-use Rattle.volumes.specs.Program.{IsStatus, IsBlamedAt}
+use Rattle.session_calls.specs.Handed.{IsBlamedAt}
+use Rattle.volumes.specs.Program.{IsStatus}
 use Rattle.volumes.specs.declared.halts.Halt.{Halt}
 use Rattle.volumes.specs.declared.halts.Halt.TheVariants as halts
 

@@ -1,15 +1,11 @@
 -- A run, from the mount on.
 use Rattle.std.specs.Prelude.{◌≡◌, ◌⊎◌, ℕ, List, [], ◌++◌, Option, None, Result, Ok, Err, IfErr, flat_map, length}
-use Rattle.sdbt_base.specs.Arrays.{Device, closed}
+use Rattle.sdbt_base.specs.Arrays.{Device}
 use Rattle.sdbt_base.specs.Told.{Gave, Got}
 use Rattle.platform.specs.Image.{Image}
 use Rattle.platform.specs.History.{CellStays, History}
-use Rattle.page_store.specs.Stands.{Stands}
 use Rattle.device_terms.specs.Served.{IsServedImage}
-use Rattle.device_course.specs.Course.{Made}
-use Rattle.device_course.specs.Keys.{KeepsOn}
-use Rattle.device_course.specs.Marks.{last_mark}
-use Rattle.device_course.specs.States.{IsLater, Outside}
+use Rattle.device_course.specs.States.{Outside}
 use Rattle.device_session.specs.Sessions.{Session}
 use Rattle.line_run.specs.Puts.{AreLines, IsBehind, IsPrompt, no_line}
 use Rattle.line_run.specs.Stops.{Ending, TookUntil}
@@ -27,14 +23,6 @@ use Rattle.volumes.specs.Halts.{EndsAs}
 use Rattle.volumes.specs.Starting.{EndsEarly, HaltsAtDamage, IsRefusal, IsStart}
 use Rattle.volumes.specs.declared.halts.Halt.{Halt}
 use Rattle.volumes.specs.declared.halts.Halt.TheVariants as halts
-
--- a run, whatever it served: pages were only added; keys were kept, and the ledger got what belongs to the root records that came into the cell; and from the device that there was it
--- made others
-pub record Spans (tells : Type 0) (old new : Outside) (Going : Type 0) : Type 0 where
-  pub later : IsLater old new
-  pub keeps : KeepsOn tells old.drawn new.drawn old.written new.written None old.history new.history Going (λ keys. Unit {0})
-  pub made : tells → (there : Option Device) → Stands old.history.present there → IsServedImage old.history.present
-      → (marks : List (Option Device)) × Made old.history new.history None (closed there) marks (closed (last_mark there marks))
 
 -- no key was drawn, no input taken, nothing put to the ledger, no page added, and at each moment the cell was as before
 pub record IsIdle {R I L : Type 0} (tells : Type 0) (tape tape_now : R) (input input_now : I) (ledger ledger_now : L) (head head_now : ℕ) (old new : History) : Type 0 where

@@ -5,7 +5,8 @@ ghost use Rattle.std.specs.Prelude.{◌≡◌, [], map, string_bytes};
 ghost use Rattle.device_course.specs.Programs.{KeepsLedger, Stays};
 ghost use Rattle.device_course.specs.Reaching.{DisclosesTree};
 ghost use Rattle.device_course.specs.States.{around};
-ghost use Rattle.volumes.specs.Program.{Exits, Refuses, Serving, handed};
+ghost use Rattle.session_calls.specs.Handed.{handed};
+ghost use Rattle.volumes.specs.Program.{Exits, Refuses, Serving};
 
 mod halts;
 mod running;

@@ -9,7 +9,8 @@ ghost use Rattle.session_calls.specs.Damage.{IsMounted};
 ghost use Rattle.volume_table.specs.Tables.{IsTable};
 ghost use Rattle.session_calls.specs.Carrying.{Carries, IsReady};
 ghost use Rattle.volumes.specs.Halts.{Blames};
-ghost use Rattle.volumes.specs.Running.{IsIdle, Looked, Ran, Serves, Spans};
+ghost use Rattle.session_calls.specs.Spans.{Spans};
+ghost use Rattle.volumes.specs.Running.{IsIdle, Looked, Ran, Serves};
 ghost use Rattle.volumes.specs.Starting.{FindsTable, HaltsAtDamage, HaltsBehind, IsFrom, IsOfTable, IsRefusal, IsStart};
 
 use crate::halts::{Halt, put_last_line};

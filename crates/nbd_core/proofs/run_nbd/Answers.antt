@@ -6,7 +6,8 @@ use Rattle.session_calls.specs.Blame.{counts_of}
 use Rattle.device_course.proofs.ProgramLaws.{keeps_ledger, ended_not}
 use Rattle.device_course.proofs.ReachingLaws.{discloses}
 use Rattle.nbd_core.specs.Halts.{status_at}
-use Rattle.nbd_core.specs.Program.{IsStatus, IsBlamedAt}
+use Rattle.session_calls.specs.Handed.{IsBlamedAt}
+use Rattle.nbd_core.specs.Program.{IsStatus}
 use Rattle.nbd_core.specs.Running.{IsCellHalt}
 use Rattle.nbd_core.specs.declared.halts.Halt.TheVariants as halts
 use Rattle.nbd_core.proofs.StatusLaws.{status_is, never_zero, never_two, at_eight, at_twelve, blamed, blamed_none, no_words}

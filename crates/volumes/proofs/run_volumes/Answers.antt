@@ -6,7 +6,8 @@ use Rattle.sdbt_base.proofs.ToldLaws.{Gave-nothing}
 use Rattle.device_course.specs.States.{around}
 use Rattle.device_course.proofs.ProgramLaws.{keeps_ledger, ended_not}
 use Rattle.device_course.proofs.ReachingLaws.{discloses}
-use Rattle.volumes.specs.Program.{IsStatus, IsBlamedAt, IsUnlessFault, Took}
+use Rattle.session_calls.specs.Handed.{IsBlamedAt}
+use Rattle.volumes.specs.Program.{IsStatus, IsUnlessFault, Took}
 use Rattle.volumes.proofs.EndLaws.{took_done, took_halted}
 use Rattle.volumes.proofs.ProgramLaws.{bad_root_at, bad_root_due, complete_done, complete_halted, doing_of, done_tabled, halting_of, idle_at, no_device_due, no_table_due, refused_at}
 use Rattle.volumes.proofs.StatusLaws.{blamed, blamed_none, never_two, never_zero, no_words, some_words, status_is, blamed_two}

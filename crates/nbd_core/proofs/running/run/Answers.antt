@@ -1,6 +1,7 @@
 use Rattle.std.proofs.Common.{inl, refl}
 use Rattle.device_terms.proofs.MomentLaws.{one_look}
-use Rattle.nbd_core.proofs.SpanLaws.{early_look, silent_look, spans_look, spans_looked, talks_looked}
+use Rattle.nbd_core.proofs.SpanLaws.{early_look, silent_look, spans_looked, talks_looked}
+use Rattle.session_calls.proofs.SpanLaws.{spans_look}
 use Rattle.nbd_core.proofs.running.run.Goals as goal
 
 pub returns-in-Ok-None-clause-spans : goal.returns-in-Ok-None-clause-spans
