@@ -1,6 +1,6 @@
 -- A whole run, from its look at the cell on.
-use Rattle.std.proofs.Common.{◌≡◌, ◌≤◌, ◌*◌, ◌^◌, ℕ, List, [], Option, None, Some, Result, Ok, Err, inl, inr, refl, sym, subst, ◌∙◌, ap, arith}
-use Rattle.std.specs.Prelude.{◌⊎◌, IsOk, IfErr, IfOk, map}
+use Rattle.std.proofs.Common.{◌≡◌, ◌*◌, ◌^◌, ℕ, List, [], Option, None, Some, Result, Ok, Err, inl, inr, refl, sym, subst, ◌∙◌, ap, arith}
+use Rattle.std.specs.Prelude.{◌⊎◌, IfErr, IfOk, map}
 use Rattle.platform.specs.Calls.{Looks}
 use Rattle.sdbt_base.specs.declared.sinks.Sink.{Ghosts as SinkGhosts}
 use Rattle.sdbt_base.specs.declared.tapes.Tape.{Ghosts as TapeGhosts}
@@ -18,7 +18,7 @@ use Rattle.nbd_core.specs.declared.haggling.Agreed.TheVariants as agreed
 use Rattle.nbd_core.specs.declared.haggling.Agreed.{Agreed}
 use Rattle.nbd_core.specs.declared.stop.Stop.{Stop}
 use Rattle.nbd_core.specs.declared.stop.Stop.TheVariants as stops
-use Rattle.sdbt_base.specs.Arrays.{Device, Session as OpenSession, State, closed, mounted, session_on}
+use Rattle.sdbt_base.specs.Arrays.{Device, State, closed}
 use Rattle.platform.specs.Image.{Image}
 use Rattle.platform.specs.History.{CellStays, Extends, History}
 use Rattle.page_store.specs.Stands.{Stands}
@@ -36,9 +36,8 @@ use Rattle.session_calls.specs.declared.stops.DeviceStop.{DeviceStop}
 use Rattle.session_calls.specs.declared.stops.DeviceStop.TheVariants as device
 use Rattle.nbd_core.specs.Halts.{IsLate}
 use Rattle.nbd_core.specs.Running.{Conversed, GoesOn, IsEarly, IsSilent, Says, Talks, OfMount, cell_halt, mount_halt}
-use Rattle.session_calls.specs.Carrying.{Carries}
 use Rattle.session_calls.specs.Spans.{Spans}
-use Rattle.session_calls.proofs.SpanLaws.{spans_session}
+use Rattle.session_calls.proofs.SpanLaws.{led_of, mounted_at}
 use Rattle.nbd_core.specs.declared.halts.Halt.{Halt}
 use Rattle.session_calls.proofs.CarryLaws.{stays_at}
 use Rattle.nbd_core.proofs.DamageLaws.{damage_since}
@@ -205,32 +204,12 @@ since_look tells old mid head same stays entry start = (
   made_kept old.history mid.history entry.device start.stands start.served (stays start.told),
 )
 
-led_of : (image : Image) (session : Session) (entry : State) → MountLeads image entry (Ok (Some session)) → (there : Device) × (entry ≡ closed (Some there)) × IsAt image (Some session) (mounted there (session_on there))
-led_of image session entry (there, is, at, number) = (there, is, at)
-
-pub spans_mounted : (tells : Type 0) (old mid new : Outside) (session : Session) (Going : Type 0) (result : Result (Option Session) DeviceStop) → result ≡ Ok (Some session) → mid.head ≡ old.head → mid.capacity ≡ old.capacity → new.head ≤ new.capacity → (tells → CellStays old.history mid.history)
-    → KeepsOn tells old.drawn mid.drawn old.written mid.written None old.history mid.history (IsOk result) (λ keys. IfOk result (λ found. IsListed found mid.history.present keys))
-    → (tells → (entry : State) → IsAt old.history.present None entry → MountLeads mid.history.present entry result)
-    → Carries tells mid new session None Going → Spans tells old new Going
-spans_mounted tells old mid new session Going result is head capacity room stays opened leads carries =
-    spans_session tells old mid new session (IsOk {T = Option Session} {E = DeviceStop} (Ok (Some session))) Going refl head capacity room stays
-    (subst (λ (r : Result (Option Session) DeviceStop). KeepsOn tells old.drawn mid.drawn old.written mid.written None old.history mid.history (IsOk r) (λ keys. IfOk r (λ found. IsListed found mid.history.present keys))) is opened)
-    (λ told entry at. led_of mid.history.present session entry (subst (MountLeads mid.history.present entry) is (leads told entry at))) carries
-
 -- the session is on the device that the image stood for
 pub blocks_found : {S : Type 0} (P : PlatformGhosts S) (platform platform_now : S) (session : Session) (result : Result (Option Session) DeviceStop) → result ≡ Ok (Some session) → IfOk result (IsFound P 256 platform platform_now)
     → P.tells → (there : Device) → Stands (P.history platform).present (Some there) → 4096 * blocks_of session ≡ 4096 * there.blocks
 blocks_found P platform platform_now session result is finds told there stands =
     let found : IsFound P 256 platform platform_now (Some session) = subst (λ (r : Result (Option Session) DeviceStop). IfOk r (IsFound P 256 platform platform_now)) is finds in
     ap (λ (n : ℕ). 4096 * n) (found.0.holds told there stands).stands.blocks
-
--- behind a mount
-mounted_at : (image : Image) (session : Session) (entry : Held) → ((there : Device) × (closed (Some entry.device) ≡ closed (Some there)) × IsAt image (Some session) (mounted there (session_on there))) → entry.session ≡ session_on entry.device → IsAt image (Some session) (state_of entry)
-mounted_at image session entry (there, is, at) fresh =
-    let devices : Some entry.device ≡ Some there = ap (λ (s : State). s.device) is in
-    let same : entry.device ≡ there = cc in
-    let here : IsAt image (Some session) (mounted entry.device (session_on entry.device)) = subst (λ (d : Device). IsAt image (Some session) (mounted d (session_on d))) (sym same) at in
-    subst (λ (a : OpenSession). IsAt image (Some session) (mounted entry.device a)) (sym fresh) here
 
 pub since_mount : {S : Type 0} (P : PlatformGhosts S) (platform platform_now : S) (old mid : Outside) (session : Session) (result : Result (Option Session) DeviceStop) → result ≡ Ok (Some session) → old.history ≡ P.history platform → mid.history ≡ P.history platform_now → old.head ≡ P.head platform → mid.head ≡ P.head platform_now
     → Looks P platform platform_now → IfOk result (IsFound P 256 platform platform_now)

@@ -1,17 +1,21 @@
 -- What a whole run does beside its replies.
-use Rattle.std.proofs.Common.{◌≡◌, ◌≤◌, ℕ, List, [], Option, None, Some, sym, subst, ◌∙◌, arith}
-use Rattle.sdbt_base.specs.Arrays.{Device, State, closed, mounted, session_on}
+use Rattle.std.proofs.Common.{◌≡◌, ◌≤◌, ℕ, List, [], Option, None, Some, Result, Ok, refl, sym, subst, ap, ◌∙◌, arith}
+use Rattle.std.specs.Prelude.{IsOk, IfOk}
+use Rattle.sdbt_base.specs.Arrays.{Device, Session as OpenSession, State, closed, mounted, session_on}
 use Rattle.platform.specs.Image.{Image}
 use Rattle.platform.specs.History.{CellStays}
 use Rattle.page_store.specs.Stands.{Stands}
 use Rattle.device_terms.specs.Served.{IsServedImage}
 use Rattle.device_course.specs.Course.{Made}
+use Rattle.device_course.specs.Held.{Held, state_of}
 use Rattle.device_course.specs.Keys.{KeepsOn}
 use Rattle.device_course.specs.States.{IsAt, IsListed, Outside}
 use Rattle.device_course.proofs.KeysLaws.{on_look, on_then}
 use Rattle.device_course.proofs.MadeLaws.{made_closed, made_then, shut}
 use Rattle.device_session.specs.Sessions.{Session}
 use Rattle.session_calls.specs.Carrying.{Carries}
+use Rattle.session_calls.specs.Mounts.{MountLeads}
+use Rattle.session_calls.specs.declared.stops.DeviceStop.{DeviceStop}
 use Rattle.session_calls.proofs.CarryLaws.{stays_at}
 use Rattle.session_calls.specs.Spans.{Spans}
 
@@ -50,3 +54,24 @@ spans_session tells old mid new session Was Going was head capacity room stays o
       let shut_all : Made old.history new.history None entry m.0 (closed m.1.device) = made_closed old.history new.history None entry m.1 m.0 all in
       (m.0, subst (λ (d : Option Device). Made old.history new.history None entry m.0 (closed d)) all.last shut_all);
 }
+
+-- from which state a mount that found a session led to which
+pub led_of : (image : Image) (session : Session) (entry : State) → MountLeads image entry (Ok (Some session)) → (there : Device) × (entry ≡ closed (Some there)) × IsAt image (Some session) (mounted there (session_on there))
+led_of image session entry (there, is, at, number) = (there, is, at)
+
+pub spans_mounted : (tells : Type 0) (old mid new : Outside) (session : Session) (Going : Type 0) (result : Result (Option Session) DeviceStop) → result ≡ Ok (Some session) → mid.head ≡ old.head → mid.capacity ≡ old.capacity → new.head ≤ new.capacity → (tells → CellStays old.history mid.history)
+    → KeepsOn tells old.drawn mid.drawn old.written mid.written None old.history mid.history (IsOk result) (λ keys. IfOk result (λ found. IsListed found mid.history.present keys))
+    → (tells → (entry : State) → IsAt old.history.present None entry → MountLeads mid.history.present entry result)
+    → Carries tells mid new session None Going → Spans tells old new Going
+spans_mounted tells old mid new session Going result is head capacity room stays opened leads carries =
+    spans_session tells old mid new session (IsOk {T = Option Session} {E = DeviceStop} (Ok (Some session))) Going refl head capacity room stays
+    (subst (λ (r : Result (Option Session) DeviceStop). KeepsOn tells old.drawn mid.drawn old.written mid.written None old.history mid.history (IsOk r) (λ keys. IfOk r (λ found. IsListed found mid.history.present keys))) is opened)
+    (λ told entry at. led_of mid.history.present session entry (subst (MountLeads mid.history.present entry) is (leads told entry at))) carries
+
+-- behind a mount the session is at the device's own array
+pub mounted_at : (image : Image) (session : Session) (entry : Held) → ((there : Device) × (closed (Some entry.device) ≡ closed (Some there)) × IsAt image (Some session) (mounted there (session_on there))) → entry.session ≡ session_on entry.device → IsAt image (Some session) (state_of entry)
+mounted_at image session entry (there, is, at) fresh =
+    let devices : Some entry.device ≡ Some there = ap (λ (s : State). s.device) is in
+    let same : entry.device ≡ there = cc in
+    let here : IsAt image (Some session) (mounted entry.device (session_on entry.device)) = subst (λ (d : Device). IsAt image (Some session) (mounted d (session_on d))) (sym same) at in
+    subst (λ (a : OpenSession). IsAt image (Some session) (mounted entry.device a)) (sym fresh) here

@@ -1,4 +1,3 @@
-pub mod SpanLaws
 pub mod StatusLaws
 pub mod StartLaws
 pub mod EndLaws

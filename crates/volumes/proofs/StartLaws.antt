@@ -1,7 +1,7 @@
 -- From which states a run goes on: behind its mount, and behind the look at its table.
-use Rattle.std.proofs.Common.{◌≡◌, ◌≢◌, ◌≤◌, ◌<◌, ◌^◌, ◌++◌, ℕ, List, [], Option, None, Some, Result, Ok, Err, inl, inr, refl, sym, subst, ◌∙◌, ap, arith}
+use Rattle.std.proofs.Common.{◌≡◌, ◌≢◌, ◌≤◌, ◌<◌, ◌^◌, ◌++◌, ℕ, List, [], Option, None, Some, Result, Ok, Err, inl, inr, refl, sym, subst, ◌∙◌, arith}
 use Rattle.std.specs.Prelude.{IfErr, IfOk, length}
-use Rattle.sdbt_base.specs.Arrays.{Device, Session as OpenSession, State, closed, mounted, session_on}
+use Rattle.sdbt_base.specs.Arrays.{Device, Session as OpenSession, State, closed, mounted}
 use Rattle.sdbt_base.specs.Told.{Got}
 use Rattle.platform.specs.Calls.{Looks}
 use Rattle.platform.specs.Image.{Image}
@@ -41,7 +41,7 @@ use Rattle.volumes.specs.Running.{Answers, IsEarly, IsIdle, IsSilent, OnVolumes,
 use Rattle.volumes.specs.Starting.{EndsEarly, FindsTable, IsFrom, IsOfTable, IsRefusal, IsStart}
 use Rattle.volumes.specs.declared.halts.Halt.{Halt}
 use Rattle.volumes.specs.declared.halts.Halt.TheVariants as halts
-use Rattle.volumes.proofs.SpanLaws.{led_of}
+use Rattle.session_calls.proofs.SpanLaws.{led_of, mounted_at}
 
 -- ---- from an earlier moment on, since which the device stayed
 
@@ -150,13 +150,6 @@ found_full P platform platform_now session result is told finds empty =
     let found : IsFound P 256 platform platform_now (Some session) = subst (λ (r : Result (Option Session) DeviceStop). IfOk r (IsFound P 256 platform platform_now)) is finds in
     let both : None ≡ Some (root_bytes session.root) = sym empty ∙ found.0.found told in
     cc
-
-mounted_at : (image : Image) (session : Session) (entry : Held) → ((there : Device) × (closed (Some entry.device) ≡ closed (Some there)) × IsAt image (Some session) (mounted there (session_on there))) → entry.session ≡ session_on entry.device → IsAt image (Some session) (state_of entry)
-mounted_at image session entry (there, is, at) fresh =
-    let devices : Some entry.device ≡ Some there = ap (λ (s : State). s.device) is in
-    let same : entry.device ≡ there = cc in
-    let here : IsAt image (Some session) (mounted entry.device (session_on entry.device)) = subst (λ (d : Device). IsAt image (Some session) (mounted d (session_on d))) (sym same) at in
-    subst (λ (a : OpenSession). IsAt image (Some session) (mounted entry.device a)) (sym fresh) here
 
 pub since_mount : {S : Type 0} (P : PlatformGhosts S) (platform platform_now : S) (old mid : Outside) (session : Session) (result : Result (Option Session) DeviceStop) → result ≡ Ok (Some session) → old.history ≡ P.history platform → mid.history ≡ P.history platform_now → old.head ≡ P.head platform → mid.head ≡ P.head platform_now
     → Looks P platform platform_now → IfOk result (IsFound P 256 platform platform_now)

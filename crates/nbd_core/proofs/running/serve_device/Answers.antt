@@ -1,6 +1,6 @@
 use Rattle.std.proofs.Common.{inl, refl, ◌∙◌, ap, Ok}
-use Rattle.nbd_core.proofs.SpanLaws.{early_mount, fresh_found, silent_look, spans_mounted, talks_mounted}
-use Rattle.session_calls.proofs.SpanLaws.{spans_look}
+use Rattle.nbd_core.proofs.SpanLaws.{early_mount, fresh_found, silent_look, talks_mounted}
+use Rattle.session_calls.proofs.SpanLaws.{spans_look, spans_mounted}
 use Rattle.nbd_core.proofs.running.serve_device.Goals as goal
 
 pub returns-in-Ok-Some-clause-spans : goal.returns-in-Ok-Some-clause-spans

@@ -1,6 +1,5 @@
 use Rattle.std.proofs.Common.{inl, refl, ◌∙◌, ap, Ok}
-use Rattle.session_calls.proofs.SpanLaws.{spans_look}
-use Rattle.volumes.proofs.SpanLaws.{spans_mounted}
+use Rattle.session_calls.proofs.SpanLaws.{spans_look, spans_mounted}
 use Rattle.volumes.proofs.StartLaws.{found_full, found_none, found_served, idle_since, serves_since, silent_none, silent_stop, since_mount}
 use Rattle.volumes.proofs.EndLaws.{damage_behind, looked_behind, looked_none, looked_stop}
 use Rattle.volumes.proofs.running.serve_device.Goals as goal
