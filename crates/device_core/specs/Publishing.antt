@@ -2,6 +2,7 @@
 use Rattle.std.specs.Prelude.{◌≡◌, ◌≢◌, ◌+◌, None, Result, Ok, Err}
 use Rattle.sdbt_base.specs.Counts.{Counts, PlatformRose, TapeRose, LedgerRose}
 use Rattle.sdbt_base.specs.Faults.{Rose}
+use Rattle.sdbt_base.specs.declared.faults.PlatformFault.{PlatformFault}
 use Rattle.sdbt_base.specs.declared.tapes.Tape.{Ghosts as TapeGhosts}
 use Rattle.platform.specs.declared.platforms.Platform.{Ghosts as PlatformGhosts}
 use Rattle.platform.specs.History.{CellStays}
@@ -41,6 +42,11 @@ IsFormatCause P T platform platform_now tape tape_now before now (Err format.Tap
 IsFormatCause P T platform platform_now tape tape_now before now (Err format.LedgerFault) =
     LedgerRose before now × (P.head platform ≢ P.capacity platform) × (P.tells → CellStays (P.history platform) (P.history platform_now))
 IsFormatCause P T platform platform_now tape tape_now before now (Err format.PlatformFault) = PlatformRose before now
+
+-- a cell is empty once it was cleared. That fails exactly where the platform does
+abbrev pub IsClearCause : {S : Type 0} → PlatformGhosts S → S → S → Result (Unit {0}) PlatformFault → Type 0
+IsClearCause P platform platform_now (Ok done) = (P.tells → Stands (P.history platform_now).present None) × (P.faults platform_now ≡ P.faults platform)
+IsClearCause P platform platform_now (Err fault) = Rose (P.faults platform) (P.faults platform_now)
 
 -- an erasure empties a full cell; there is no device exactly where the cell is empty, and then all is as it was. It fails exactly where the platform does
 abbrev pub IsEraseCause : {S : Type 0} → PlatformGhosts S → S → S → Result (Unit {0}) EraseRefusal → Type 0

@@ -10,6 +10,6 @@ mod formatting;
 mod publishing;
 mod refusals;
 
-pub use erasing::erase;
+pub use erasing::{clear, erase};
 pub use formatting::format;
 pub use refusals::{EraseRefusal, FormatRefusal};

@@ -51,7 +51,7 @@ impl Model for Session {
 }
 
 impl Session {
-    ghost use Rattle.device_session.specs.Open.{blocks_of, number_of};
+    ghost use Rattle.device_session.specs.Open.{blocks_of, number_of, root_of};
     ghost use Rattle.device_session.specs.Mounting.{Mounts};
 
     /// Opens a session on the device. It reads no page.
@@ -106,6 +106,13 @@ impl Session {
         ensures { result ≡ blocks_of self.now }
     {
         self.root.blocks
+    }
+
+    /// The root record of the mount or the last commit.
+    pub fn root(&self) -> &Root
+        ensures { result.now ≡ root_of self.now }
+    {
+        &self.root
     }
 
     /// Leaves nothing of what was read or sealed in the session's buffers, nor of the node that was read last: for a session

@@ -1,0 +1,146 @@
+-- Which record a halt names.
+use Rattle.std.proofs.Common.{◌≡◌, ℕ, List, Option, Result, Ok, Err, inl, inr, sym, subst}
+use Rattle.std.specs.Prelude.{◌⊎◌, IfErr}
+use Rattle.platform.specs.Image.{Image}
+use Rattle.platform.specs.declared.platforms.Platform.{Ghosts as PlatformGhosts}
+use Rattle.sdbt_base.specs.declared.tapes.Tape.{Ghosts as TapeGhosts}
+use Rattle.device_session.specs.Sessions.{Session}
+use Rattle.device_session.specs.declared.refusals.CommitReply.{CommitReply}
+use Rattle.device_session.specs.declared.refusals.CommitReply.TheVariants as replies
+use Rattle.session_calls.specs.Commits.{LeftAt}
+use Rattle.session_calls.specs.Damage.{ReadsAny, WritesAny}
+use Rattle.session_calls.specs.Mounts.{IsMountStop}
+use Rattle.session_calls.specs.declared.stops.DeviceStop.{DeviceStop}
+use Rattle.session_calls.specs.declared.stops.DeviceStop.TheVariants as stops
+use Rattle.transfer.specs.Counts.{Counts}
+use Rattle.transfer.specs.Halts.{Blames}
+use Rattle.transfer.specs.Listing.{IsListStop}
+use Rattle.transfer.specs.Running.{HaltsFrom, HaltsTo, IsNumberOf, IsOfOpening, MeetsWrong}
+use Rattle.transfer.specs.declared.halts.Halt.{Halt}
+use Rattle.transfer.specs.declared.halts.Halt.TheVariants as halts
+use Rattle.transfer.proofs.BlameLaws.{blames_done, blames_halt}
+
+-- a read
+pub read_from : (tells Mounted : Type 0) (mounted : tells → Mounted) (image after : Image) (session : Session) (block : ℕ) (bytes : List ℕ) (stop : DeviceStop) → ReadsAny (tells × Mounted) image after session block bytes (Err stop) → HaltsFrom tells after (halts.From stop)
+read_from tells Mounted mounted image after session block bytes stops.Platform any = tt
+read_from tells Mounted mounted image after session block bytes stops.Memory any = absurd any
+read_from tells Mounted mounted image after session block bytes stops.Tape any = absurd any
+read_from tells Mounted mounted image after session block bytes stops.Ledger any = absurd any
+read_from tells Mounted mounted image after session block bytes stops.BadRoot any = absurd any
+read_from tells Mounted mounted image after session block bytes (stops.BadRecord addr) any = λ told. inl (any (told, mounted told))
+
+pub read_to : (tells Mounted : Type 0) (mounted : tells → Mounted) (image after : Image) (session : Session) (block : ℕ) (bytes : List ℕ) (stop : DeviceStop) → ReadsAny (tells × Mounted) image after session block bytes (Err stop) → HaltsTo tells after (halts.To stop)
+read_to tells Mounted mounted image after session block bytes stops.Platform any = tt
+read_to tells Mounted mounted image after session block bytes stops.Memory any = absurd any
+read_to tells Mounted mounted image after session block bytes stops.Tape any = absurd any
+read_to tells Mounted mounted image after session block bytes stops.Ledger any = absurd any
+read_to tells Mounted mounted image after session block bytes stops.BadRoot any = absurd any
+read_to tells Mounted mounted image after session block bytes (stops.BadRecord addr) any = λ told. inl (any (told, mounted told))
+
+-- a write
+wrong_page : {Place Counted More : Type 0} → Place ⊎ (Counted × More) → Place ⊎ Counted
+wrong_page (inl place) = inl place
+wrong_page (inr counted) = inr counted.0
+
+pub write_to : (tells Mounted : Type 0) (mounted : tells → Mounted) (image after : Image) (session : Session) (block : ℕ) (stop : DeviceStop) → WritesAny (tells × Mounted) image after session block (Err stop) → HaltsTo tells after (halts.To stop)
+write_to tells Mounted mounted image after session block stops.Platform any = tt
+write_to tells Mounted mounted image after session block stops.Memory any = tt
+write_to tells Mounted mounted image after session block stops.Tape any = tt
+write_to tells Mounted mounted image after session block stops.Ledger any = absurd any
+write_to tells Mounted mounted image after session block stops.BadRoot any = absurd any
+write_to tells Mounted mounted image after session block (stops.BadRecord addr) any = λ told. wrong_page (any (told, mounted told))
+
+-- a listing
+pub list_from : (tells Mounted : Type 0) (mounted : tells → Mounted) (image : Image) (stop : DeviceStop) → IsListStop (tells × Mounted) image stop → HaltsFrom tells image (halts.From stop)
+list_from tells Mounted mounted image stops.Platform is = tt
+list_from tells Mounted mounted image stops.Memory is = tt
+list_from tells Mounted mounted image stops.Tape is = absurd is
+list_from tells Mounted mounted image stops.Ledger is = absurd is
+list_from tells Mounted mounted image stops.BadRoot is = absurd is
+list_from tells Mounted mounted image (stops.BadRecord addr) is = λ told. is (told, mounted told)
+
+pub list_to : (tells Mounted : Type 0) (mounted : tells → Mounted) (image : Image) (stop : DeviceStop) → IsListStop (tells × Mounted) image stop → HaltsTo tells image (halts.To stop)
+list_to tells Mounted mounted image stops.Platform is = tt
+list_to tells Mounted mounted image stops.Memory is = tt
+list_to tells Mounted mounted image stops.Tape is = absurd is
+list_to tells Mounted mounted image stops.Ledger is = absurd is
+list_to tells Mounted mounted image stops.BadRoot is = absurd is
+list_to tells Mounted mounted image (stops.BadRecord addr) is = λ told. is (told, mounted told)
+
+-- a mount, and a commit
+pub mount_to : (tells : Type 0) (cell : Option (List ℕ)) (pages : ℕ) (stop : DeviceStop) → IsMountStop tells cell pages stop → IsOfOpening (halts.To stop)
+mount_to tells cell pages stops.Platform is = tt
+mount_to tells cell pages stops.Memory is = tt
+mount_to tells cell pages stops.BadRoot is = tt
+mount_to tells cell pages stops.Tape is = tt
+mount_to tells cell pages stops.Ledger is = tt
+mount_to tells cell pages (stops.BadRecord addr) is = absurd is
+
+pub mount_from : (from_tells to_tells : Type 0) (from to : Image) (tells : Type 0) (cell : Option (List ℕ)) (pages : ℕ) (stop : DeviceStop) → IsMountStop tells cell pages stop → MeetsWrong from_tells to_tells from to (halts.From stop)
+mount_from from_tells to_tells from to tells cell pages stops.Platform is = tt
+mount_from from_tells to_tells from to tells cell pages stops.Memory is = tt
+mount_from from_tells to_tells from to tells cell pages stops.BadRoot is = tt
+mount_from from_tells to_tells from to tells cell pages stops.Tape is = tt
+mount_from from_tells to_tells from to tells cell pages stops.Ledger is = tt
+mount_from from_tells to_tells from to tells cell pages (stops.BadRecord addr) is = absurd is
+
+pub commit_to : {S R : Type 0} (P : PlatformGhosts S) (T : TapeGhosts R) (platform platform_now : S) (tape tape_now : R) (stop : DeviceStop) → LeftAt P T platform platform_now tape tape_now stop → IsOfOpening (halts.To stop)
+commit_to P T platform platform_now tape tape_now stops.Platform left = tt
+commit_to P T platform platform_now tape tape_now stops.Memory left = tt
+commit_to P T platform platform_now tape tape_now stops.BadRoot left = tt
+commit_to P T platform platform_now tape tape_now stops.Tape left = tt
+commit_to P T platform platform_now tape tape_now stops.Ledger left = tt
+commit_to P T platform platform_now tape tape_now (stops.BadRecord addr) left = absurd left
+
+pub number_opening : (reply : CommitReply) (result : Result ℕ Halt) → IsNumberOf reply result → IfErr result IsOfOpening
+number_opening (replies.Committed number) result is = subst (λ (r : Result ℕ Halt). IfErr r IsOfOpening) (sym is) tt
+number_opening (replies.Full needed free) result is = subst (λ (r : Result ℕ Halt). IfErr r IsOfOpening) (sym is) tt
+
+pub number_blamed : (before now : Counts) (reply : CommitReply) (result : Result ℕ Halt) → now ≡ before → IsNumberOf reply result → Blames before now result
+number_blamed before now (replies.Committed number) result same is = subst (Blames before now) (sym is) (blames_done before now number same)
+number_blamed before now (replies.Full needed free) result same is = subst (Blames before now) (sym is) (blames_halt before now halts.Full same same)
+
+-- ---- on both platforms
+
+pub meets_from : (from_tells to_tells : Type 0) (from to : Image) (halt : Halt) → HaltsFrom from_tells from halt → MeetsWrong from_tells to_tells from to halt
+meets_from from_tells to_tells from to halts.NoDevice is = absurd is
+meets_from from_tells to_tells from to halts.NotEmpty is = absurd is
+meets_from from_tells to_tells from to halts.Full is = absurd is
+meets_from from_tells to_tells from to halts.Output is = absurd is
+meets_from from_tells to_tells from to (halts.From stops.Platform) is = tt
+meets_from from_tells to_tells from to (halts.From stops.Memory) is = tt
+meets_from from_tells to_tells from to (halts.From stops.Tape) is = absurd is
+meets_from from_tells to_tells from to (halts.From stops.Ledger) is = absurd is
+meets_from from_tells to_tells from to (halts.From stops.BadRoot) is = absurd is
+meets_from from_tells to_tells from to (halts.From (stops.BadRecord addr)) is = is
+meets_from from_tells to_tells from to (halts.To stop) is = absurd is
+
+pub meets_to : (from_tells to_tells : Type 0) (from to : Image) (halt : Halt) → HaltsTo to_tells to halt → MeetsWrong from_tells to_tells from to halt
+meets_to from_tells to_tells from to halts.NoDevice is = absurd is
+meets_to from_tells to_tells from to halts.NotEmpty is = absurd is
+meets_to from_tells to_tells from to halts.Full is = tt
+meets_to from_tells to_tells from to halts.Output is = absurd is
+meets_to from_tells to_tells from to (halts.From stop) is = absurd is
+meets_to from_tells to_tells from to (halts.To stops.Platform) is = tt
+meets_to from_tells to_tells from to (halts.To stops.Memory) is = tt
+meets_to from_tells to_tells from to (halts.To stops.Tape) is = tt
+meets_to from_tells to_tells from to (halts.To stops.Ledger) is = tt
+meets_to from_tells to_tells from to (halts.To stops.BadRoot) is = absurd is
+meets_to from_tells to_tells from to (halts.To (stops.BadRecord addr)) is = is
+
+pub meets_opening : (from_tells to_tells : Type 0) (from to : Image) (halt : Halt) → IsOfOpening halt → MeetsWrong from_tells to_tells from to halt
+meets_opening from_tells to_tells from to halts.NoDevice is = absurd is
+meets_opening from_tells to_tells from to halts.NotEmpty is = tt
+meets_opening from_tells to_tells from to halts.Full is = tt
+meets_opening from_tells to_tells from to halts.Output is = absurd is
+meets_opening from_tells to_tells from to (halts.From stop) is = absurd is
+meets_opening from_tells to_tells from to (halts.To stops.Platform) is = tt
+meets_opening from_tells to_tells from to (halts.To stops.Memory) is = tt
+meets_opening from_tells to_tells from to (halts.To stops.Tape) is = tt
+meets_opening from_tells to_tells from to (halts.To stops.Ledger) is = tt
+meets_opening from_tells to_tells from to (halts.To stops.BadRoot) is = tt
+meets_opening from_tells to_tells from to (halts.To (stops.BadRecord addr)) is = absurd is
+
+pub meets_opening_all : {X : Type 0} (from_tells to_tells : Type 0) (from to : Image) (result : Result X Halt) → IfErr result IsOfOpening → IfErr result (MeetsWrong from_tells to_tells from to)
+meets_opening_all from_tells to_tells from to (Ok done) is = tt
+meets_opening_all from_tells to_tells from to (Err halt) is = meets_opening from_tells to_tells from to halt is

@@ -1,0 +1,7 @@
+pub mod BlameLaws
+pub mod FromLaws
+pub mod ToLaws
+pub mod StatusLaws
+pub mod ListLaws
+pub mod HaltLaws
+pub mod FormatLaws

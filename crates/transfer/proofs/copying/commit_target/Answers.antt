@@ -1,0 +1,40 @@
+use Rattle.std.proofs.Common.{refl}
+use Rattle.transfer.specs.Counts.{counts}
+use Rattle.session_calls.proofs.CarryLaws.{carries_committed, carries_end, carries_going, carries_stopped}
+use Rattle.transfer.proofs.BlameLaws.{of_ledger, to_quiet, to_stopped}
+use Rattle.transfer.proofs.HaltLaws.{commit_to, number_blamed, number_opening}
+use Rattle.transfer.proofs.copying.commit_target.Goals as goal
+
+pub returns-in-Ok-clause-carries : goal.returns-in-Ok-clause-carries
+returns-in-Ok-clause-carries g c =
+    carries_end _ _ _ _ _ _ _ (λ going. tt)
+    (carries_committed g.Q.Platform g.T.Tape g.L.Sink _ _ _ _ _ _ c.args.target c.in-Ok.done c.in-Ok.ensures.goes c.in-Ok.ensures.leads)
+
+pub returns-in-Err-clause-carries : goal.returns-in-Err-clause-carries
+returns-in-Err-clause-carries g c =
+    carries_going _ _ _ _ _ _ _ (λ going. absurd cc)
+    (carries_stopped g.Q.Platform g.T.Tape g.L.Sink _ _ _ _ _ _ c.args.target c.in-Err.stop c.in-Err.ensures.goes c.in-Err.ensures.leads)
+
+pub returns-in-Ok-clause-blame : goal.returns-in-Ok-clause-blame
+returns-in-Ok-clause-blame g c from output =
+    let Q = g.Q.Platform in
+    let T = g.T.Tape in
+    let L = g.L.Sink in
+    let before = counts from (Q.faults c.args.to.now) (T.faults c.args.tape.now) output (L.faults c.args.ledger.now) in
+    let now = counts from (Q.faults c.commit_session.new.platform) (T.faults c.commit_session.new.tape) output (L.faults c.commit_session.new.ledger) in
+    number_blamed before now c.in-Ok.done.reply c.number_of.result (to_quiet _ _ before now (of_ledger _ _ _ _ output _ _) refl c.in-Ok.ensures.goes.blame.quiet) c.number_of.ensures
+
+pub returns-in-Err-clause-blame : goal.returns-in-Err-clause-blame
+returns-in-Err-clause-blame g c from output =
+    let Q = g.Q.Platform in
+    let T = g.T.Tape in
+    let L = g.L.Sink in
+    let before = counts from (Q.faults c.args.to.now) (T.faults c.args.tape.now) output (L.faults c.args.ledger.now) in
+    let now = counts from (Q.faults c.commit_session.new.platform) (T.faults c.commit_session.new.tape) output (L.faults c.commit_session.new.ledger) in
+    to_stopped _ _ before now c.in-Err.stop (of_ledger _ _ _ _ output _ _) refl c.in-Err.ensures.goes.blame.fell c.in-Err.ensures.goes.blame.cause
+
+pub returns-in-Ok-clause-wrong : goal.returns-in-Ok-clause-wrong
+returns-in-Ok-clause-wrong g c = number_opening c.in-Ok.done.reply c.number_of.result c.number_of.ensures
+
+pub returns-in-Err-clause-wrong : goal.returns-in-Err-clause-wrong
+returns-in-Err-clause-wrong g c = commit_to g.Q.Platform g.T.Tape _ _ _ _ c.in-Err.stop c.in-Err.ensures.answers.left

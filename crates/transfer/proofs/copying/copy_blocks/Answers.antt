@@ -1,0 +1,74 @@
+use Rattle.std.proofs.Common.{◌≡◌, ◌<◌, ◌+◌, ◌∙◌, ℕ, length, refl, ap, subst, arith}
+use Rattle.std.proofs.lemmas.List.Elements.{All-get_or}
+use Rattle.device_session.specs.Open.{blocks_of}
+use Rattle.session_calls.specs.Along.{Along, drawn_by}
+use Rattle.session_calls.proofs.AlongLaws.{along_start, along_then}
+use Rattle.session_calls.proofs.CallLaws.{along_more, no_draw}
+use Rattle.transfer.specs.Counts.{Counts}
+use Rattle.transfer.proofs.BlameLaws.{blames_done, blames_then, same_counts}
+use Rattle.transfer.proofs.copying.copy_blocks.Goals as goal
+
+pub loop-block-init : goal.loop-block-init
+loop-block-init g c = record {
+  source = λ any. along_start g.P.Platform c.args.from.now any c.args.source.now c.requires.source.is_open;
+  target = along_start g.Q.Platform c.args.to.now (drawn_by g.T.Tape c.args.tape.now) c.args.target.now c.requires.target.is_open;
+  from_quiet = refl;
+  to_quiet = refl;
+  tape_quiet = refl;
+}
+
+pub copy_block-requires-clause-source : goal.copy_block-requires-clause-source
+copy_block-requires-clause-source g c =
+    let along = c.loop-block.invariant.source no_draw in
+    record { is_open = along.is_open; mounted = λ told. along.mounted told (c.requires.source.mounted told) }
+
+pub copy_block-requires-clause-target : goal.copy_block-requires-clause-target
+copy_block-requires-clause-target g c =
+    let along = c.loop-block.invariant.target in
+    record { is_open = along.is_open; mounted = λ told. along.mounted told (c.requires.target.mounted told) }
+
+pub copy_block-requires-clause-within : goal.copy_block-requires-clause-within
+copy_block-requires-clause-within g c =
+    let within = All-get_or (λ (block : ℕ). block < blocks_of c.args.source.now) c.args.blocks.now c.loop-block.block-index 0 c.loop-block-test.true c.requires.within in
+    omega (arith, within, (c.loop-block.invariant.source no_draw).blocks)
+
+pub copy_block-requires-clause-alike : goal.copy_block-requires-clause-alike
+copy_block-requires-clause-alike g c = omega (arith, c.requires.alike, (c.loop-block.invariant.source no_draw).blocks, c.loop-block.invariant.target.blocks)
+
+pub loop-block-preserved : goal.loop-block-preserved
+loop-block-preserved g c =
+    let before = c.loop-block.invariant in
+    let T = g.T.Tape in
+    let same = (c.in-Ok.ensures.blame 0 0).quiet in
+    record {
+      source = λ any. along_then g.P.Platform 0 0 _ _ _ any any any _ _ _ (before.source any) (c.copy_block.ensures.from any);
+      target = along_then g.Q.Platform c.loop-block.block-index 1 _ _ _ (drawn_by T c.args.tape.now) (drawn_by T c.loop-block.tape) (drawn_by T c.copy_block.new.tape) _ _ _ before.target c.copy_block.ensures.to;
+      from_quiet = ap (λ (n : Counts). n.from) same ∙ before.from_quiet;
+      to_quiet = ap (λ (n : Counts). n.to) same ∙ before.to_quiet;
+      tape_quiet = ap (λ (n : Counts). n.tape) same ∙ before.tape_quiet;
+    }
+
+pub returns-in-Err-clause-from : goal.returns-in-Err-clause-from
+returns-in-Err-clause-from g c any = along_then g.P.Platform 0 0 _ _ _ any any any _ _ _ (c.loop-block.invariant.source any) (c.copy_block.ensures.from any)
+
+pub returns-in-Err-clause-to : goal.returns-in-Err-clause-to
+returns-in-Err-clause-to g c =
+    let T = g.T.Tape in
+    along_more g.Q.Platform (c.loop-block.block-index + 1) (length c.args.blocks.now) _ _ (drawn_by T c.args.tape.now) (drawn_by T c.copy_block.new.tape) _ _ (omega (arith, c.loop-block-test.true))
+    (along_then g.Q.Platform c.loop-block.block-index 1 _ _ _ (drawn_by T c.args.tape.now) (drawn_by T c.loop-block.tape) (drawn_by T c.copy_block.new.tape) _ _ _ c.loop-block.invariant.target c.copy_block.ensures.to)
+
+pub returns-in-Err-clause-blame : goal.returns-in-Err-clause-blame
+returns-in-Err-clause-blame g c output ledger =
+    blames_then _ _ _ _ (same_counts _ _ _ _ _ _ _ _ _ _ c.loop-block.invariant.from_quiet c.loop-block.invariant.to_quiet c.loop-block.invariant.tape_quiet refl refl)
+    (c.in-Err.ensures.blame output ledger)
+
+pub returns-clause-from : goal.returns-clause-from
+returns-clause-from g c any = c.loop-block.invariant.source any
+
+pub returns-clause-to : goal.returns-clause-to
+returns-clause-to g c =
+    let all : c.loop-block.block-index ≡ length c.args.blocks.now = omega arith in
+    subst (λ (n : ℕ). Along g.Q.Platform n c.args.to.now c.loop-block.to (drawn_by g.T.Tape c.args.tape.now) (drawn_by g.T.Tape c.loop-block.tape) c.args.target.now c.loop-block.target) all c.loop-block.invariant.target
+
+pub returns-clause-blame : goal.returns-clause-blame
+returns-clause-blame g c output ledger = blames_done _ _ _ (same_counts _ _ _ _ _ _ _ _ _ _ c.loop-block.invariant.from_quiet c.loop-block.invariant.to_quiet c.loop-block.invariant.tape_quiet refl refl)

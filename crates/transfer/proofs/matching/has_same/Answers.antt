@@ -1,0 +1,76 @@
+use Rattle.std.proofs.Common.{◌<◌, ◌∙◌, ℕ, refl, ap, arith}
+use Rattle.std.proofs.lemmas.List.Elements.{All-get_or}
+use Rattle.device_session.specs.Open.{blocks_of}
+use Rattle.session_calls.proofs.AlongLaws.{along_start, along_then}
+use Rattle.session_calls.proofs.CallLaws.{no_draw}
+use Rattle.transfer.specs.Counts.{Counts}
+use Rattle.transfer.proofs.BlameLaws.{blames_done, blames_then, same_counts}
+use Rattle.transfer.proofs.matching.has_same.Goals as goal
+
+pub loop-block-init : goal.loop-block-init
+loop-block-init g c = record {
+  source = λ any. along_start g.P.Platform c.args.from.now any c.args.source.now c.requires.source.is_open;
+  target = λ any. along_start g.Q.Platform c.args.to.now any c.args.target.now c.requires.target.is_open;
+  from_quiet = refl;
+  to_quiet = refl;
+}
+
+pub has_same_block-requires-clause-source : goal.has_same_block-requires-clause-source
+has_same_block-requires-clause-source g c =
+    let along = c.loop-block.invariant.source no_draw in
+    record { is_open = along.is_open; mounted = λ told. along.mounted told (c.requires.source.mounted told) }
+
+pub has_same_block-requires-clause-target : goal.has_same_block-requires-clause-target
+has_same_block-requires-clause-target g c =
+    let along = c.loop-block.invariant.target no_draw in
+    record { is_open = along.is_open; mounted = λ told. along.mounted told (c.requires.target.mounted told) }
+
+pub has_same_block-requires-clause-within : goal.has_same_block-requires-clause-within
+has_same_block-requires-clause-within g c =
+    let within = All-get_or (λ (block : ℕ). block < blocks_of c.args.source.now) c.args.blocks.now c.loop-block.block-index 0 c.loop-block-test.true c.requires.within in
+    omega (arith, within, (c.loop-block.invariant.source no_draw).blocks)
+
+pub has_same_block-requires-clause-alike : goal.has_same_block-requires-clause-alike
+has_same_block-requires-clause-alike g c = omega (arith, c.requires.alike, (c.loop-block.invariant.source no_draw).blocks, (c.loop-block.invariant.target no_draw).blocks)
+
+pub loop-block-preserved : goal.loop-block-preserved
+loop-block-preserved g c =
+    let before = c.loop-block.invariant in
+    let same = (c.in-Ok-true.ensures.blame 0 0 0).quiet in
+    record {
+      source = λ any. along_then g.P.Platform 0 0 _ _ _ any any any _ _ _ (before.source any) (c.has_same_block.ensures.from any);
+      target = λ any. along_then g.Q.Platform 0 0 _ _ _ any any any _ _ _ (before.target any) (c.has_same_block.ensures.to any);
+      from_quiet = ap (λ (n : Counts). n.from) same ∙ before.from_quiet;
+      to_quiet = ap (λ (n : Counts). n.to) same ∙ before.to_quiet;
+    }
+
+pub returns-in-Ok-false-clause-from : goal.returns-in-Ok-false-clause-from
+returns-in-Ok-false-clause-from g c any = along_then g.P.Platform 0 0 _ _ _ any any any _ _ _ (c.loop-block.invariant.source any) (c.has_same_block.ensures.from any)
+
+pub returns-in-Ok-false-clause-to : goal.returns-in-Ok-false-clause-to
+returns-in-Ok-false-clause-to g c any = along_then g.Q.Platform 0 0 _ _ _ any any any _ _ _ (c.loop-block.invariant.target any) (c.has_same_block.ensures.to any)
+
+pub returns-in-Ok-false-clause-blame : goal.returns-in-Ok-false-clause-blame
+returns-in-Ok-false-clause-blame g c tape output ledger =
+    blames_then _ _ _ _ (same_counts _ _ _ _ _ _ _ _ _ _ c.loop-block.invariant.from_quiet c.loop-block.invariant.to_quiet refl refl refl)
+    (blames_done _ _ _ (c.in-Ok-false.ensures.blame tape output ledger).quiet)
+
+pub returns-in-Err-clause-from : goal.returns-in-Err-clause-from
+returns-in-Err-clause-from g c any = along_then g.P.Platform 0 0 _ _ _ any any any _ _ _ (c.loop-block.invariant.source any) (c.has_same_block.ensures.from any)
+
+pub returns-in-Err-clause-to : goal.returns-in-Err-clause-to
+returns-in-Err-clause-to g c any = along_then g.Q.Platform 0 0 _ _ _ any any any _ _ _ (c.loop-block.invariant.target any) (c.has_same_block.ensures.to any)
+
+pub returns-in-Err-clause-blame : goal.returns-in-Err-clause-blame
+returns-in-Err-clause-blame g c tape output ledger =
+    blames_then _ _ _ _ (same_counts _ _ _ _ _ _ _ _ _ _ c.loop-block.invariant.from_quiet c.loop-block.invariant.to_quiet refl refl refl)
+    (c.in-Err.ensures.blame tape output ledger)
+
+pub returns-clause-from : goal.returns-clause-from
+returns-clause-from g c any = c.loop-block.invariant.source any
+
+pub returns-clause-to : goal.returns-clause-to
+returns-clause-to g c any = c.loop-block.invariant.target any
+
+pub returns-clause-blame : goal.returns-clause-blame
+returns-clause-blame g c tape output ledger = blames_done _ _ _ (same_counts _ _ _ _ _ _ _ _ _ _ c.loop-block.invariant.from_quiet c.loop-block.invariant.to_quiet refl refl refl)

@@ -1,0 +1,52 @@
+use Rattle.std.proofs.Common.{◌∙◌, Ok, refl, ap}
+use Rattle.transfer.specs.Counts.{counts}
+use Rattle.transfer.proofs.BlameLaws.{blames_halt, blames_then, from_quiet, from_stopped, of_platform}
+use Rattle.transfer.proofs.FromLaws.{clears_look, clears_mounted, ready_found}
+use Rattle.transfer.proofs.HaltLaws.{mount_from}
+use Rattle.transfer.proofs.ToLaws.{spans_not}
+use Rattle.transfer.proofs.running.move_device.Goals as goal
+
+pub move_session-requires : goal.move_session-requires
+move_session-requires g c = record { ready = ready_found g.P.Platform c.args.from.now c.mount_session.new.platform c.in-Ok-Some.source c.mount_session.result (c.in-Ok-Some.is ∙ ap Ok c.in-Ok-Some.field-0-is) c.mount_session.ensures.finds }
+
+pub returns-in-Ok-Some-clause-from : goal.returns-in-Ok-Some-clause-from
+returns-in-Ok-Some-clause-from g c =
+    clears_mounted g.P.Platform c.args.from.now c.mount_session.new.platform c.move_session.new.from c.in-Ok-Some.source _ c.mount_session.result (c.in-Ok-Some.is ∙ ap Ok c.in-Ok-Some.field-0-is) c.mount_session.ensures.looks
+    (c.mount_session.ensures.keeps _ _) c.mount_session.ensures.leads c.move_session.ensures.from
+
+pub returns-in-Ok-None-clause-from : goal.returns-in-Ok-None-clause-from
+returns-in-Ok-None-clause-from g c = clears_look g.P.Platform c.args.from.now c.mount_session.new.platform _ (λ done. cc) c.mount_session.ensures.looks
+
+pub returns-in-Err-clause-from : goal.returns-in-Err-clause-from
+returns-in-Err-clause-from g c = clears_look g.P.Platform c.args.from.now c.mount_session.new.platform _ (λ done. cc) c.mount_session.ensures.looks
+
+pub returns-in-Ok-None-clause-to : goal.returns-in-Ok-None-clause-to
+returns-in-Ok-None-clause-to g c = spans_not g.Q.Platform _ _ (g.met.Q.Platform.has_room c.args.to.now)
+
+pub returns-in-Err-clause-to : goal.returns-in-Err-clause-to
+returns-in-Err-clause-to g c = spans_not g.Q.Platform _ _ (g.met.Q.Platform.has_room c.args.to.now)
+
+pub returns-in-Ok-Some-clause-blame : goal.returns-in-Ok-Some-clause-blame
+returns-in-Ok-Some-clause-blame g c output =
+    let P = g.P.Platform in
+    let before = counts (P.faults c.args.from.now) (g.Q.Platform.faults c.args.to.now) (g.T.Tape.faults c.args.tape.now) output (g.L.Sink.faults c.args.ledger.now) in
+    let mid = counts (P.faults c.mount_session.new.platform) (g.Q.Platform.faults c.args.to.now) (g.T.Tape.faults c.args.tape.now) output (g.L.Sink.faults c.args.ledger.now) in
+    blames_then _ _ _ _ (from_quiet _ _ before mid (of_platform _ _ _ output _) refl c.in-Ok-Some.ensures.blame.quiet) (c.move_session.ensures.blame output)
+
+pub returns-in-Ok-None-clause-blame : goal.returns-in-Ok-None-clause-blame
+returns-in-Ok-None-clause-blame g c output =
+    let P = g.P.Platform in
+    let before = counts (P.faults c.args.from.now) (g.Q.Platform.faults c.args.to.now) (g.T.Tape.faults c.args.tape.now) output (g.L.Sink.faults c.args.ledger.now) in
+    let now = counts (P.faults c.mount_session.new.platform) (g.Q.Platform.faults c.args.to.now) (g.T.Tape.faults c.args.tape.now) output (g.L.Sink.faults c.args.ledger.now) in
+    let same = from_quiet _ _ before now (of_platform _ _ _ output _) refl c.in-Ok-None.ensures.blame.quiet in
+    blames_halt before now _ same same
+
+pub returns-in-Err-clause-blame : goal.returns-in-Err-clause-blame
+returns-in-Err-clause-blame g c output =
+    let P = g.P.Platform in
+    let before = counts (P.faults c.args.from.now) (g.Q.Platform.faults c.args.to.now) (g.T.Tape.faults c.args.tape.now) output (g.L.Sink.faults c.args.ledger.now) in
+    let now = counts (P.faults c.mount_session.new.platform) (g.Q.Platform.faults c.args.to.now) (g.T.Tape.faults c.args.tape.now) output (g.L.Sink.faults c.args.ledger.now) in
+    from_stopped _ _ before now c.in-Err.stop (of_platform _ _ _ output _) refl c.in-Err.ensures.blame.fell c.in-Err.ensures.blame.cause
+
+pub returns-in-Err-clause-wrong : goal.returns-in-Err-clause-wrong
+returns-in-Err-clause-wrong g c = mount_from g.P.Platform.tells g.Q.Platform.tells (g.P.Platform.history c.mount_session.new.platform).present (g.Q.Platform.history c.args.to.now).present _ _ _ c.in-Err.stop c.in-Err.ensures.stops

@@ -1,0 +1,6 @@
+pub mod Counts
+pub mod Halts
+pub mod Listing
+pub mod Opening
+pub mod Running
+pub mod Program

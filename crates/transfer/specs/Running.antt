@@ -1,0 +1,98 @@
+-- What a run leaves of both platforms.
+use Rattle.std.specs.Prelude.{◌≡◌, ◌≤◌, ◌⊎◌, ℕ, List, [], ◌∷◌, Option, None, Some, Result, Ok, Err}
+use Rattle.sdbt_base.specs.Arrays.{Device, State, closed, mounted, new_device, session_on}
+use Rattle.platform.specs.declared.platforms.Platform.{Ghosts as PlatformGhosts}
+use Rattle.platform.specs.Image.{Image}
+use Rattle.platform.specs.History.{Turns}
+use Rattle.page_store.specs.Stands.{Stands}
+use Rattle.device_terms.specs.Served.{IsServedImage}
+use Rattle.device_course.specs.Course.{Made}
+use Rattle.device_course.specs.Keys.{KeepsOn}
+use Rattle.device_course.specs.Marks.{last_mark}
+use Rattle.device_course.specs.States.{IsAt, IsLater, IsListed, Outside, outside}
+use Rattle.device_session.specs.Open.{number_of}
+use Rattle.device_session.specs.Sessions.{Session}
+use Rattle.device_session.specs.declared.refusals.CommitReply.{CommitReply}
+use Rattle.device_session.specs.declared.refusals.CommitReply.TheVariants as replies
+use Rattle.session_calls.specs.Carrying.{IsReady}
+use Rattle.session_calls.specs.Damage.{IsWrongPage}
+use Rattle.session_calls.specs.declared.stops.DeviceStop.TheVariants as device
+use Rattle.transfer.specs.declared.halts.Halt.{Halt}
+use Rattle.transfer.specs.declared.halts.Halt.TheVariants as halts
+
+-- a platform without a tape and a ledger
+abbrev pub alone : {S : Type 0} → PlatformGhosts S → S → Outside
+alone P platform = outside (P.history platform) (P.head platform) (P.capacity platform) None None
+
+-- a part of a run, whatever it did: pages were only added; keys were kept, and the ledger got what belongs to the root records that came into the cell, of one more entry a part only where
+-- it doesn't go on; and from the device that there was it made others
+pub record Spans (tells : Type 0) (old new : Outside) (Going : Type 0) : Type 0 where
+  pub later : IsLater old new
+  pub keeps : KeepsOn tells old.drawn new.drawn old.written new.written None old.history new.history Going (λ keys. Unit {0})
+  pub made : tells → (there : Option Device) → Stands old.history.present there → IsServedImage old.history.present
+      → (marks : List (Option Device)) × Made old.history new.history None (closed there) marks (closed (last_mark there marks))
+
+-- the device that a session was opened on, where this one was there: the same; or, where none was, a new one of so many blocks and of this order, which was made
+abbrev pub IsOpened : Option Device → List (Option Device) → Device → ℕ → ℕ → Type 0
+IsOpened there marks opened blocks order =
+    ((there ≡ Some opened) × (marks ≡ []))
+    ⊎ ((there ≡ None) × (opened ≡ new_device blocks order) × (marks ≡ Some opened ∷ []))
+
+-- a session without a change was opened on the device that there is, or on a new one
+pub record Opens (tells : Type 0) (blocks order : ℕ) (old new : Outside) (session : Session) : Type 0 where
+  pub ready : IsReady tells new session
+  pub capacity : new.capacity ≡ old.capacity
+  pub rises : old.head ≤ new.head
+  pub keeps : KeepsOn tells old.drawn new.drawn old.written new.written None old.history new.history (Unit {0}) (IsListed (Some session) new.history.present)
+  pub made : tells → (there : Option Device) → Stands old.history.present there → IsServedImage old.history.present
+      → (marks : List (Option Device)) × (opened : Device) × IsOpened there marks opened blocks order × (number_of session ≡ opened.number)
+      × Made old.history new.history (Some session) (closed there) marks (mounted opened (session_on opened))
+
+-- a part of a run that began with this session: the cell stayed, until a moment from which on it is empty; no page was added, and no key drawn. The device stayed, or it was cleared,
+-- which it was where all is done
+pub record Clears (tells : Type 0) (before : Option Session) (old new : Outside) (Done : Type 0) : Type 0 where
+  pub head : new.head ≡ old.head
+  pub capacity : new.capacity ≡ old.capacity
+  pub turns : tells → Turns old.history new.history (λ image. image.cell ≡ old.history.present.cell) (λ image. image.cell ≡ None)
+  pub keeps : KeepsOn tells old.drawn new.drawn old.written new.written before old.history new.history (Unit {0}) (λ keys. Unit {0})
+  pub made : tells → (entry : State) → IsAt old.history.present before entry
+      → ((Done → ⊥) × Made old.history new.history None entry [] (closed entry.device)) ⊎ Made old.history new.history None entry (None ∷ []) (closed None)
+
+-- a record that is named doesn't fit its place on its platform, on any pages, where that tells
+abbrev pub MeetsWrong : Type 0 → Type 0 → Image → Image → Halt → Type 0
+MeetsWrong from_tells to_tells from to (halts.From (device.BadRecord addr)) = from_tells → IsWrongPage from addr
+MeetsWrong from_tells to_tells from to (halts.To (device.BadRecord addr)) = to_tells → IsWrongPage to addr
+MeetsWrong from_tells to_tells from to _ = Unit {0}
+
+-- a halt of the device that is moved, and of the one that it is moved to: at a record that doesn't fit its place, on any pages; or since a platform, the tape or the ledger failed, no memory
+-- was given, or too few pages are free
+abbrev pub HaltsFrom : Type 0 → Image → Halt → Type 0
+HaltsFrom tells image (halts.From (device.BadRecord addr)) = tells → IsWrongPage image addr
+HaltsFrom tells image (halts.From device.Platform) = Unit {0}
+HaltsFrom tells image (halts.From device.Memory) = Unit {0}
+HaltsFrom tells image _ = ⊥
+
+abbrev pub HaltsTo : Type 0 → Image → Halt → Type 0
+HaltsTo tells image halts.Full = Unit {0}
+HaltsTo tells image (halts.To (device.BadRecord addr)) = tells → IsWrongPage image addr
+HaltsTo tells image (halts.To device.Platform) = Unit {0}
+HaltsTo tells image (halts.To device.Tape) = Unit {0}
+HaltsTo tells image (halts.To device.Ledger) = Unit {0}
+HaltsTo tells image (halts.To device.Memory) = Unit {0}
+HaltsTo tells image _ = ⊥
+
+-- a halt at which no session is open on the second platform: no record is named
+abbrev pub IsOfOpening : Halt → Type 0
+IsOfOpening halts.NotEmpty = Unit {0}
+IsOfOpening halts.Full = Unit {0}
+IsOfOpening (halts.To device.Platform) = Unit {0}
+IsOfOpening (halts.To device.Tape) = Unit {0}
+IsOfOpening (halts.To device.Ledger) = Unit {0}
+IsOfOpening (halts.To device.BadRoot) = Unit {0}
+IsOfOpening (halts.To device.Memory) = Unit {0}
+IsOfOpening _ = ⊥
+
+-- the number that a commit answered, or that too few pages are free
+abbrev pub IsNumberOf : CommitReply → Result ℕ Halt → Type 0
+IsNumberOf (replies.Committed number) result = result ≡ Ok number
+IsNumberOf (replies.Full needed free) result = result ≡ Err halts.Full

@@ -1,0 +1,104 @@
+//! The copying of blocks from one session to another, and its commit.
+ghost use Rattle.std.specs.Prelude.{◌≡◌, ◌<◌, ℕ, All, None, Some, IfErr, IsOk, List, Option, length};
+ghost use Rattle.device_course.specs.States.{around};
+ghost use Rattle.device_session.specs.Open.{blocks_of};
+ghost use Rattle.session_calls.specs.Along.{Along, Drawn, drawn_by};
+ghost use Rattle.session_calls.specs.Carrying.{Carries, IsReady};
+ghost use Rattle.transfer.specs.Counts.{counts};
+ghost use Rattle.transfer.specs.Halts.{Blames};
+ghost use Rattle.transfer.specs.Running.{IsNumberOf, IsOfOpening, MeetsWrong, alone};
+
+use crate::halts::Halt;
+use crate::sides::{read_source, write_target};
+use device_session::{CommitReply, Session};
+use platform::Platform;
+use sdbt_base::{BLOCK, Sink, Tape};
+use session_calls::commit_session;
+
+/// Writes to one session what another one reads of each of these blocks, in their order.
+pub(crate) fn copy_blocks<P: Platform, Q: Platform, T: Tape>(
+    blocks: &[u64],
+    source: &mut Session,
+    target: &mut Session,
+    from: &mut P,
+    to: &mut Q,
+    tape: &mut T,
+) -> Result<(), Halt>
+    requires source { IsReady P.tells (alone P.Platform from.old) source.old }
+    requires target { IsReady Q.tells (alone Q.Platform to.old) target.old }
+    requires within { All (λ block. block < blocks_of source.old) blocks.now }
+    requires alike { blocks_of target.old ≡ blocks_of source.old }
+    ensures from { (any : Drawn) → Along P.Platform 0 from.old from.new any any source.old source.new }
+    ensures to { Along Q.Platform (length blocks.now) to.old to.new (drawn_by T.Tape tape.old) (drawn_by T.Tape tape.new) target.old target.new }
+    ensures blame { (output ledger : ℕ) → Blames (counts (P.faults from.old) (Q.faults to.old) (T.faults tape.old) output ledger)
+        (counts (P.faults from.new) (Q.faults to.new) (T.faults tape.new) output ledger) result }
+    ensures wrong { IfErr result (MeetsWrong P.tells Q.tells (P.history from.new).present (Q.history to.new).present) }
+{
+    for block in blocks {
+        match copy_block(*block, source, target, from, to, tape) {
+            Ok(()) => {}
+            Err(halt) => return Err(halt),
+        }
+    }
+    Ok(())
+}
+
+/// Writes to one session what another one reads of a block.
+fn copy_block<P: Platform, Q: Platform, T: Tape>(
+    block: u64,
+    source: &mut Session,
+    target: &mut Session,
+    from: &mut P,
+    to: &mut Q,
+    tape: &mut T,
+) -> Result<(), Halt>
+    requires source { IsReady P.tells (alone P.Platform from.old) source.old }
+    requires target { IsReady Q.tells (alone Q.Platform to.old) target.old }
+    requires within { block < blocks_of source.old }
+    requires alike { blocks_of target.old ≡ blocks_of source.old }
+    ensures from { (any : Drawn) → Along P.Platform 0 from.old from.new any any source.old source.new }
+    ensures to { Along Q.Platform 1 to.old to.new (drawn_by T.Tape tape.old) (drawn_by T.Tape tape.new) target.old target.new }
+    ensures blame { (output ledger : ℕ) → Blames (counts (P.faults from.old) (Q.faults to.old) (T.faults tape.old) output ledger)
+        (counts (P.faults from.new) (Q.faults to.new) (T.faults tape.new) output ledger) result }
+    ensures wrong { IfErr result (MeetsWrong P.tells Q.tells (P.history from.new).present (Q.history to.new).present) }
+{
+    let mut content = [0; BLOCK];
+    match read_source(source, from, block, &mut content) {
+        Ok(()) => {}
+        Err(halt) => return Err(halt),
+    }
+    match write_target(target, to, tape, block, &content) {
+        Ok(()) => Ok(()),
+        Err(halt) => Err(halt),
+    }
+}
+
+/// Makes the changes of a session the device's, and answers its commit number.
+pub(crate) fn commit_target<Q: Platform, T: Tape, L: Sink>(
+    target: Session,
+    to: &mut Q,
+    tape: &mut T,
+    ledger: &mut L,
+) -> Result<u64, Halt>
+    requires target { IsReady Q.tells (around Q.Platform T.Tape L.Sink to.old tape.old ledger.old) target }
+    ensures carries { Carries Q.tells (around Q.Platform T.Tape L.Sink to.old tape.old ledger.old)
+        (around Q.Platform T.Tape L.Sink to.new tape.new ledger.new) target None (IsOk result) }
+    ensures blame { (from output : ℕ) → Blames (counts from (Q.faults to.old) (T.faults tape.old) output (L.faults ledger.old))
+        (counts from (Q.faults to.new) (T.faults tape.new) output (L.faults ledger.new)) result }
+    ensures wrong { IfErr result IsOfOpening }
+{
+    match commit_session(target, to, tape, ledger) {
+        Ok(done) => number_of(&done.reply),
+        Err(stop) => Err(Halt::To(stop)),
+    }
+}
+
+/// The number that a commit answered, or the halt where too few pages are free.
+fn number_of(reply: &CommitReply) -> Result<u64, Halt>
+    ensures { IsNumberOf reply.now result }
+{
+    match reply {
+        CommitReply::Committed { number } => Ok(*number),
+        CommitReply::Full { .. } => Err(Halt::Full),
+    }
+}

@@ -1,0 +1,65 @@
+//! The move of a device to a fresh medium: what is on one platform is copied to another, and the root record that leads to it is cleared.
+#![tactic(auto)]
+
+ghost use Rattle.std.specs.Prelude.{◌≡◌, [], map, string_bytes};
+ghost use Rattle.device_course.specs.States.{around};
+ghost use Rattle.transfer.specs.Counts.{counts};
+ghost use Rattle.transfer.specs.Program.{Exits, FromAlone, Ran, ToAlone};
+ghost use Rattle.transfer.specs.Running.{alone};
+
+mod copying;
+mod halts;
+mod listing;
+mod matching;
+mod opening;
+mod running;
+mod sides;
+
+pub use halts::Halt;
+use platform::Platform;
+use running::run;
+use sdbt_base::{Sink, Tape};
+use std::alloc::Global;
+
+/// Moves the device on `from` to `to`, whose ledger is `ledger`, and answers the exit status.
+///
+/// Where there is no device on `to` one is made there, of as many blocks and of the same order. What the blocks of `from` hold is
+/// written to one that was never written, and committed once; nothing is where it has the same blocks with the same content. Then the
+/// root record of `from` is cleared: its pages stay, and no chain of keys leads to them any more.
+/// Statuses: 0, the device was moved; 2, words are given; 4, `output` failed; 5, `from`; 6, the tape; 7, `ledger`; 8, a root cell is
+/// full, and its root record can't be served; 9, a record was not what a tree wants there; 10, there is no device on `from`, or another
+/// one on `to`, or too few pages are free there; 11, no memory; 13, `to` failed.
+pub fn run_transfer<P: Platform, Q: Platform, T: Tape, O: Sink, L: Sink>(
+    alloc: Global,
+    words: &[String],
+    from: &mut P,
+    to: &mut Q,
+    tape: &mut T,
+    output: &mut O,
+    ledger: &mut L,
+) -> u8
+    // 2 exactly where words are given; a fault only where the count of that object rose.
+    ensures exits { Exits (map string_bytes words.now) result
+        (counts (P.faults from.old) (Q.faults to.old) (T.faults tape.old) (O.faults output.old) (L.faults ledger.old))
+        (counts (P.faults from.new) (Q.faults to.new) (T.faults tape.new) (O.faults output.new) (L.faults ledger.new)) }
+    ensures other_words { result ≡ 2 → (from.new ≡ from.old) × (to.new ≡ to.old) × (tape.new ≡ tape.old) × (output.new ≡ output.old) × (ledger.new ≡ ledger.old) }
+
+    // What was said, and, on any pages, which record is named.
+    ensures ran { map string_bytes words.now ≡ [] → Ran P.tells Q.tells (P.history from.new).present (Q.history to.new).present result
+        (O.written output.old) (O.written output.new) }
+
+    // Whatever the other platform does: at each moment a loss of power leaves the device of `from`, or none.
+    ensures from_alone { FromAlone P.tells (alone P.Platform from.old) (alone P.Platform from.new) result }
+
+    // And at each moment it leaves one of the devices that `to` was made, in their order; its ledger got their certificates.
+    ensures to_alone { ToAlone Q.tells (around Q.Platform T.Tape L.Sink to.old tape.old ledger.old)
+        (around Q.Platform T.Tape L.Sink to.new tape.new ledger.new) result }
+{
+    if !words.is_empty() {
+        return 2;
+    }
+    match run(alloc, from, to, tape, output, ledger) {
+        Ok(()) => 0,
+        Err(halt) => halt.status(),
+    }
+}

@@ -1,0 +1,102 @@
+//! The device that another one comes to: the one that there is, or a new one.
+ghost use Rattle.std.specs.Prelude.{◌≡◌, ◌≤◌, ◌%◌, ℕ, None, Some, IfErr, IfOk, IsOk, List, Option};
+ghost use Rattle.device_course.specs.States.{around};
+ghost use Rattle.transfer.specs.Counts.{counts};
+ghost use Rattle.transfer.specs.Halts.{Blames};
+ghost use Rattle.transfer.specs.Opening.{halt_of_format};
+ghost use Rattle.transfer.specs.Running.{IsOfOpening, Opens, Spans};
+
+use crate::halts::Halt;
+use crate::running::CACHED_NODES;
+use device_core::{FormatRefusal, format};
+use device_session::Session;
+use platform::Platform;
+use sdbt_base::{Sink, Tape};
+use session_calls::{DeviceStop, mount_session};
+use std::alloc::Global;
+
+/// A session on the device that another one comes to.
+#[derive(Drop)]
+pub(crate) struct Target {
+    /// The session, without a change.
+    pub session: Session,
+    /// Whether the device was made here.
+    pub is_new: bool,
+}
+
+/// Opens a session on the device that there is, or else on a new one of so many blocks and of this order.
+pub(crate) fn open_target<Q: Platform, T: Tape, L: Sink>(
+    alloc: Global,
+    to: &mut Q,
+    tape: &mut T,
+    ledger: &mut L,
+    blocks: u64,
+    order: u16,
+) -> Result<Target, Halt>
+    requires sized { (1 ≤ blocks) × (blocks ≤ 1048576) }
+    requires ordered { (4 ≤ order) × (order ≤ 64) × (order % 2 ≡ 0) }
+    ensures opened { IfOk result (λ target. Opens Q.tells blocks order (around Q.Platform T.Tape L.Sink to.old tape.old ledger.old)
+        (around Q.Platform T.Tape L.Sink to.new tape.new ledger.new) target.session) }
+    ensures stopped { IfErr result (λ halt. Spans Q.tells (around Q.Platform T.Tape L.Sink to.old tape.old ledger.old)
+        (around Q.Platform T.Tape L.Sink to.new tape.new ledger.new) ⊥) }
+    ensures blame { (from output : ℕ) → Blames (counts from (Q.faults to.old) (T.faults tape.old) output (L.faults ledger.old))
+        (counts from (Q.faults to.new) (T.faults tape.new) output (L.faults ledger.new)) result }
+    ensures stops { IfErr result IsOfOpening }
+{
+    match mount_session(alloc, to, CACHED_NODES) {
+        Ok(Some(session)) => Ok(Target {
+            session,
+            is_new: false,
+        }),
+        Ok(None) => make_target(alloc, to, tape, ledger, blocks, order),
+        Err(stop) => Err(Halt::To(stop)),
+    }
+}
+
+/// Makes a device where there is none, and opens a session on it.
+fn make_target<Q: Platform, T: Tape, L: Sink>(
+    alloc: Global,
+    to: &mut Q,
+    tape: &mut T,
+    ledger: &mut L,
+    blocks: u64,
+    order: u16,
+) -> Result<Target, Halt>
+    requires sized { (1 ≤ blocks) × (blocks ≤ 1048576) }
+    requires ordered { (4 ≤ order) × (order ≤ 64) × (order % 2 ≡ 0) }
+    requires empty { Q.tells → (Q.history to.old).present.cell ≡ None }
+    ensures opened { IfOk result (λ target. Opens Q.tells blocks order (around Q.Platform T.Tape L.Sink to.old tape.old ledger.old)
+        (around Q.Platform T.Tape L.Sink to.new tape.new ledger.new) target.session) }
+    ensures stopped { IfErr result (λ halt. Spans Q.tells (around Q.Platform T.Tape L.Sink to.old tape.old ledger.old)
+        (around Q.Platform T.Tape L.Sink to.new tape.new ledger.new) ⊥) }
+    ensures blame { (from output : ℕ) → Blames (counts from (Q.faults to.old) (T.faults tape.old) output (L.faults ledger.old))
+        (counts from (Q.faults to.new) (T.faults tape.new) output (L.faults ledger.new)) result }
+    ensures stops { IfErr result IsOfOpening }
+{
+    match format(alloc, to, tape, ledger, blocks, order) {
+        Ok(()) => {}
+        Err(refusal) => return Err(halt_of(refusal)),
+    }
+    match mount_session(alloc, to, CACHED_NODES) {
+        Ok(Some(session)) => Ok(Target {
+            session,
+            is_new: true,
+        }),
+        Ok(None) => Err(Halt::To(DeviceStop::BadRoot)),
+        Err(stop) => Err(Halt::To(stop)),
+    }
+}
+
+/// The halt at a device that was not made.
+fn halt_of(refusal: FormatRefusal) -> Halt
+    ensures { result ≡ halt_of_format refusal }
+{
+    match refusal {
+        FormatRefusal::NotEmpty => Halt::NotEmpty,
+        FormatRefusal::Full => Halt::Full,
+        FormatRefusal::Memory => Halt::To(DeviceStop::Memory),
+        FormatRefusal::TapeFault => Halt::To(DeviceStop::Tape),
+        FormatRefusal::PlatformFault => Halt::To(DeviceStop::Platform),
+        FormatRefusal::LedgerFault => Halt::To(DeviceStop::Ledger),
+    }
+}

@@ -1,0 +1,120 @@
+//! Calls on either side, each with the halt of its side.
+ghost use Rattle.std.specs.Prelude.{◌≡◌, ◌<◌, ◌≤◌, ℕ, All, None, Some, IfErr, IfOk, List, Option, length};
+ghost use Rattle.device_session.specs.Open.{blocks_of};
+ghost use Rattle.session_calls.specs.Along.{Along, Drawn, drawn_by};
+ghost use Rattle.session_calls.specs.Carrying.{IsReady};
+ghost use Rattle.transfer.specs.Counts.{counts};
+ghost use Rattle.transfer.specs.Halts.{Blames};
+ghost use Rattle.transfer.specs.Running.{HaltsFrom, HaltsTo, alone};
+
+use crate::halts::Halt;
+use crate::listing::list_blocks;
+use device_session::Session;
+use platform::Platform;
+use sdbt_base::Tape;
+use session_calls::{read_block, write_block};
+use std::alloc::Global;
+
+/// Reads a block of the device that is moved.
+pub(crate) fn read_source<P: Platform>(
+    source: &mut Session,
+    from: &mut P,
+    block: u64,
+    out: &mut [u8],
+) -> Result<(), Halt>
+    requires size { length out.old ≡ 4096 }
+    requires ready { IsReady P.tells (alone P.Platform from.old) source.old }
+    requires within { block < blocks_of source.old }
+    ensures along { (any : Drawn) → Along P.Platform 0 from.old from.new any any source.old source.new }
+    ensures blame { (to tape output ledger : ℕ) → Blames (counts (P.faults from.old) to tape output ledger)
+        (counts (P.faults from.new) to tape output ledger) result }
+    ensures wrong { IfErr result (HaltsFrom P.tells (P.history from.new).present) }
+{
+    match read_block(source, from, block, out) {
+        Ok(()) => Ok(()),
+        Err(stop) => Err(Halt::From(stop)),
+    }
+}
+
+/// Reads a block of the device that it is moved to.
+pub(crate) fn read_target<Q: Platform>(
+    target: &mut Session,
+    to: &mut Q,
+    block: u64,
+    out: &mut [u8],
+) -> Result<(), Halt>
+    requires size { length out.old ≡ 4096 }
+    requires ready { IsReady Q.tells (alone Q.Platform to.old) target.old }
+    requires within { block < blocks_of target.old }
+    ensures along { (any : Drawn) → Along Q.Platform 0 to.old to.new any any target.old target.new }
+    ensures blame { (from tape output ledger : ℕ) → Blames (counts from (Q.faults to.old) tape output ledger)
+        (counts from (Q.faults to.new) tape output ledger) result }
+    ensures wrong { IfErr result (HaltsTo Q.tells (Q.history to.new).present) }
+{
+    match read_block(target, to, block, out) {
+        Ok(()) => Ok(()),
+        Err(stop) => Err(Halt::To(stop)),
+    }
+}
+
+/// Writes a block of the device that it is moved to, where a page is free.
+pub(crate) fn write_target<Q: Platform, T: Tape>(
+    target: &mut Session,
+    to: &mut Q,
+    tape: &mut T,
+    block: u64,
+    content: &[u8],
+) -> Result<(), Halt>
+    requires size { length content.now ≤ 4096 }
+    requires ready { IsReady Q.tells (alone Q.Platform to.old) target.old }
+    requires within { block < blocks_of target.old }
+    ensures along { Along Q.Platform 1 to.old to.new (drawn_by T.Tape tape.old) (drawn_by T.Tape tape.new) target.old target.new }
+    ensures blame { (from output ledger : ℕ) → Blames (counts from (Q.faults to.old) (T.faults tape.old) output ledger)
+        (counts from (Q.faults to.new) (T.faults tape.new) output ledger) result }
+    ensures wrong { IfErr result (HaltsTo Q.tells (Q.history to.new).present) }
+{
+    if to.head() == to.capacity() {
+        return Err(Halt::Full);
+    }
+    match write_block(target, to, tape, block, content) {
+        Ok(()) => Ok(()),
+        Err(stop) => Err(Halt::To(stop)),
+    }
+}
+
+/// The mapped blocks of the device that is moved.
+pub(crate) fn list_source<P: Platform>(
+    alloc: Global,
+    source: &Session,
+    from: &mut P,
+) -> Result<Vec<u64>, Halt>
+    requires ready { IsReady P.tells (alone P.Platform from.old) source.now }
+    ensures within { IfOk result (λ blocks. All (λ block. block < blocks_of source.now) blocks.items) }
+    ensures along { (any : Drawn) → Along P.Platform 0 from.old from.new any any source.now source.now }
+    ensures blame { (to tape output ledger : ℕ) → Blames (counts (P.faults from.old) to tape output ledger)
+        (counts (P.faults from.new) to tape output ledger) result }
+    ensures wrong { IfErr result (HaltsFrom P.tells (P.history from.new).present) }
+{
+    match list_blocks(alloc, source, from) {
+        Ok(blocks) => Ok(blocks),
+        Err(stop) => Err(Halt::From(stop)),
+    }
+}
+
+/// The mapped blocks of the device that it is moved to.
+pub(crate) fn list_target<Q: Platform>(
+    alloc: Global,
+    target: &Session,
+    to: &mut Q,
+) -> Result<Vec<u64>, Halt>
+    requires ready { IsReady Q.tells (alone Q.Platform to.old) target.now }
+    ensures along { (any : Drawn) → Along Q.Platform 0 to.old to.new any any target.now target.now }
+    ensures blame { (from tape output ledger : ℕ) → Blames (counts from (Q.faults to.old) tape output ledger)
+        (counts from (Q.faults to.new) tape output ledger) result }
+    ensures wrong { IfErr result (HaltsTo Q.tells (Q.history to.new).present) }
+{
+    match list_blocks(alloc, target, to) {
+        Ok(blocks) => Ok(blocks),
+        Err(stop) => Err(Halt::To(stop)),
+    }
+}
