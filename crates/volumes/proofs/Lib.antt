@@ -1,5 +1,6 @@
 pub mod SpanLaws
 pub mod StatusLaws
+pub mod EndedLaws
 pub mod StartLaws
 pub mod EndLaws
 pub mod ProgramLaws
