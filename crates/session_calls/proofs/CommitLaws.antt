@@ -80,6 +80,7 @@ idle_number P platform platform_now tape tape_now ledger ledger_now session now 
       is_number = ap (λ (s : Session). number_of s) (sym same.0);
       idle = λ e. same;
       next = λ e. absurd (let no : true ≡ false = sym e ∙ idle in cc);
+      names = λ e. absurd (let no : true ≡ false = sym e ∙ idle in cc);
     }
 
 raised_number : {S R W : Type 0} (P : PlatformGhosts S) (T : TapeGhosts R) (platform platform_now : S) (tape tape_now : R) (ledger ledger_now : W) (session now : Session) (reply : CommitReply) → IsOpen now (P.head platform_now)
@@ -93,6 +94,7 @@ raised_number P T platform platform_now tape tape_now ledger ledger_now session 
   is_number = sym raised.number;
   idle = λ e. absurd (let no : true ≡ false = sym touched ∙ e in cc);
   next = λ e. raised.number;
+  names = λ e. raised.names.head;
 }
 
 pub reply_answers : {S R W : Type 0} (P : PlatformGhosts S) (T : TapeGhosts R) (platform platform_now : S) (tape tape_now : R) (ledger ledger_now : W) (session now : Session) (reply : CommitReply) → IsOpen session (P.head platform) → IsOpen now (P.head platform_now)

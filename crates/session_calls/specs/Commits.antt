@@ -10,7 +10,7 @@ use Rattle.device_terms.specs.Effects.{AddsNothing}
 use Rattle.device_course.specs.Keys.{KeepsOn}
 use Rattle.device_course.specs.Marks.{Leaves}
 use Rattle.device_course.specs.States.{IsAt, IsListed}
-use Rattle.device_session.specs.Open.{IsOpen, blocks_of, is_touched, needed_by, number_of}
+use Rattle.device_session.specs.Open.{IsOpen, blocks_of, is_touched, needed_by, number_of, root_of}
 use Rattle.device_session.specs.Reading.{room_of}
 use Rattle.device_session.specs.Sessions.{Session}
 use Rattle.device_session.specs.declared.refusals.CommitFault.{CommitFault}
@@ -66,7 +66,7 @@ pub record CommitGoes {S R W : Type 0} (P : PlatformGhosts S) (T : TapeGhosts R)
 abbrev pub AreSame : {S R W : Type 0} → S → S → R → R → W → W → Session → Session → Type 0
 AreSame platform platform_now tape tape_now ledger ledger_now session now = (now ≡ session) × (platform_now ≡ platform) × (tape_now ≡ tape) × (ledger_now ≡ ledger)
 
--- the pages that a commit needs were free and are added, and the next commit needs none. Without a change all is as it was; else the number is the next one
+-- the pages that a commit needs were free and are added, and the next commit needs none. Without a change all is as it was; else the number is the next one, and the root record is of all the pages that there are
 pub record HasNumber {S R W : Type 0} (P : PlatformGhosts S) (platform platform_now : S) (tape tape_now : R) (ledger ledger_now : W) (session now : Session) (number : ℕ) : Type 0 where
   pub room : needed_by session ≤ P.capacity platform - P.head platform
   pub adds : P.head platform_now ≡ P.head platform + needed_by session
@@ -75,6 +75,7 @@ pub record HasNumber {S R W : Type 0} (P : PlatformGhosts S) (platform platform_
   pub is_number : number ≡ number_of now
   pub idle : is_touched session ≡ false → AreSame platform platform_now tape tape_now ledger ledger_now session now
   pub next : is_touched session ≡ true → number_of now ≡ number_of session + 1
+  pub names : is_touched session ≡ true → (root_of now).head ≡ P.head platform_now
 
 -- something was changed, and fewer pages are free than a commit needs: all is as it was
 pub record IsShort {S R W : Type 0} (P : PlatformGhosts S) (platform platform_now : S) (tape tape_now : R) (ledger ledger_now : W) (session now : Session) (needed free : ℕ) : Type 0 where

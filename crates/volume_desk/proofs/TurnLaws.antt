@@ -1,15 +1,20 @@
 -- What a line makes of a session's array and its table, and of the device below them.
-use Rattle.std.proofs.Common.{◌≡◌, ◌≤◌, ◌∷◌, ◌∙◌, ℕ, List, [], Option, None, Some, Result, Ok, Err, inl, inr, refl, sym, ap, subst, arith}
+use Rattle.std.proofs.Common.{◌≡◌, ◌≤◌, ◌∷◌, ◌∙◌, ℕ, true, List, [], Option, None, Some, Result, Ok, Err, inl, inr, refl, sym, ap, subst, length, arith}
+use Rattle.std.specs.Option.{option_map_or}
 use Rattle.sdbt_base.specs.Arrays.{Device}
 use Rattle.sdbt_base.specs.declared.sinks.Sink.{Ghosts as SinkGhosts}
 use Rattle.sdbt_base.specs.declared.tapes.Tape.{Ghosts as TapeGhosts}
 use Rattle.platform.specs.Image.{Image}
 use Rattle.platform.specs.History.{CellStays}
 use Rattle.platform.specs.declared.platforms.Platform.{Ghosts as PlatformGhosts}
+use Rattle.root_codec.specs.declared.root.Root.{Root}
+use Rattle.root_codec.specs.RootRecord.{FitsRoot, root_bytes}
+use Rattle.page_store.specs.Floors.{head_in}
+use Rattle.page_store.proofs.FloorLaws.{head_is}
 use Rattle.device_terms.specs.Served.{IsServedImage}
 use Rattle.device_course.specs.States.{IsAt, Outside, around}
 use Rattle.device_course.proofs.MadeLaws.{made_again, made_kept, made_since}
-use Rattle.device_session.specs.Open.{IsOpen, blocks_of, needed_by}
+use Rattle.device_session.specs.Open.{IsOpen, blocks_of, needed_by, root_of}
 use Rattle.device_session.specs.declared.refusals.CommitReply.{CommitReply}
 use Rattle.device_session.specs.declared.refusals.CommitReply.TheVariants as replies
 use Rattle.device_session.specs.Sessions.{Session}
@@ -31,11 +36,13 @@ use Rattle.volume_desk.specs.declared.serving.Answered.{Answered}
 use Rattle.volume_lines.specs.Replies as told
 use Rattle.volume_lines.specs.Replies.{Reply, said}
 use Rattle.volume_lines.specs.declared.replies.Reply.{Reply as Given}
+use Rattle.volume_terms.specs.Destroyed.{IfDestroyed}
 use Rattle.volume_terms.specs.Turn.{CommitsAs, Destroys, IsShort, Serves}
 use Rattle.volume_terms.specs.Volumes.{changed}
+use Rattle.volume_terms.proofs.DestroyedLaws.{changed_touched, destroy_raises, if_destroyed}
 use Rattle.volume_terms.proofs.KeepingLaws.{committed_tabled}
 use Rattle.device_course.specs.Course.{MadeBetween}
-use Rattle.volume_desk.specs.Turns.{Changed, IsHeld, IsOfBlocks, Served, ServesAs, Stopped, StopsAt, TakenOut, TakesOut, TurnsTo, commit_reply, destroy_reply}
+use Rattle.volume_desk.specs.Turns.{Changed, IsHeld, IsOfAll, IsOfBlocks, Served, ServesAs, Stopped, StopsAt, TakenOut, TakesOut, TurnsTo, commit_reply, destroy_reply}
 
 -- ---- the array is as it was
 
@@ -46,6 +53,13 @@ held_still image image_now head head_now session now table entry held at same ne
 
 -- ---- calls that leave the device
 
+-- destroy no volume
+none_destroyed : (capacity : ℕ) (table : List Volume) (entry next : Held) (it : Line) (reply : Reply) (Claim : Type 0) → Serves capacity table entry it reply next → next.device ≡ entry.device → IfDestroyed reply Claim
+none_destroyed capacity table entry next it reply Claim serves same =
+    if_destroyed reply Claim (λ number is.
+    let raised = destroy_raises capacity table entry next it number (subst (λ (r : Reply). Serves capacity table entry it r next) is serves) in
+    absurd (omega (arith, raised, ap (λ (d : Device). d.number) same)))
+
 pub changed_served : (old new : Outside) (session now : Session) (table table_now : List Volume) (entry : Held) (it : Line) (reply : Reply) → IsHeld old.history.present old.head session table entry → CellStays old.history new.history
     → Changed new.history.present new.head table_now now entry (λ told next. Serves old.capacity table entry it told next) reply → Served old new table table_now now entry it reply
 changed_served old new session now table table_now entry it reply held stays changed =
@@ -55,6 +69,7 @@ changed_served old new session now table table_now entry it reply held stays cha
       held = changed.held;
       serves = changed.does;
       made = subst (λ (d : Device). MadeBetween old.history new.history entry.device (Some d ∷ []) d) (sym changed.same) kept;
+      settled = none_destroyed old.capacity table entry changed.next it reply (IsOfAll new.history.present) changed.does changed.same;
     }
 
 -- ---- a commit
@@ -63,24 +78,30 @@ changed_served old new session now table table_now entry it reply held stays cha
 pub array_held : (image : Image) (head : ℕ) (session : Session) (table : List Volume) (entry : Held) → IsHeld image head session table entry → IsArrayHeld image head session entry
 array_held image head session table entry held = record { at = held.at; pages = held.pages; needs = held.needs }
 
+-- the root record in the cell is of all the pages that there are, where it says how many there are
+of_all : (image : Image) (root : Root) (head : ℕ) → FitsRoot root → image.cell ≡ Some (root_bytes root) → root.head ≡ head → length image.recorded ≡ head → IsOfAll image
+of_all image root head fits cell names pages = ap (λ (c : Option (List ℕ)). option_map_or head_in c (length image.recorded)) cell ∙ head_is root fits.head fits.plain ∙ names ∙ sym pages
+
 -- what was answered: the state behind it, or that it is short
 pub data Committing (capacity : ℕ) (old new : Outside) (table : List Volume) (now : Session) (entry : Held) (reply : CommitReply) : Type 0 where
   Done : (number : ℕ) (next : Held) → reply ≡ replies.Committed number → IsHeld new.history.present new.head now table next → CommitsAs capacity entry number next
-      → MadeBetween old.history new.history entry.device (Some next.device ∷ []) next.device → Committing capacity old new table now entry reply
+      → MadeBetween old.history new.history entry.device (Some next.device ∷ []) next.device → (entry.session.touched ≡ true → IsOfAll new.history.present) → Committing capacity old new table now entry reply
   Refused : (needed free : ℕ) → reply ≡ replies.Full needed free → IsHeld new.history.present new.head now table entry → IsShort capacity entry entry
       → MadeBetween old.history new.history entry.device (Some entry.device ∷ []) entry.device → Committing capacity old new table now entry reply
 
 pub committed_to : {S R W : Type 0} (P : PlatformGhosts S) (T : TapeGhosts R) (L : SinkGhosts W) (platform platform_now : S) (tape tape_now : R) (ledger ledger_now : W) (session now : Session) (reply : CommitReply) (table : List Volume) (entry : Held)
-    → IsOpen session (P.head platform) → IsHeld (P.history platform).present (P.head platform) session table entry → AnswersReply P platform platform_now tape tape_now ledger ledger_now session now reply
+    → IsOpen session (P.head platform) → FitsRoot (root_of now) → (P.history platform_now).present.cell ≡ Some (root_bytes (root_of now)) → length (P.history platform_now).present.recorded ≡ P.head platform_now
+    → IsHeld (P.history platform).present (P.head platform) session table entry → AnswersReply P platform platform_now tape tape_now ledger ledger_now session now reply
     → ReplyLeads (P.history platform) (P.history platform_now) now entry.device entry.session reply
     → Committing (P.capacity platform) (around P T L platform tape ledger) (around P T L platform_now tape_now ledger_now) table now entry reply
-committed_to P T L platform platform_now tape tape_now ledger ledger_now session now (replies.Committed number) table entry there_open held answers led =
+committed_to P T L platform platform_now tape tape_now ledger ledger_now session now (replies.Committed number) table entry there_open fits cell pages held answers led =
     let needed : ℕ = needed_by session in
     let on = array_held (P.history platform).present (P.head platform) session table entry held in
     let next = committed_held P platform platform_now tape tape_now ledger ledger_now session now number entry on answers led in
     Done number (after_commit entry needed) refl (record { at = next.0.at; pages = next.0.pages; needs = next.0.needs; tabled = committed_tabled entry needed table held.tabled })
     (needed, needs_of session (P.history platform).present (P.head platform) entry there_open on, next.1, refl, led.1) next.2
-committed_to P T L platform platform_now tape tape_now ledger ledger_now session now (replies.Full needed free) table entry there_open held answers led =
+    (λ touched. of_all (P.history platform_now).present (root_of now) (P.head platform_now) fits cell (answers.names (held.at.there.session.1 ∙ touched)) pages)
+committed_to P T L platform platform_now tape tape_now ledger ledger_now session now (replies.Full needed free) table entry there_open fits cell pages held answers led =
     let on = array_held (P.history platform).present (P.head platform) session table entry held in
     let same = refused_held P platform platform_now tape tape_now ledger ledger_now session now needed free entry on answers led in
     Refused needed free refl (record { at = same.0.at; pages = same.0.pages; needs = same.0.needs; tabled = held.tabled })
@@ -88,25 +109,26 @@ committed_to P T L platform platform_now tape tape_now ledger ledger_now session
 
 pub commit_served : (old new : Outside) (table : List Volume) (now : Session) (entry : Held) (reply : CommitReply) (given : Given) (buffer : List ℕ) → given ≡ commit_reply reply
     → Committing old.capacity old new table now entry reply → Served old new table table now entry Commit (said given buffer)
-commit_served old new table now entry reply given buffer is (Done number next same held commits made) =
+commit_served old new table now entry reply given buffer is (Done number next same held commits made all) =
     let answer : said given buffer ≡ told.Committed number = ap (λ (r : Given). said r buffer) (is ∙ ap commit_reply same) in
-    subst (λ (r : Reply). Served old new table table now entry Commit r) (sym answer) (record { next = next; held = held; serves = commits; made = made })
+    subst (λ (r : Reply). Served old new table table now entry Commit r) (sym answer) (record { next = next; held = held; serves = commits; made = made; settled = tt })
 commit_served old new table now entry reply given buffer is (Refused needed free same held short made) =
     let answer : said given buffer ≡ told.Full = ap (λ (r : Given). said r buffer) (is ∙ ap commit_reply same) in
-    subst (λ (r : Reply). Served old new table table now entry Commit r) (sym answer) (record { next = entry; held = held; serves = short; made = made })
+    subst (λ (r : Reply). Served old new table table now entry Commit r) (sym answer) (record { next = entry; held = held; serves = short; made = made; settled = tt })
 
 -- ---- a destroy
 
 pub destroy_served : (old mid new : Outside) (table left : List Volume) (taken_on now : Session) (entry : Held) (name : List ℕ) (reply : CommitReply) (given : Given) (buffer : List ℕ) → given ≡ destroy_reply reply → mid.capacity ≡ old.capacity
     → (taken : TakenOut mid.history.present mid.head old.capacity table left taken_on entry name) → MadeBetween old.history mid.history entry.device [] entry.device
     → Committing mid.capacity mid new left now (changed entry left taken.v) reply → Served old new table left now entry (Destroy name) (said given buffer)
-destroy_served old mid new table left taken_on now entry name reply given buffer is same_capacity taken kept (Done number next same held commits made) =
+destroy_served old mid new table left taken_on now entry name reply given buffer is same_capacity taken kept (Done number next same held commits made all) =
     let answer : said given buffer ≡ told.Destroyed number = ap (λ (r : Given). said r buffer) (is ∙ ap destroy_reply same) in
     subst (λ (r : Reply). Served old new table left now entry (Destroy name) r) (sym answer) (record {
       next = next;
       held = held;
       serves = (taken.v, left, taken.same, taken.taken, taken.free, subst (λ (n : ℕ). CommitsAs n (changed entry left taken.v) number next) same_capacity commits);
       made = made_since old.history mid.history new.history entry.device next.device (Some next.device ∷ []) kept made;
+      settled = all (changed_touched entry left taken.v);
     })
 destroy_served old mid new table left taken_on now entry name reply given buffer is same_capacity taken kept (Refused needed free same held short made) =
     let answer : said given buffer ≡ told.Uncommitted = ap (λ (r : Given). said r buffer) (is ∙ ap destroy_reply same) in
@@ -115,6 +137,7 @@ destroy_served old mid new table left taken_on now entry name reply given buffer
       held = held;
       serves = (taken.v, left, taken.same, taken.taken, taken.free, subst (λ (n : ℕ). IsShort n (changed entry left taken.v) (changed entry left taken.v)) same_capacity short);
       made = made_since old.history mid.history new.history entry.device entry.device (Some entry.device ∷ []) kept made;
+      settled = tt;
     })
 
 -- ---- a stop before a commit

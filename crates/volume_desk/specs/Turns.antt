@@ -1,7 +1,9 @@
 -- What a line makes of a session's array and its table, and of the device below them.
-use Rattle.std.specs.Prelude.{◌≡◌, ◌≢◌, ◌≤◌, ◌<◌, ◌+◌, ◌*◌, ◌⊎◌, ℕ, List, [], ◌∷◌, Option, None, Some, Result, Ok, Err}
+use Rattle.std.specs.Prelude.{◌≡◌, ◌≢◌, ◌≤◌, ◌<◌, ◌+◌, ◌*◌, ◌⊎◌, ℕ, List, [], ◌∷◌, Option, None, Some, Result, Ok, Err, length}
 use Rattle.sdbt_base.specs.Arrays.{Device, Session as OpenSession, mounted}
 use Rattle.platform.specs.Image.{Image}
+use Rattle.page_store.specs.Floors.{low_of}
+use Rattle.page_store.specs.Stands.{Stands}
 use Rattle.device_course.specs.Course.{MadeBetween}
 use Rattle.device_course.specs.States.{Outside, IsAt}
 use Rattle.device_session.specs.Open.{needed_by}
@@ -21,6 +23,7 @@ use Rattle.volume_lines.specs.declared.lines.Line.TheVariants as parsed
 use Rattle.volume_lines.specs.Replies.{Reply, said}
 use Rattle.volume_lines.specs.declared.replies.Reply.{Reply as Given}
 use Rattle.volume_lines.specs.declared.replies.Reply.TheVariants as given
+use Rattle.volume_terms.specs.Destroyed.{IfDestroyed}
 use Rattle.volume_terms.specs.Turn.{Destroys, Serves}
 use Rattle.volume_terms.specs.Volumes.{IsTabled, IsNamed, IsTaken, changed}
 use Rattle.volume_desk.specs.declared.serving.Answered.{Answered}
@@ -33,12 +36,22 @@ pub record IsHeld (image : Image) (head : ℕ) (session : Session) (table : List
   pub needs : needed_by session ≤ 41 * held.updates
   pub tabled : IsTabled held table
 
+-- the root record is of all the pages that there are
+abbrev pub IsOfAll : Image → Type 0
+IsOfAll image = low_of image ≡ length image.recorded
+
+-- behind a reply the image stands for the state's device; and where the reply says that a volume was destroyed, the root record is of all the pages that there are
+pub record Shows (image : Image) (reply : Reply) (held : Held) : Type 0 where
+  pub stands : Stands image (Some held.device)
+  pub settled : IfDestroyed reply (IsOfAll image)
+
 -- a reply to what was asked, from this state: it led to another, for which the session and the table stand now, and the device came to be the one of that state
 pub record Served (old new : Outside) (table table_now : List Volume) (now : Session) (entry : Held) (it : Line) (reply : Reply) : Type 0 where
   pub next : Held
   pub held : IsHeld new.history.present new.head now table_now next
   pub serves : Serves old.capacity table entry it reply next
   pub made : MadeBetween old.history new.history entry.device (Some next.device ∷ []) next.device
+  pub settled : IfDestroyed reply (IsOfAll new.history.present)
 
 -- the same of calls that leave the device
 pub record Changed (image : Image) (head : ℕ) (table_now : List Volume) (now : Session) (entry : Held) (Does : Reply → Held → Type 0) (reply : Reply) : Type 0 where

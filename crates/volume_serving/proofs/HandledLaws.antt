@@ -7,7 +7,8 @@ use Rattle.sdbt_base.specs.Arrays.{Device, closed}
 use Rattle.sdbt_base.specs.Told.{Got, GotPart}
 use Rattle.sdbt_base.proofs.ToldLaws.{Got-nothing, Got-then}
 use Rattle.platform.specs.Image.{Image}
-use Rattle.platform.specs.History.{History}
+use Rattle.platform.specs.History.{Extends, History, image_at, moment}
+use Rattle.platform.proofs.Moments.{image_at-now}
 use Rattle.device_course.specs.States.{IsLater, Outside}
 use Rattle.device_course.proofs.MadeLaws.{made_again, made_start, made_then, shut}
 use Rattle.device_session.specs.Sessions.{Session}
@@ -30,9 +31,9 @@ use Rattle.volume_lines.specs.Replies.{Reply, Bad, line_of}
 use Rattle.volume_terms.specs.Turn.{Turn}
 use Rattle.volume_terms.specs.Volumes.{IsTabled}
 use Rattle.device_course.specs.Course.{MadeBetween}
-use Rattle.volume_desk.specs.Turns.{IsHeld, Served, Stopped, StopsAt}
+use Rattle.volume_desk.specs.Turns.{IsHeld, Served, Shows, Stopped, StopsAt}
 use Rattle.volume_serving.specs.World.{World, IsOn}
-use Rattle.volume_serving.specs.Handled.{ending_of, goes_on, AreMany, EndsOn, Handled, IfNext, OnLines, Replied}
+use Rattle.volume_serving.specs.Handled.{ending_of, goes_on, AreMany, AreShown, EndsOn, Handled, IfNext, OnLines, Replied}
 
 -- ---- nothing
 
@@ -51,6 +52,7 @@ on_nothing w entry on = record {
     made = made_start w.outside.history None (closed (Some entry.device)) (shut w.outside.history.present (Some entry.device) on.held.at.there.device on.held.at.served);
   };
   ends = (refl, on);
+  shown = tt;
 }
 
 pub handled_nothing : (tells : Type 0) (w : World) (written : Option (List ℕ)) → w.outside.head ≤ w.outside.capacity → Handled tells w w (Ok tt) [] written written
@@ -97,6 +99,27 @@ ends_behind new capacity last lines more replies others part ahead (Err (stops.D
 ends_behind new capacity last lines more replies others part ahead (Err (stops.Device device.BadRoot)) same ends = absurd ends
 ends_behind new capacity last lines more replies others part ahead (Err (stops.Device (device.BadRecord addr))) same ends = absurd ends
 
+-- from an earlier moment on
+pub shown_from : (new : History) (low from : ℕ) (replies : List Reply) (states : List Held) → low ≤ from → AreShown new from replies states → AreShown new low replies states
+shown_from new low from [] [] below shown = tt
+shown_from new low from [] (state ∷ states) below shown = absurd shown
+shown_from new low from (r ∷ replies) [] below shown = absurd shown
+shown_from new low from (r ∷ replies) (state ∷ states) below (at, above, until, shows, more) = (at, omega (arith, below, above), until, shows, more)
+
+-- replies, and those behind them
+shown_then : (mid new : History) (from : ℕ) (replies others : List Reply) (states thens : List Held) → Extends mid new → from ≤ moment mid → AreShown mid from replies states → AreShown new (moment mid) others thens
+    → AreShown new from (replies ++ others) (states ++ thens)
+shown_then mid new from [] others [] thens extends within one two = shown_from new from (moment mid) others thens within two
+shown_then mid new from [] others (state ∷ states) thens extends within one two = absurd one
+shown_then mid new from (r ∷ replies) others [] thens extends within one two = absurd one
+shown_then mid new from (r ∷ replies) others (state ∷ states) thens extends within (at, above, until, shows, more) two = (
+  at,
+  above,
+  omega (arith, until, extends.later),
+  subst (λ (image : Image). Shows image r state) (sym (extends.same at until)) shows,
+  shown_then mid new at replies others states thens extends until more two,
+)
+
 made_behind : (first second third : History) (entry between last : Device) (one two : List (Option Device)) → MadeBetween first second entry one between → MadeBetween second third between two last → MadeBetween first third entry (one ++ two) last
 made_behind first second third entry between last one two a b =
     made_then first second third None None (closed (Some entry)) (closed (Some between)) (closed (Some last)) one two a b
@@ -132,13 +155,17 @@ led_both capacity old mid new entry lines more replies others ahead same one two
 on_then : (old mid new : World) (entry : Held) (lines more : List (List ℕ)) (replies others : List Reply) (part : List ℕ) (ending : Ending) → mid.outside.capacity ≡ old.outside.capacity → length replies ≡ length lines
     → OnLines old mid entry lines replies [] (Ok tt) → ((last : Held) → IsOn mid last → OnLines mid new last more others part ending) → OnLines old new entry (lines ++ more) (replies ++ others) part ending
 on_then old mid new entry lines more replies others part ending capacity same one two =
-    let H : List Held → Type 0 = λ a. (led : Led (Turn old.outside.capacity) device_of (MadeBetween old.outside.history mid.outside.history) entry lines replies a) × IsOn mid (last_of entry led.states) in
-    let first = subst H one.ends.0 (one.led, one.ends.1) in
+    let start : ℕ = moment old.outside.history in
+    let between : ℕ = moment mid.outside.history in
+    let H : List Held → Type 0 = λ a. (led : Led (Turn old.outside.capacity) device_of (MadeBetween old.outside.history mid.outside.history) entry lines replies a) × IsOn mid (last_of entry led.states)
+    × AreShown mid.outside.history start replies led.states in
+    let first = subst H one.ends.0 (one.led, one.ends.1, one.shown) in
     let led = first.0 in
     let last : Held = last_of entry led.states in
     let next = two last first.1 in
-    let C : ℕ → Type 0 = λ n. (led : Led (Turn n) device_of (MadeBetween mid.outside.history new.outside.history) last more others next.ahead) × EndsOn new n (last_of last led.states) more others part next.ahead ending in
-    let second = subst C capacity (next.led, next.ends) in
+    let C : ℕ → Type 0 = λ n. (led : Led (Turn n) device_of (MadeBetween mid.outside.history new.outside.history) last more others next.ahead) × EndsOn new n (last_of last led.states) more others part next.ahead ending
+    × AreShown new.outside.history between others led.states in
+    let second = subst C capacity (next.led, next.ends, next.shown) in
     let all = led_both old.outside.capacity old.outside.history mid.outside.history new.outside.history entry lines more replies others next.ahead same led second.0 in
     record {
       ahead = next.ahead;
@@ -146,6 +173,8 @@ on_then old mid new entry lines more replies others part ending capacity same on
       ends = subst (λ (h : Held). EndsOn new old.outside.capacity h (lines ++ more) (replies ++ others) part next.ahead ending)
           (sym (ap (λ (states : List Held). last_of entry states) all.1 ∙ last_of-append entry led.states second.0.states))
           (ends_behind new old.outside.capacity (last_of last second.0.states) lines more replies others part next.ahead ending same second.1);
+      shown = subst (λ (states : List Held). AreShown new.outside.history start (replies ++ others) states) (sym all.1)
+          (shown_then mid.outside.history new.outside.history start replies others led.states second.0.states second.0.made.passes.extends led.made.passes.extends.later first.2 second.2);
     }
 
 pub replied_then : (tells : Type 0) (old mid new : World) (ending : Ending) (lines more : List (List ℕ)) (put others : List ℕ) → Replied tells old mid (Ok tt) lines put → Replied tells mid new ending more others
@@ -199,6 +228,7 @@ on_longer old new entry lines more replies part stop line on = record {
   ahead = on.ahead;
   led = record { states = on.led.states; leads = leads_longer (Turn old.outside.capacity) entry lines more replies on.led.states on.led.leads; made = on.led.made };
   ends = ends_longer new old.outside.capacity (last_of entry on.led.states) lines more replies part on.ahead stop line on.ends;
+  shown = on.shown;
 }
 
 pub handled_longer : (tells : Type 0) (old new : World) (stop : Stop) (lines more : List (List ℕ)) (a b : Option (List ℕ)) → IsOfLine stop → Handled tells old new (Err stop) lines a b → Handled tells old new (Err stop) (lines ++ more) a b
@@ -226,6 +256,7 @@ pub record IsTurn (old : World) (image : Image) (head : ℕ) (now : Session) (ta
   pub held : IsHeld image head now table_now next
   pub turn : Turn old.outside.capacity entry text reply next
   pub made : MadeBetween old.outside.history history entry.device (Some next.device ∷ []) next.device
+  pub shows : Shows image reply next
 
 -- a line outside the grammar leaves all
 pub bad_turn : (old : World) (session : Session) (entry : Held) (text : List ℕ) → old.session ≡ Some session → IsBad text → IsOn old entry
@@ -239,6 +270,7 @@ bad_turn old session entry text going bad on =
       turn = inr (bad, refl, refl);
       made = made_again old.outside.history old.outside.history entry.device
           (made_start old.outside.history None (closed (Some entry.device)) (shut old.outside.history.present (Some entry.device) there.at.there.device there.at.served));
+      shows = record { stands = there.at.there.device; settled = tt };
     }
 
 -- one in the grammar is served
@@ -254,7 +286,12 @@ served_turn old new session now table_now entry text it reply going spelled on s
       held = served.held;
       turn = inl (record { it = it; spelled = spelled; table = old.table; tabled = there.tabled; serves = served.serves });
       made = served.made;
+      shows = record { stands = served.held.at.there.device; settled = served.settled };
     }
+
+-- the moment behind it
+shown_one : (old new : History) (reply : Reply) (next : Held) → moment old ≤ moment new → Shows new.present reply next → AreShown new (moment old) (reply ∷ []) (next ∷ [])
+shown_one old new reply next later shows = (moment new, later, omega arith, subst (λ (image : Image). Shows image reply next) (sym (image_at-now new (moment new) (omega arith))) shows, tt)
 
 -- its reply is put
 pub line_put : (tells : Type 0) (old new : World) (now : Session) (text : List ℕ) (reply : Reply) (a b : Option (List ℕ)) → new.session ≡ Some now → IsLater old.outside new.outside
@@ -276,6 +313,7 @@ line_put tells old new now text reply a b going later turns got = record {
           ahead = [];
           led = record { states = t.next ∷ []; leads = (t.turn, tt); made = t.made };
           ends = (refl, record { session = now; going = going; held = t.held });
+          shown = shown_one old.outside.history new.outside.history reply t.next t.made.passes.extends.later t.shows;
         };
   };
 }
@@ -300,6 +338,7 @@ line_cut tells old new now image head table_now text reply a b later turns (n, g
           ahead = t.next ∷ [];
           led = record { states = []; leads = tt; made = t.made };
           ends = (reply, t.next, refl, (n, refl), t.turn);
+          shown = tt;
         };
   };
 }
@@ -337,6 +376,7 @@ line_stop tells old new session text it stop a going spelled later stopped = rec
           ahead = s.ahead;
           led = record { states = []; leads = tt; made = s.made };
           ends = stop_ends new old.outside.capacity old.table entry text it s.ahead stop spelled there.tabled s.is;
+          shown = tt;
         };
   };
 }
@@ -357,7 +397,10 @@ line_told tells old outside now table_now text reply (Err (stops.Device stop)) a
 
 on_cut : (old new : World) (entry : Held) (lines : List (List ℕ)) (replies : List Reply) (part : List ℕ) → OnLines old new entry lines replies part (Ok tt)
     → OnLines old new entry lines replies part (Err stops.Source) × OnLines old new entry lines replies part (Err stops.Limit)
-on_cut old new entry lines replies part on = (record { ahead = on.ahead; led = on.led; ends = on.ends }, record { ahead = on.ahead; led = on.led; ends = on.ends })
+on_cut old new entry lines replies part on = (
+  record { ahead = on.ahead; led = on.led; ends = on.ends; shown = on.shown },
+  record { ahead = on.ahead; led = on.led; ends = on.ends; shown = on.shown },
+)
 
 pub handled_cut : (tells : Type 0) (old new : World) (lines : List (List ℕ)) (a b : Option (List ℕ)) → Handled tells old new (Ok tt) lines a b → Handled tells old new (Err stops.Source) lines a b × Handled tells old new (Err stops.Limit) lines a b
 handled_cut tells old new lines a b p = let r = p.replied in (

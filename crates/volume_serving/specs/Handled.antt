@@ -1,6 +1,7 @@
 -- What a run that handled some lines put, and which replies belong to them.
 use Rattle.std.specs.Prelude.{◌≡◌, ◌≤◌, ◌⊎◌, ℕ, List, [], ◌∷◌, ◌++◌, Option, None, Some, Result, Ok, Err, length, flat_map}
 use Rattle.sdbt_base.specs.Told.{Got}
+use Rattle.platform.specs.History.{History, image_at, moment}
 use Rattle.device_course.specs.States.{IsLater}
 use Rattle.line_run.specs.Puts.{IsBehind, IsFirstPart, no_line}
 use Rattle.line_run.specs.Stops.{Ending}
@@ -13,6 +14,7 @@ use Rattle.session_calls.specs.declared.stops.DeviceStop.TheVariants as device
 use Rattle.volume_lines.specs.Replies.{Reply, line_of}
 use Rattle.volume_terms.specs.Turn.{Turn}
 use Rattle.device_course.specs.Course.{MadeBetween}
+use Rattle.volume_desk.specs.Turns.{Shows}
 use Rattle.volume_serving.specs.World.{World, IsOn}
 
 -- of the line behind those that have replies
@@ -52,11 +54,20 @@ EndsOn new capacity last lines replies part ahead (Err (stops.Device device.Memo
 EndsOn new capacity last lines replies part ahead (Err (stops.Device device.BadRoot)) = ⊥
 EndsOn new capacity last lines replies part ahead (Err (stops.Device (device.BadRecord addr))) = ⊥
 
--- the replies are those of volumes, from this state on, and the devices that they led through were made in their order
+-- behind each reply there is a moment, in their order and from this one on, at which the image stands for the device of the reply's state; and behind a volume that was destroyed the
+-- root record is of all the pages that there are then
+abbrev pub AreShown : History → ℕ → List Reply → List Held → Type 0
+AreShown new from [] [] = Unit {0}
+AreShown new from [] (state ∷ states) = ⊥
+AreShown new from (reply ∷ replies) [] = ⊥
+AreShown new from (reply ∷ replies) (state ∷ states) = (at : ℕ) × (from ≤ at) × (at ≤ moment new) × Shows (image_at new at) reply state × AreShown new at replies states
+
+-- the replies are those of volumes, from this state on, the devices that they led through were made in their order, and each of them there was behind its reply
 pub record OnLines (old new : World) (entry : Held) (lines : List (List ℕ)) (replies : List Reply) (part : List ℕ) (ending : Ending) : Type 0 where
   pub ahead : List Held
   pub led : Led (Turn old.outside.capacity) device_of (MadeBetween old.outside.history new.outside.history) entry lines replies ahead
   pub ends : EndsOn new old.outside.capacity (last_of entry led.states) lines replies part ahead ending
+  pub shown : AreShown new.outside.history (moment old.outside.history) replies led.states
 
 -- a run that handled these lines: what it put is the lines of its replies, and perhaps a part behind them
 pub record Replied (tells : Type 0) (old new : World) (ending : Ending) (lines : List (List ℕ)) (put : List ℕ) : Type 0 where

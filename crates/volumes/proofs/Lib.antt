@@ -1,4 +1,5 @@
 pub mod StatusLaws
+pub mod EndedLaws
 pub mod StartLaws
 pub mod EndLaws
 pub mod ProgramLaws

@@ -34,6 +34,7 @@ use Rattle.page_store.proofs.DisclosingLaws.{first_premises}
 use Rattle.page_store.proofs.RecordLaws.{one_record}
 use Rattle.page_store.proofs.RecordYields.{opens_record}
 use Rattle.page_store.proofs.TreeMaps.{tree_closed}
+use Rattle.volume_desk.specs.Turns.{IsOfAll}
 use Rattle.volumes.specs.Destroyed.{IsDataPage}
 
 -- ---- a tree without a block
@@ -140,19 +141,35 @@ place_key keys image there root parts place addr block stands kept premises has 
     let one : page.key ≡ place.key = premises.one_opener addr page.key place.key page.listed mine opened opens in
     subst (λ (a : ℕ). IsRecordAt image.recorded a place.key (DataRecord block page.content)) (sym same) (subst (λ (k : List ℕ). IsRecordAt image.recorded addr k (DataRecord block page.content)) one page.is)
 
--- of a block that the device doesn't have then no data page is reached later
-pub never_later : (old new : History) (keys grew : List (List ℕ)) (at : ℕ) (there : Device) (block addr later : ℕ) → moment old ≤ at → at ≤ moment new → Stands (image_at new at) (Some there) → maps.get there.contents block ≡ None
-    → low_of (image_at new at) ≡ length (image_at new at).recorded → DisclosesBy keys grew old new → KeyPremises (keys ++ grew) new.present.recorded → IsDataPage (keys ++ grew) (image_at new at).recorded addr block
-    → at ≤ later → later ≤ moment new → IsReached (image_at new later) addr → ⊥
-never_later old new keys grew at there block addr later from to (root, parts, stands) none low by premises page after until reached =
-    let image : Image = image_at new at in
-    let all : List (List ℕ) = keys ++ grew in
-    let here : KeyPremises all image.recorded =
-    first_premises all [] image.recorded new.present.recorded (earlier-now new at to).recorded (subst (λ (ks : List (List ℕ)). KeyPremises ks new.present.recorded) (sym (append-nil all)) premises) in
-    let within : addr < length image.recorded = slice_get_within image.recorded addr page.is.page page.is.reads in
-    let floor : floor_of old new at ≡ low_of image = floor_full old new at (root_bytes root) from stands.cell in
-    let in_tree : IsInTree image addr = (by.trees premises).deleted.kept at later from after until addr reached (omega (arith, within, floor, low)) in
+-- of a block that the device doesn't have no data page is in the tree
+pub never_in_tree : (keys : List (List ℕ)) (image : Image) (there : Device) (block addr : ℕ) → Stands image (Some there) → maps.get there.contents block ≡ None → Kept keys image → KeyPremises keys image.recorded
+    → IsDataPage keys image.recorded addr block → IsInTree image addr → ⊥
+never_in_tree keys image there block addr (root, parts, stands) none kept premises page in_tree =
     let it = place_at image addr in_tree in
     let has : Contains parts.places it.0 = place_of_stands image there root parts it.0 stands it.2 in
     All-contains (IsOther image.recorded block) parts.places it.0 (stands_other image there root parts block stands none) has page.content
-    (place_key all image there root parts it.0 addr block stands (by.kept.each at from to) here has it.1 page)
+    (place_key keys image there root parts it.0 addr block stands kept premises has it.1 page)
+
+-- where the root record is of all pages each page lies below the floor
+pub below_floor : (old new : History) (at : ℕ) (there : Device) (keys : List (List ℕ)) (addr block : ℕ) → moment old ≤ at → Stands (image_at new at) (Some there) → IsOfAll (image_at new at)
+    → IsDataPage keys (image_at new at).recorded addr block → addr < floor_of old new at
+below_floor old new at there keys addr block from (root, parts, stands) all page =
+    let within : addr < length (image_at new at).recorded = slice_get_within (image_at new at).recorded addr page.is.page page.is.reads in
+    let floor : floor_of old new at ≡ low_of (image_at new at) = floor_full old new at (root_bytes root) from stands.cell in
+    omega (arith, within, floor, all)
+
+-- the premises on keys held at an earlier moment
+pub premises_then : (new : History) (keys more : List (List ℕ)) (at : ℕ) → at ≤ moment new → KeyPremises (keys ++ more) new.present.recorded → KeyPremises keys (image_at new at).recorded
+premises_then new keys more at to premises = first_premises keys more (image_at new at).recorded new.present.recorded (earlier-now new at to).recorded premises
+
+-- of a block that the device doesn't have then no data page is reached later
+pub never_later : (old new : History) (keys grew : List (List ℕ)) (at : ℕ) (there : Device) (block addr later : ℕ) → moment old ≤ at → at ≤ moment new → Stands (image_at new at) (Some there) → maps.get there.contents block ≡ None
+    → IsOfAll (image_at new at) → DisclosesBy keys grew old new → KeyPremises (keys ++ grew) new.present.recorded → IsDataPage (keys ++ grew) (image_at new at).recorded addr block
+    → at ≤ later → later ≤ moment new → IsReached (image_at new later) addr → ⊥
+never_later old new keys grew at there block addr later from to stands none all by premises page after until reached =
+    let listed : List (List ℕ) = keys ++ grew in
+    let here : KeyPremises listed (image_at new at).recorded =
+    premises_then new listed [] at to (subst (λ (ks : List (List ℕ)). KeyPremises ks new.present.recorded) (sym (append-nil listed)) premises) in
+    let below : addr < floor_of old new at = below_floor old new at there listed addr block from stands all page in
+    let in_tree : IsInTree (image_at new at) addr = (by.trees premises).deleted.kept at later from after until addr reached below in
+    never_in_tree listed (image_at new at) there block addr stands none (by.kept.each at from to) here page in_tree

@@ -5,7 +5,7 @@ use Rattle.sdbt_base.specs.Arrays.{Device, Session as OpenSession, State, closed
 use Rattle.sdbt_base.specs.Told.{Got}
 use Rattle.platform.specs.Calls.{Looks}
 use Rattle.platform.specs.Image.{Image}
-use Rattle.platform.specs.History.{CellStays, History}
+use Rattle.platform.specs.History.{CellStays, History, moment}
 use Rattle.platform.specs.declared.platforms.Platform.{Ghosts as PlatformGhosts}
 use Rattle.root_codec.specs.RootRecord.{root_bytes}
 use Rattle.page_store.specs.Roots.{IsRootWithin}
@@ -35,13 +35,15 @@ use Rattle.volume_terms.specs.Volumes.{IsTabled}
 use Rattle.volume_terms.proofs.OwnLaws.{are_some, own_replies, volume_there}
 use Rattle.device_course.specs.Course.{MadeBetween}
 use Rattle.volume_desk.specs.Turns.{IsHeld}
-use Rattle.volume_serving.specs.Handled.{EndsOn}
+use Rattle.volume_serving.specs.Handled.{AreShown, EndsOn}
 use Rattle.volume_serving.specs.Ran.{Ran as RanLines}
+use Rattle.volume_serving.proofs.HandledLaws.{shown_from}
 use Rattle.volumes.specs.Running.{Answers, IsEarly, IsIdle, IsSilent, OnVolumes, Serves}
 use Rattle.volumes.specs.Starting.{EndsEarly, FindsTable, IsFrom, IsOfTable, IsRefusal, IsStart}
 use Rattle.volumes.specs.declared.halts.Halt.{Halt}
 use Rattle.volumes.specs.declared.halts.Halt.TheVariants as halts
 use Rattle.session_calls.proofs.SpanLaws.{led_of, mounted_at}
+use Rattle.volumes.proofs.EndedLaws.{ahead_of, are_destroyed, blocks_below}
 
 -- ---- from an earlier moment on, since which the device stayed
 
@@ -66,6 +68,7 @@ pub record Onwards (old new : Outside) (session : Option Session) (table_now : L
   pub leads : Leads (Turn old.capacity) entry lines replies states
   pub made : MadeBetween old.history new.history entry.device (marks_of device_of (states ++ ahead)) (device_of (last_of entry (states ++ ahead)))
   pub ends : EndsOn (record { session = session; table = table_now; outside = new }) old.capacity (last_of entry states) lines replies part ahead ending
+  pub shown : AreShown new.history (moment old.history) replies states
 
 onwards_since : (first second third : Outside) (session : Option Session) (table_now : List Volume) (entry : Held) (lines : List (List ℕ)) (replies : List Reply) (part : List ℕ) (ending : Ending) (states ahead : List Held) → second.capacity ≡ first.capacity
     → MadeBetween first.history second.history entry.device [] entry.device → Onwards second third session table_now entry lines replies part ending states ahead → Onwards first third session table_now entry lines replies part ending states ahead
@@ -73,6 +76,7 @@ onwards_since first second third session table_now entry lines replies part endi
   leads = subst (λ (n : ℕ). Leads (Turn n) entry lines replies states) same on.leads;
   made = made_since first.history second.history third.history entry.device (device_of (last_of entry (states ++ ahead))) (marks_of device_of (states ++ ahead)) kept on.made;
   ends = subst (λ (n : ℕ). EndsOn (record { session = session; table = table_now; outside = third }) n (last_of entry states) lines replies part ahead ending) same on.ends;
+  shown = shown_from third.history (moment first.history) (moment second.history) replies states kept.passes.extends.later on.shown;
 }
 
 volumes_of : (old new : Outside) (session : Option Session) (table table_now : List Volume) (entry : Held) (lines : List (List ℕ)) (replies : List Reply) (part : List ℕ) (ending : Ending) (states ahead : List Held) → entry.device.blocks < 2 ^ 64
@@ -80,12 +84,14 @@ volumes_of : (old new : Outside) (session : Option Session) (table table_now : L
 volumes_of old new session table table_now entry lines replies part ending states ahead below tabled on = record {
   table = table;
   tabled = tabled;
-  on = record { ahead = ahead; led = record { states = states; leads = on.leads; made = on.made }; ends = on.ends };
+  on = record { ahead = ahead; led = record { states = states; leads = on.leads; made = on.made }; ends = on.ends; shown = on.shown };
   own = λ name.
       let start = volume_there entry table name tabled in
       let mine = are_some old.capacity name entry lines replies states on.leads in
       let own = own_replies old.capacity name entry lines replies states start.0 mine.0 below on.leads start.1 mine.1 in
       record { volume = start.0; there = start.1; turns = mine.0; are = mine.1; next = own.next; own = own.own; ends = own.there };
+  destroyed = are_destroyed old.capacity old.history new.history (moment old.history) entry lines replies states ahead below (omega arith) on.leads
+      (ahead_of (record { session = session; table = table_now; outside = new }) old.capacity (last_of entry states) lines replies part ahead ending on.ends) on.shown;
 }
 
 volumes_since : (first second third : Outside) (session : Option Session) (table_now : List Volume) (entry : Held) (lines : List (List ℕ)) (replies : List Reply) (part : List ℕ) (ending : Ending) → second.capacity ≡ first.capacity
@@ -93,12 +99,14 @@ volumes_since : (first second third : Outside) (session : Option Session) (table
 volumes_since first second third session table_now entry lines replies part ending same kept there =
     let states : List Held = there.on.led.states in
     let on : Onwards first third session table_now entry lines replies part ending states there.on.ahead =
-    onwards_since first second third session table_now entry lines replies part ending states there.on.ahead same kept (record { leads = there.on.led.leads; made = there.on.led.made; ends = there.on.ends }) in
+    onwards_since first second third session table_now entry lines replies part ending states there.on.ahead same kept (record { leads = there.on.led.leads; made = there.on.led.made; ends = there.on.ends; shown = there.on.shown }) in
     record {
       table = there.table;
       tabled = there.tabled;
-      on = record { ahead = there.on.ahead; led = record { states = states; leads = on.leads; made = on.made }; ends = on.ends };
+      on = record { ahead = there.on.ahead; led = record { states = states; leads = on.leads; made = on.made }; ends = on.ends; shown = on.shown };
       own = there.own;
+      destroyed = are_destroyed first.capacity first.history third.history (moment first.history) entry lines replies states there.on.ahead (blocks_below second.history.present entry.device kept.exits.there.device) (omega arith) on.leads
+          (ahead_of (record { session = session; table = table_now; outside = third }) first.capacity (last_of entry states) lines replies part there.on.ahead ending on.ends) on.shown;
     }
 
 answers_since : (Earlier From : Held → Type 0) (first second third : Outside) (ending : Ending) (left left_now written written_now : Option (List ℕ)) → second.capacity ≡ first.capacity → Since Earlier From first second
@@ -280,7 +288,7 @@ answers_behind tells old mid new first now after table table_now ending left lef
           let kept : MadeBetween old.history mid.history entry.device [] entry.device = made_kept old.history mid.history entry.device from.at.there.device from.at.served (stays from.told) in
           let below : entry.device.blocks < 2 ^ 64 = omega (arith, sym stands.blocks, stands.in_range.blocks_most) in
           volumes_of old new after table table_now entry ran.lines replied.replies replied.part ending on.led.states on.ahead below tabled
-          (onwards_since old mid new after table_now entry ran.lines replied.replies replied.part ending on.led.states on.ahead capacity kept (record { leads = on.led.leads; made = on.led.made; ends = on.ends }));
+          (onwards_since old mid new after table_now entry ran.lines replied.replies replied.part ending on.led.states on.ahead capacity kept (record { leads = on.led.leads; made = on.led.made; ends = on.ends; shown = on.shown }));
     }
 
 -- ---- block 0

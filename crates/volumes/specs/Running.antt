@@ -19,6 +19,7 @@ use Rattle.volume_terms.specs.Own.{HasOwn}
 use Rattle.volume_terms.specs.Volumes.{IsTabled}
 use Rattle.device_course.specs.Course.{MadeBetween}
 use Rattle.volume_serving.specs.Handled.{AreMany, OnLines}
+use Rattle.volumes.specs.Destroyed.{AreDestroyed}
 use Rattle.volumes.specs.Halts.{EndsAs}
 use Rattle.volumes.specs.Starting.{EndsEarly, HaltsAtDamage, IsRefusal, IsStart}
 use Rattle.volumes.specs.declared.halts.Halt.{Halt}
@@ -56,13 +57,14 @@ pub record IsSilent (From : Held → Type 0) (old new : Outside) (halt : Halt) (
   pub early : IsEarly halt
   pub stayed : (entry : Held) → From entry → MadeBetween old.history new.history entry.device [] entry.device × EndsEarly entry halt
 
--- the replies to lines, from this state on, whose block 0 has a table. They are those of its volumes, each of which has its own; and the devices that they led through were made in
--- their order. A session and a table stand for the last state where the run goes on behind the lines
+-- the replies to lines, from this state on, whose block 0 has a table. They are those of its volumes, each of which has its own, and of those that were destroyed nothing is left; and the
+-- devices that they led through were made in their order. A session and a table stand for the last state where the run goes on behind the lines
 pub record OnVolumes (old new : Outside) (session : Option Session) (table_now : List Volume) (entry : Held) (lines : List (List ℕ)) (replies : List Reply) (part : List ℕ) (ending : Ending) : Type 0 where
   pub table : List Volume
   pub tabled : IsTabled entry table
   pub on : OnLines (record { session = None; table = table; outside = old }) (record { session = session; table = table_now; outside = new }) entry lines replies part ending
   pub own : (name : List ℕ) → HasOwn entry (last_of entry on.led.states) name lines replies
+  pub destroyed : AreDestroyed old.history new.history entry lines replies on.led.states on.ahead
 
 -- a run that served lines, and ended so: what it took, the lines of that, its replies to them, and a part of one more where the output failed
 pub record Answers (From : Held → Type 0) (old new : Outside) (ending : Ending) (left left_now written written_now : Option (List ℕ)) : Type 0 where

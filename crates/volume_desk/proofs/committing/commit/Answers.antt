@@ -21,7 +21,8 @@ returns-in-Err-clause-carries g c =
 pub returns-in-Ok-clause-serves : goal.returns-in-Ok-clause-serves
 returns-in-Ok-clause-serves g c told entry table buffer held =
     commit_served _ _ table c.in-Ok.done.session entry c.in-Ok.done.reply c.reply_to_commit.result buffer c.reply_to_commit.ensures
-    (committed_to g.P.Platform g.T.Tape g.L.Sink _ _ _ _ _ _ _ _ c.in-Ok.done.reply table entry c.requires.ready.is_open held c.in-Ok.ensures.answers (c.in-Ok.ensures.leads told entry.device entry.session held.at))
+    (committed_to g.P.Platform g.T.Tape g.L.Sink _ _ _ _ _ _ _ _ c.in-Ok.done.reply table entry c.requires.ready.is_open c.in-Ok.ensures.goes.back.is_open.served.in_range
+    (c.in-Ok.ensures.goes.back.mounted told).cell (g.met.P.Platform.counts_pages told c.commit_session.new.platform) held c.in-Ok.ensures.answers (c.in-Ok.ensures.leads told entry.device entry.session held.at))
 
 pub returns-in-Err-clause-serves : goal.returns-in-Err-clause-serves
 returns-in-Err-clause-serves g c told entry table buffer held =

@@ -41,7 +41,8 @@ returns-in-Ok-commit_session-clause-serves g c told entry buffer held =
     let kept = made_kept _ _ entry.device held.at.there.device held.at.served (along.cell told) in
     let taken = takes_none _ _ _ _ _ _ entry c.args.name.now buffer c.in-Ok.refused c.in_default.is (c.in-Ok.ensures.turns told entry buffer held) in
     destroy_served _ (around g.P.Platform g.T.Tape g.L.Sink c.take_out.new.platform c.take_out.new.tape c.args.ledger.now) _ _ _ _ _ entry c.args.name.now c.in-Ok-commit_session.done.reply c.reply_to_destroy.result buffer c.reply_to_destroy.ensures along.capacity taken kept
-    (committed_to g.P.Platform g.T.Tape g.L.Sink _ _ _ _ _ _ _ _ c.in-Ok-commit_session.done.reply _ (changed entry c.take_out.new.table taken.v) along.is_open taken.held c.in-Ok-commit_session.ensures.answers
+    (committed_to g.P.Platform g.T.Tape g.L.Sink _ _ _ _ _ _ _ _ c.in-Ok-commit_session.done.reply _ (changed entry c.take_out.new.table taken.v) along.is_open c.in-Ok-commit_session.ensures.goes.back.is_open.served.in_range
+    (c.in-Ok-commit_session.ensures.goes.back.mounted told).cell (g.met.P.Platform.counts_pages told c.commit_session.new.platform) taken.held c.in-Ok-commit_session.ensures.answers
     (c.in-Ok-commit_session.ensures.leads told entry.device (changed entry c.take_out.new.table taken.v).session taken.held.at))
 
 pub returns-in-Err-commit_session-clause-carries : goal.returns-in-Err-commit_session-clause-carries
