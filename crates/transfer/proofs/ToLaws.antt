@@ -33,7 +33,8 @@ use Rattle.session_calls.specs.Mounts.{IsFound, MountLeads}
 use Rattle.session_calls.specs.declared.stops.DeviceStop.{DeviceStop}
 use Rattle.session_calls.proofs.CarryLaws.{stays_at}
 use Rattle.transfer.specs.Program.{ToAlone}
-use Rattle.transfer.specs.Running.{IsOpened, Opens, Spans}
+use Rattle.session_calls.specs.Spans.{Spans}
+use Rattle.transfer.specs.Running.{IsOpened, Opens}
 
 -- ---- a part that only looks
 

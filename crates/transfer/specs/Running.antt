@@ -8,8 +8,7 @@ use Rattle.page_store.specs.Stands.{Stands}
 use Rattle.device_terms.specs.Served.{IsServedImage}
 use Rattle.device_course.specs.Course.{Made}
 use Rattle.device_course.specs.Keys.{KeepsOn}
-use Rattle.device_course.specs.Marks.{last_mark}
-use Rattle.device_course.specs.States.{IsAt, IsLater, IsListed, Outside, outside}
+use Rattle.device_course.specs.States.{IsAt, IsListed, Outside, outside}
 use Rattle.device_session.specs.Open.{number_of}
 use Rattle.device_session.specs.Sessions.{Session}
 use Rattle.device_session.specs.declared.refusals.CommitReply.{CommitReply}
@@ -23,14 +22,6 @@ use Rattle.transfer.specs.declared.halts.Halt.TheVariants as halts
 -- a platform without a tape and a ledger
 abbrev pub alone : {S : Type 0} → PlatformGhosts S → S → Outside
 alone P platform = outside (P.history platform) (P.head platform) (P.capacity platform) None None
-
--- a part of a run, whatever it did: pages were only added; keys were kept, and the ledger got what belongs to the root records that came into the cell, of one more entry a part only where
--- it doesn't go on; and from the device that there was it made others
-pub record Spans (tells : Type 0) (old new : Outside) (Going : Type 0) : Type 0 where
-  pub later : IsLater old new
-  pub keeps : KeepsOn tells old.drawn new.drawn old.written new.written None old.history new.history Going (λ keys. Unit {0})
-  pub made : tells → (there : Option Device) → Stands old.history.present there → IsServedImage old.history.present
-      → (marks : List (Option Device)) × Made old.history new.history None (closed there) marks (closed (last_mark there marks))
 
 -- the device that a session was opened on, where this one was there: the same; or, where none was, a new one of so many blocks and of this order, which was made
 abbrev pub IsOpened : Option Device → List (Option Device) → Device → ℕ → ℕ → Type 0

@@ -4,7 +4,8 @@ ghost use Rattle.device_course.specs.States.{around};
 ghost use Rattle.transfer.specs.Counts.{counts};
 ghost use Rattle.transfer.specs.Halts.{Blames};
 ghost use Rattle.transfer.specs.Opening.{halt_of_format};
-ghost use Rattle.transfer.specs.Running.{IsOfOpening, Opens, Spans};
+ghost use Rattle.session_calls.specs.Spans.{Spans};
+ghost use Rattle.transfer.specs.Running.{IsOfOpening, Opens};
 
 use crate::halts::Halt;
 use crate::running::CACHED_NODES;

@@ -6,7 +6,8 @@ ghost use Rattle.session_calls.specs.Along.{Along, Drawn};
 ghost use Rattle.session_calls.specs.Carrying.{Carries, IsReady};
 ghost use Rattle.transfer.specs.Counts.{counts};
 ghost use Rattle.transfer.specs.Halts.{Blames, EndsAs};
-ghost use Rattle.transfer.specs.Running.{Clears, MeetsWrong, Spans, alone};
+ghost use Rattle.session_calls.specs.Spans.{Spans};
+ghost use Rattle.transfer.specs.Running.{Clears, MeetsWrong, alone};
 ghost use Rattle.transfer.specs.declared.halts.Halt.{Halt};
 ghost use Rattle.transfer.specs.declared.halts.Moved.{Moved};
 
