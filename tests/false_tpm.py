@@ -1,7 +1,7 @@
 #!/usr/bin/env python3
 """A false TPM behind a pseudo terminal: what the built program makes of replies that no TPM gives.
 
-usage: tests/false_tpm.py [PROGRAM]    ./sdbt, or this one
+usage: tests/false_tpm.py [PROGRAM]    crates/sdbt/out/sdbt, or this one
        tests/false_tpm.py --kill SOCKET PID NTH WHEN PROGRAM FOLDER
 
 Each run has one reply spoilt, that of a command of this number: 0 asks what the index is, 1 reads
@@ -23,12 +23,16 @@ import struct
 import subprocess
 import sys
 import tempfile
+import threading
+import time
 import tty
+from concurrent.futures import ThreadPoolExecutor
 
 INDEX = 0x1500020
 SESSION = bytes.fromhex("0000010000")
 # What a run may take in all, in KiB.
 MEMORY = 65536
+SCRIPT = b"mount\nwrite 3 6869\ncommit\n"
 CODES = (0x18B, 0x14A, 0x101, 0x100, 0x148, 0x149, 0x98E, 0x9A2, 0x920, 0x921, 0x922, 1, 0xFFFFFFFF)
 
 
@@ -121,6 +125,7 @@ class Run:
                 # The program has not opened the file yet, or has closed it.
                 if os.waitid(os.P_PID, program.pid, os.WEXITED | os.WNOHANG | os.WNOWAIT):
                     break
+                time.sleep(0.001)
                 continue
             if not more:
                 program.kill()
@@ -188,66 +193,93 @@ def wanted(kind, name):
     return (1,) if kind in ("public", "open") else (5,)
 
 
+class Trials:
+    """Runs of a program over copies of a device, side by side, and what went wrong in them."""
+
+    def __init__(self, program, work):
+        self.program, self.work, self.base = program, work, os.path.join(work, "base")
+        self.failed = self.tried = 0
+        self.telling = threading.Lock()
+
+    def wrong(self, what):
+        with self.telling:
+            self.failed += 1
+            print(f"false_tpm: {what}", file=sys.stderr)
+
+    def begin(self):
+        """A device, the commands of a commit on it, and what its index holds before."""
+        os.mkdir(self.base)
+        tpm = Tpm()
+        first = Run(self.program, self.base, tpm, b"format 8 64\n")
+        if (first.status, first.out) != (0, "formatted\n"):
+            self.wrong(f"format: {first.status} {first.out!r} {first.err!r}")
+        self.held = tpm.held
+        honest = Run(self.program, shutil.copytree(self.base, os.path.join(self.work, "honest")), Tpm(self.held), SCRIPT)
+        if (honest.status, honest.out) != (0, "mounted 0\nok\ncommitted 1\n"):
+            self.wrong(f"commit: {honest.status} {honest.out!r} {honest.err!r}")
+        with open(os.path.join(self.base, "media"), "rb") as it:
+            self.media = it.read()
+        return honest.commands
+
+    def tasks(self):
+        """What is tried: each reply of a commit spoilt in each way, and indices in which no root record can stand."""
+        commands = self.begin()
+        for number, kind in enumerate(kinds(commands)):
+            answers = Tpm(self.held)
+            for command in commands[: number + 1]:
+                reply = answers.answer(command)
+            for name, spoil in spoilers(reply):
+                yield self.spoilt, (number, kind, reply, name, spoil)
+        for bit in (11, 13, 14, 15, 26, 27, 28, 31, 4, 5, 6, 7):
+            yield self.other_index, (0x2040004 | 1 << bit, 128)
+        for attributes, size in ((0x2040000, 128), (0x2000004, 128), (0x2040004, 64), (0x2040004, 129), (0x2040004, 0)):
+            yield self.other_index, (attributes, size)
+
+    def spoilt(self, number, kind, reply, name, spoil):
+        folder = os.path.join(tempfile.mkdtemp(dir=self.work), "folder")
+        run = Run(self.program, shutil.copytree(self.base, folder), Tpm(self.held), SCRIPT, number, spoil)
+        with open(os.path.join(folder, "media"), "rb") as it:
+            now = it.read()
+        shutil.rmtree(os.path.dirname(folder))
+        what = f"reply {number} ({kind}), {name}"
+        if spoil(reply)[0] != reply and run.status not in wanted(kind, name):
+            self.wrong(f"{what}: status {run.status}, {run.out!r}, {run.err!r}")
+        if run.status == 1 and (now != self.media or run.out):
+            self.wrong(f"{what}: the medium or the output is another one")
+        if not now.startswith(self.media):
+            self.wrong(f"{what}: pages are other ones")
+        if run.status == 5 and name.startswith("code") and name[5:] != "0x14a" and name[5:] not in run.err:
+            self.wrong(f"{what}: the code isn't told: {run.err!r}")
+        if run.memory > MEMORY:
+            self.wrong(f"{what}: {run.memory} KiB")
+        if len(run.commands) > number + 1 and run.status in (1, 5):
+            self.wrong(f"{what}: another command was sent")
+
+    def other_index(self, attributes, size):
+        folder = os.path.join(tempfile.mkdtemp(dir=self.work), "folder")
+        run = Run(self.program, shutil.copytree(self.base, folder), Tpm(self.held, attributes, size), SCRIPT)
+        if run.status != 1 or len(run.commands) != 1:
+            self.wrong(f"attributes {attributes:#x}, {size} bytes: {run.status}")
+
+    def do(self, task):
+        what, words = task
+        try:
+            what(*words)
+        except Exception as error:
+            self.wrong(f"{words[0]}: {error!r}")
+        with self.telling:
+            self.tried += 1
+
+
 def spoil_all(program):
-    work = tempfile.mkdtemp()
-    failed = tried = 0
-
-    def wrong(what):
-        nonlocal failed
-        failed += 1
-        print(f"false_tpm: {what}", file=sys.stderr)
-
-    base = os.path.join(work, "base")
-    os.mkdir(base)
-    tpm = Tpm()
-    script = b"mount\nwrite 3 6869\ncommit\n"
-    first = Run(program, base, tpm, b"format 8 64\n")
-    if (first.status, first.out) != (0, "formatted\n"):
-        wrong(f"format: {first.status} {first.out!r} {first.err!r}")
-    held = tpm.held
-    honest = Run(program, shutil.copytree(base, os.path.join(work, "honest")), Tpm(held), script)
-    if (honest.status, honest.out) != (0, "mounted 0\nok\ncommitted 1\n"):
-        wrong(f"commit: {honest.status} {honest.out!r} {honest.err!r}")
-    with open(os.path.join(base, "media"), "rb") as it:
-        media = it.read()
-    for number, kind in enumerate(kinds(honest.commands)):
-        answers = Tpm(held)
-        for command in honest.commands[: number + 1]:
-            reply = answers.answer(command)
-        for name, spoil in spoilers(reply):
-            folder = shutil.copytree(base, os.path.join(work, "folder"))
-            run = Run(program, folder, Tpm(held), script, number, spoil)
-            tried += 1
-            with open(os.path.join(folder, "media"), "rb") as it:
-                now = it.read()
-            shutil.rmtree(folder)
-            what = f"reply {number} ({kind}), {name}"
-            if spoil(reply)[0] != reply and run.status not in wanted(kind, name):
-                wrong(f"{what}: status {run.status}, {run.out!r}, {run.err!r}")
-            if run.status == 1 and (now != media or run.out):
-                wrong(f"{what}: the medium or the output is another one")
-            if not now.startswith(media):
-                wrong(f"{what}: pages are other ones")
-            if run.status == 5 and name.startswith("code") and name[5:] != "0x14a" and name[5:] not in run.err:
-                wrong(f"{what}: the code isn't told: {run.err!r}")
-            if run.memory > MEMORY:
-                wrong(f"{what}: {run.memory} KiB")
-            if len(run.commands) > number + 1 and run.status in (1, 5):
-                wrong(f"{what}: another command was sent")
-    # An index that is none in which a root record can stand.
-    for bit in (11, 13, 14, 15, 26, 27, 28, 31, 4, 5, 6, 7):
-        run = Run(program, base, Tpm(held, 0x2040004 | 1 << bit), script)
-        tried += 1
-        if run.status != 1 or len(run.commands) != 1:
-            wrong(f"attribute {bit}: {run.status}")
-    for attributes, size in ((0x2040000, 128), (0x2000004, 128), (0x2040004, 64), (0x2040004, 129), (0x2040004, 0)):
-        run = Run(program, base, Tpm(held, attributes, size), script)
-        tried += 1
-        if run.status != 1 or len(run.commands) != 1:
-            wrong(f"attributes {attributes:#x}, {size} bytes: {run.status}")
+    # What is answered is looked at, and not what a disk keeps: so the folders are in memory, where they can be.
+    work = tempfile.mkdtemp(dir="/dev/shm" if os.access("/dev/shm", os.W_OK) else None)
+    trials = Trials(program, work)
+    with ThreadPoolExecutor(2 * (os.cpu_count() or 1)) as pool:
+        list(pool.map(trials.do, trials.tasks()))
     shutil.rmtree(work)
-    print(f"false_tpm: {tried} replies, {failed} failed" if failed else f"false_tpm: passed, {tried} replies")
-    return 1 if failed else 0
+    print(f"false_tpm: {trials.tried} replies, {trials.failed} failed" if trials.failed else f"false_tpm: passed, {trials.tried} replies")
+    return 1 if trials.failed else 0
 
 
 def kill(path, pid, at, when, program, folder):
@@ -259,4 +291,4 @@ def kill(path, pid, at, when, program, folder):
 
 if sys.argv[1:2] == ["--kill"]:
     sys.exit(kill(*sys.argv[2:]))
-sys.exit(spoil_all(*sys.argv[1:] or ["./sdbt"]))
+sys.exit(spoil_all(*sys.argv[1:] or ["crates/sdbt/out/sdbt"]))

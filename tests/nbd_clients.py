@@ -274,14 +274,18 @@ PARTS = [
 ]
 
 
-def try_clients(sdbt, server, room, check):
-    """Tries each client that is installed, and says which are left out."""
+def try_client(stand, part, programs, package):
+    """Tries a client, and says where it is left out."""
+    if not all(shutil.which(program, path=PLAIN["PATH"]) for program in programs) or (part is nbdsh and not has_module("nbd")):
+        left_out = f"it isn't installed: Debian's package {package}"
+    else:
+        left_out = part(stand)
+    if left_out:
+        print(f"nbd: {programs[0]} is left out, {left_out}")
+
+
+def clients(sdbt, server, room, check):
+    """A name and a task for each client."""
     stand = Stand(sdbt, server, room, check)
     for part, programs, package in PARTS:
-        name = programs[0]
-        if not all(shutil.which(program, path=PLAIN["PATH"]) for program in programs) or (part is nbdsh and not has_module("nbd")):
-            print(f"nbd: {name} is left out, it isn't installed: Debian's package {package}")
-            continue
-        left_out = part(stand)
-        if left_out:
-            print(f"nbd: {name} is left out, {left_out}")
+        yield programs[0], lambda words=(part, programs, package): try_client(stand, *words)

@@ -11,6 +11,7 @@ import json
 import re
 import subprocess
 import sys
+from concurrent.futures import ThreadPoolExecutor
 
 LIMIT = 2**64 - 1
 MEMBERS = {"added", "base", "commit", "gone", "head", "never", "root"}
@@ -126,10 +127,13 @@ def main(program, folder):
         text = file.read()
     root = certificate(text.strip().split("\n")[-1])
     ledgers = list(changed(text))
-    otherwise = 0
-    for ledger in ledgers:
+
+    def is_told_otherwise(ledger):
         said = subprocess.run([program, folder, "check"], input=ledger, capture_output=True, text=True, check=False).stdout
-        otherwise += said.strip() != verdict(ledger, root)
+        return said.strip() != verdict(ledger, root)
+
+    with ThreadPoolExecutor() as pool:
+        otherwise = sum(pool.map(is_told_otherwise, ledgers))
     print("%d ledgers, %d told otherwise" % (len(ledgers), otherwise))
 
 

@@ -10,6 +10,9 @@ TOP = Path(__file__).resolve().parent.parent
 BUILT = TOP / "crates" / "sdbt" / "out" / "sdbt"
 PAGE = 4128
 
+# A file system in memory, where there is one: there a sync takes no time, which helps where it is the calls that are looked at.
+QUICK = "/dev/shm" if os.access("/dev/shm", os.W_OK) else None
+
 # Calls on memory and time.
 MEMORY = {"mmap", "munmap", "mremap", "brk", "madvise", "exit_group", "rt_sigaction", "clock_gettime", "futex", "ioctl"}
 

@@ -1,8 +1,10 @@
 # shellcheck shell=sh
-# A volume of GlusterFS that keeps each file three times, in three folders of this machine, and is
-# mounted twice, in $work/one and $work/two. Who reads this file in has read checks.sh in before.
-# A glusterd of its own serves it, which ends with the test.
+# Volumes of GlusterFS that keep each file three times, in three folders of this machine, and are
+# mounted twice: the first one in $work/one and $work/two. Who reads this file in has read checks.sh in
+# before. A glusterd of its own serves them, which ends with the test.
 gluster_state=$work/gluster
+# The volume that is killed and healed; a subshell may say another one.
+gluster_volume=device
 
 # needs_volume: says that the test is skipped, and ends, where there is no GlusterFS or it may not be
 # mounted here
@@ -41,13 +43,10 @@ until_done() {
     done
 }
 
-# start_volume: makes, starts and mounts the volume
+# start_volume: starts a glusterd, and the first volume
 start_volume() {
     trap 'stop_volume; chmod -R u+rwx "$work"; rm -rf "$work"' EXIT
-    for brick in 0 1 2; do
-        mkdir -p "$gluster_state/brick$brick"
-    done
-    mkdir -p "$gluster_state/state" "$gluster_state/run" "$work/one" "$work/two"
+    mkdir -p "$gluster_state/state" "$gluster_state/run"
     cat >"$gluster_state/glusterd.vol" <<END
 volume management
     type mgmt/glusterd
@@ -63,23 +62,29 @@ end-volume
 END
     glusterd -f "$gluster_state/glusterd.vol" -p "$gluster_state/glusterd.pid" -l "$gluster_state/glusterd.log"
     until_done 20 volume info
+    make_volume device "$work"
+}
+
+# make_volume NAME FOLDER: makes and starts a volume, and mounts it in FOLDER/one and FOLDER/two
+make_volume() {
+    bricks=$gluster_state/$1
+    mkdir -p "$bricks/brick0" "$bricks/brick1" "$bricks/brick2" "$2/one" "$2/two"
     {
-        volume create device replica 3 "$gluster_host:$gluster_state/brick0" \
-            "$gluster_host:$gluster_state/brick1" "$gluster_host:$gluster_state/brick2" force &&
-            volume start device
-    } >"$work/volume" 2>&1 &&
-        mount -t glusterfs -o "log-file=$gluster_state/one.log" "$gluster_host:/device" "$work/one" &&
-        mount -t glusterfs -o "log-file=$gluster_state/two.log" "$gluster_host:/device" "$work/two"
+        volume create "$1" replica 3 "$gluster_host:$bricks/brick0" "$gluster_host:$bricks/brick1" "$gluster_host:$bricks/brick2" force &&
+            volume start "$1"
+    } >"$2/volume" 2>&1 &&
+        mount -t glusterfs -o "log-file=$gluster_state/$1-one.log" "$gluster_host:/$1" "$2/one" &&
+        mount -t glusterfs -o "log-file=$gluster_state/$1-two.log" "$gluster_host:/$1" "$2/two"
     # shellcheck disable=SC2181 # of all these
-    if [ $? != 0 ] || ! until_done 20 mkdir -p "$work/one/medium"; then
-        echo "$name: the volume can't be started: $(cat "$work/volume")" >&2
+    if [ $? != 0 ] || ! until_done 20 mkdir -p "$2/one/medium"; then
+        echo "$name: the volume can't be started: $(cat "$2/volume")" >&2
         exit 1
     fi
 }
 
 # kill_brick NUMBER: ends the process of this brick, at once
 kill_brick() {
-    if ! kill -KILL "$(cat "$gluster_state"/run/vols/device/*-brick"$1".pid)"; then
+    if ! kill -KILL "$(cat "$gluster_state/run/vols/$gluster_volume"/*-brick"$1".pid)"; then
         echo "$name: brick $1 can't be killed" >&2
         failed=$((failed + 1))
     fi
@@ -93,19 +98,21 @@ start_bricks() {
 # is_healed: whether no brick lacks anything, and all are there. It starts those that are not, since
 # one that has just been killed may count as running for a moment, and asks for the healing.
 is_healed() {
-    volume start device force
-    volume heal device
-    test "$(volume heal device info | grep -c '^Number of entries: 0$')" = 3
+    volume start "$gluster_volume" force
+    volume heal "$gluster_volume"
+    test "$(volume heal "$gluster_volume" info | grep -c '^Number of entries: 0$')" = 3
 }
 
-# stop_volume: unmounts the volume, and ends what serves it
+# stop_volume: unmounts the volumes, and ends what serves them
 stop_volume() {
-    for folder in one two; do
-        ! grep -q " $work/$folder " /proc/mounts || umount "$work/$folder" || umount -l "$work/$folder"
+    awk -v work="$work/" 'index($2, work) == 1 { print $2 }' /proc/mounts | while IFS= read -r folder; do
+        umount "$folder" || umount -l "$folder"
     done
     if [ -f "$gluster_state/glusterd.pid" ]; then
-        volume stop device force >/dev/null 2>&1
+        for each in $(volume list 2>/dev/null); do
+            volume stop "$each" force >/dev/null 2>&1
+        done
         kill "$(cat "$gluster_state/glusterd.pid")"
     fi
-    rm -f "/var/log/glusterfs/bricks/$(echo "$gluster_state" | sed 's|^/||; s|/|-|g')"-brick?.log
+    rm -f "/var/log/glusterfs/bricks/$(echo "$gluster_state" | sed 's|^/||; s|/|-|g')"-*-brick?.log
 }

@@ -39,6 +39,12 @@ const FAULTY: u8 = 2;
 /// The exit status where the output failed.
 const OUTPUT_FAULT: u8 = 4;
 
+/// The exit status where the medium or the root cell failed.
+const PLATFORM_FAULT: u8 = 5;
+
+/// The exit status where the ledger failed.
+const LEDGER_FAULT: u8 = 7;
+
 /// The exit status where memory was refused.
 const NO_MEMORY: u8 = 11;
 
@@ -176,7 +182,7 @@ fn serve_memory(rt: &(impl Alloc<A = Global> + Input + Print), words: &[String])
     let mut tape = SeedTape::new(0);
     let mut input = ReadSource::new(rt.reader());
     let mut output = WriteSink::new(io::writer(rt));
-    run_main(
+    let status = run_main(
         alloc,
         words,
         &mut platform,
@@ -184,7 +190,17 @@ fn serve_memory(rt: &(impl Alloc<A = Global> + Input + Print), words: &[String])
         &mut input,
         &mut output,
         &mut ledger,
-    )
+    );
+    status_in_memory(status, platform.starved(), ledger.starved())
+}
+
+/// The exit status of a run over a medium and a ledger in memory, which were refused memory so many times: these have no other faults.
+fn status_in_memory(status: u8, medium_starved: u64, ledger_starved: u64) -> u8 {
+    match status {
+        PLATFORM_FAULT if medium_starved > 0 => NO_MEMORY,
+        LEDGER_FAULT if ledger_starved > 0 => NO_MEMORY,
+        other => other,
+    }
 }
 
 /// Serves the script on standard input over a device whose medium is in `folder`, and its root record
