@@ -70,4 +70,4 @@ EXAMPLE
 ";
 
 /// The version of the program.
-pub const VERSION: &str = "sdbt_more 0.2.4\n";
+pub const VERSION: &str = "sdbt_more 0.2.5\n";
