@@ -119,9 +119,9 @@ refused_reply : (tells : Type 0) (image : Image) (held : Option Session) (blocks
 refused_reply tells image held blocks order reply buffer (inl e) why past =
     subst (λ (r : Given). MayReply tells image held (Format blocks order) (said r buffer)) (sym e) (tt, λ told. is_full (why told))
   where
-  is_full : ((reply ≡ given.NotEmpty) × (image.cell ≢ None)) ⊎ ((reply ≡ given.Range) × (image.cell ≡ None)) → image.cell ≢ None
-  is_full (inl (not_empty, full)) = full
-  is_full (inr (range, empty)) = let never : given.NotEmpty ≡ given.Range = sym e ∙ range in absurd cc
+    is_full : ((reply ≡ given.NotEmpty) × (image.cell ≢ None)) ⊎ ((reply ≡ given.Range) × (image.cell ≡ None)) → image.cell ≢ None
+    is_full (inl (not_empty, full)) = full
+    is_full (inr (range, empty)) = let never : given.NotEmpty ≡ given.Range = sym e ∙ range in absurd cc
 refused_reply tells image held blocks order reply buffer (inr e) why past = subst (λ (r : Given). MayReply tells image held (Format blocks order) (said r buffer)) (sym e) past
 
 pub refused_any : (tells : Type 0) (old now : World) (blocks order : ℕ) (result : Result Given DeviceStop) (buffer : List ℕ) → IfOk result (λ reply. (reply ≡ given.NotEmpty) ⊎ (reply ≡ given.Range))

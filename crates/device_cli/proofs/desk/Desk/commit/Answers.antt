@@ -82,9 +82,11 @@ returns-in_err-done-clause-drew g c = rw (stopped g c) tt
 
 pub returns-in-Committed-clause-any : goal.returns-in-Committed-clause-any
 returns-in-Committed-clause-any g c =
-    let answers = rw c.in-Committed.is at c.in_ok-done.ensures.answers in
-    (held_has c.args.self.now.session c.in-Some.session (λ (s : Session). c.in-Committed.number ≡ number_behind s) (sym c.take.ensures.value ∙ c.in-Some.is)
-    (number_is c.in-Some.session c.in_ok-done.done.session c.in-Committed.number answers.is_number (λ idle. (answers.idle idle).0) answers.next), λ told. tt)
+    let answers = rw c.in-Committed.is at c.in_ok-done.ensures.answers in (
+      held_has c.args.self.now.session c.in-Some.session (λ (s : Session). c.in-Committed.number ≡ number_behind s) (sym c.take.ensures.value ∙ c.in-Some.is)
+          (number_is c.in-Some.session c.in_ok-done.done.session c.in-Committed.number answers.is_number (λ idle. (answers.idle idle).0) answers.next),
+      λ told. tt,
+    )
 
 pub returns-in-Full-clause-any : goal.returns-in-Full-clause-any
 returns-in-Full-clause-any g c =
