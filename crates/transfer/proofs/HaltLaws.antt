@@ -15,7 +15,7 @@ use Rattle.session_calls.specs.declared.stops.DeviceStop.TheVariants as stops
 use Rattle.transfer.specs.Counts.{Counts}
 use Rattle.transfer.specs.Halts.{Blames}
 use Rattle.transfer.specs.Listing.{IsListStop}
-use Rattle.transfer.specs.Running.{HaltsFrom, HaltsTo, IsNumberOf, IsOfOpening, MeetsWrong}
+use Rattle.transfer.specs.Running.{HaltsFrom, HaltsTo, IsBehindMount, IsNumberOf, IsOfOpening, MeetsWrong}
 use Rattle.transfer.specs.declared.halts.Halt.{Halt}
 use Rattle.transfer.specs.declared.halts.Halt.TheVariants as halts
 use Rattle.transfer.proofs.BlameLaws.{blames_done, blames_halt}
@@ -144,3 +144,38 @@ meets_opening from_tells to_tells from to (halts.To (stops.BadRecord addr)) is =
 pub meets_opening_all : {X : Type 0} (from_tells to_tells : Type 0) (from to : Image) (result : Result X Halt) → IfErr result IsOfOpening → IfErr result (MeetsWrong from_tells to_tells from to)
 meets_opening_all from_tells to_tells from to (Ok done) is = tt
 meets_opening_all from_tells to_tells from to (Err halt) is = meets_opening from_tells to_tells from to halt is
+
+-- ---- behind the mount
+
+pub behind_from : (tells : Type 0) (image : Image) (halt : Halt) → HaltsFrom tells image halt → IsBehindMount halt
+behind_from tells image halts.NoDevice is = absurd is
+behind_from tells image halts.NotEmpty is = absurd is
+behind_from tells image halts.Full is = absurd is
+behind_from tells image halts.Output is = absurd is
+behind_from tells image (halts.From stops.Platform) is = tt
+behind_from tells image (halts.From stops.Memory) is = tt
+behind_from tells image (halts.From stops.Tape) is = absurd is
+behind_from tells image (halts.From stops.Ledger) is = absurd is
+behind_from tells image (halts.From stops.BadRoot) is = absurd is
+behind_from tells image (halts.From (stops.BadRecord addr)) is = tt
+behind_from tells image (halts.To stop) is = absurd is
+
+pub behind_to : (tells : Type 0) (image : Image) (halt : Halt) → HaltsTo tells image halt → IsBehindMount halt
+behind_to tells image halts.NoDevice is = absurd is
+behind_to tells image halts.NotEmpty is = absurd is
+behind_to tells image halts.Full is = tt
+behind_to tells image halts.Output is = absurd is
+behind_to tells image (halts.From stop) is = absurd is
+behind_to tells image (halts.To stop) is = tt
+
+pub behind_opening : (halt : Halt) → IsOfOpening halt → IsBehindMount halt
+behind_opening halts.NoDevice is = absurd is
+behind_opening halts.NotEmpty is = tt
+behind_opening halts.Full is = tt
+behind_opening halts.Output is = absurd is
+behind_opening (halts.From stop) is = absurd is
+behind_opening (halts.To stop) is = tt
+
+pub behind_opening_all : {X : Type 0} (result : Result X Halt) → IfErr result IsOfOpening → IfErr result IsBehindMount
+behind_opening_all (Ok done) is = tt
+behind_opening_all (Err halt) is = behind_opening halt is

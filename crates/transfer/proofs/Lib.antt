@@ -5,3 +5,4 @@ pub mod StatusLaws
 pub mod ListLaws
 pub mod HaltLaws
 pub mod FormatLaws
+pub mod LookedLaws

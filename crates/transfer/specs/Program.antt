@@ -11,7 +11,7 @@ use Rattle.device_course.specs.Reaching.{DisclosesTree}
 use Rattle.device_course.specs.States.{Outside}
 use Rattle.transfer.specs.Counts.{Counts, FromRose, LedgerRose, NoneFell, OutputRose, TapeRose, ToRose}
 use Rattle.transfer.specs.Halts.{EndsAs, exit_of}
-use Rattle.transfer.specs.Running.{MeetsWrong}
+use Rattle.transfer.specs.Running.{Looked, MeetsWrong}
 use Rattle.transfer.specs.declared.halts.Halt.{Halt}
 use Rattle.transfer.specs.declared.halts.Moved.{Moved}
 
@@ -40,13 +40,15 @@ pub record Exits (words : List (List ℕ)) (status : ℕ) (before now : Counts) 
   pub refused : (status ≡ 2) ↔ (words ≢ [])
   pub blame : IsBlamedAt status before now
 
--- how a run went that was given no words: it moved a device, or halted; what it said of that, and its status. A record that is named doesn't fit its place
-pub record Ran (from_tells to_tells : Type 0) (from to : Image) (status : ℕ) (written written_now : Option (List ℕ)) : Type 0 where
+-- how a run went that was given no words: it moved a device, or halted; what it said of that, and its status. A record that is named doesn't fit its place; and that there is no device to be
+-- moved, or that its root record can't be served, is said exactly where that was so, but for faults of its platform
+pub record Ran (from_tells to_tells : Type 0) (first from to : Image) (status : ℕ) (written written_now : Option (List ℕ)) : Type 0 where
   pub moved : Result Moved Halt
   pub ending : Result (Unit {0}) Halt
   pub said : EndsAs moved ending written written_now
   pub status_is : status ≡ exit_of ending
   pub wrong : IfErr moved (MeetsWrong from_tells to_tells from to)
+  pub looked : Looked from_tells first moved
 
 -- the device that is moved: it is left, or its root record was cleared, and at status 0 that was done. What is promised of each run over a device is promised of this one
 pub record LeavesDevice (old new : Outside) (status : ℕ) (there : Device) : Type 0 where

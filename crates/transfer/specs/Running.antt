@@ -55,6 +55,20 @@ MeetsWrong from_tells to_tells from to (halts.From (device.BadRecord addr)) = fr
 MeetsWrong from_tells to_tells from to (halts.To (device.BadRecord addr)) = to_tells → IsWrongPage to addr
 MeetsWrong from_tells to_tells from to _ = Unit {0}
 
+-- a halt behind the mount of the device that is moved
+abbrev pub IsBehindMount : Halt → Type 0
+IsBehindMount halts.NoDevice = ⊥
+IsBehindMount halts.Output = ⊥
+IsBehindMount (halts.From device.BadRoot) = ⊥
+IsBehindMount _ = Unit {0}
+
+-- where the cell of the device that is moved is empty, or can't be served, the run halts so, or its platform failed; and only there
+pub record Looked {X : Type 0} (tells : Type 0) (image : Image) (result : Result X Halt) : Type 0 where
+  pub bad : tells → (IsServedImage image → ⊥) → (result ≡ Err (halts.From device.BadRoot)) ⊎ (result ≡ Err (halts.From device.Platform))
+  pub empty : tells → image.cell ≡ None → (result ≡ Err halts.NoDevice) ⊎ (result ≡ Err (halts.From device.Platform))
+  pub bad_only : tells → result ≡ Err (halts.From device.BadRoot) → IsServedImage image → ⊥
+  pub empty_only : tells → result ≡ Err halts.NoDevice → image.cell ≡ None
+
 -- a halt of the device that is moved, and of the one that it is moved to: at a record that doesn't fit its place, on any pages; or since a platform, the tape or the ledger failed, no memory
 -- was given, or too few pages are free
 abbrev pub HaltsFrom : Type 0 → Image → Halt → Type 0

@@ -6,7 +6,7 @@ ghost use Rattle.session_calls.specs.Along.{Along, Drawn, drawn_by};
 ghost use Rattle.session_calls.specs.Carrying.{Carries, IsReady};
 ghost use Rattle.transfer.specs.Counts.{counts};
 ghost use Rattle.transfer.specs.Halts.{Blames};
-ghost use Rattle.transfer.specs.Running.{IsNumberOf, IsOfOpening, MeetsWrong, alone};
+ghost use Rattle.transfer.specs.Running.{IsBehindMount, IsNumberOf, IsOfOpening, MeetsWrong, alone};
 
 use crate::halts::Halt;
 use crate::sides::{read_source, write_target};
@@ -33,6 +33,7 @@ pub(crate) fn copy_blocks<P: Platform, Q: Platform, T: Tape>(
     ensures blame { (output ledger : ℕ) → Blames (counts (P.faults from.old) (Q.faults to.old) (T.faults tape.old) output ledger)
         (counts (P.faults from.new) (Q.faults to.new) (T.faults tape.new) output ledger) result }
     ensures wrong { IfErr result (MeetsWrong P.tells Q.tells (P.history from.new).present (Q.history to.new).present) }
+    ensures behind { IfErr result IsBehindMount }
 {
     for block in blocks {
         match copy_block(*block, source, target, from, to, tape) {
@@ -61,6 +62,7 @@ fn copy_block<P: Platform, Q: Platform, T: Tape>(
     ensures blame { (output ledger : ℕ) → Blames (counts (P.faults from.old) (Q.faults to.old) (T.faults tape.old) output ledger)
         (counts (P.faults from.new) (Q.faults to.new) (T.faults tape.new) output ledger) result }
     ensures wrong { IfErr result (MeetsWrong P.tells Q.tells (P.history from.new).present (Q.history to.new).present) }
+    ensures behind { IfErr result IsBehindMount }
 {
     let mut content = [0; BLOCK];
     match read_source(source, from, block, &mut content) {

@@ -45,7 +45,7 @@ pub fn run_transfer<P: Platform, Q: Platform, T: Tape, O: Sink, L: Sink>(
     ensures other_words { result ≡ 2 → (from.new ≡ from.old) × (to.new ≡ to.old) × (tape.new ≡ tape.old) × (output.new ≡ output.old) × (ledger.new ≡ ledger.old) }
 
     // What was said, and, on any pages, which record is named.
-    ensures ran { map string_bytes words.now ≡ [] → Ran P.tells Q.tells (P.history from.new).present (Q.history to.new).present result
+    ensures ran { map string_bytes words.now ≡ [] → Ran P.tells Q.tells (P.history from.old).present (P.history from.new).present (Q.history to.new).present result
         (O.written output.old) (O.written output.new) }
 
     // Whatever the other platform does: at each moment a loss of power leaves the device of `from`, or none.

@@ -5,7 +5,7 @@ ghost use Rattle.session_calls.specs.Along.{Along, Drawn};
 ghost use Rattle.session_calls.specs.Carrying.{IsReady};
 ghost use Rattle.transfer.specs.Counts.{counts};
 ghost use Rattle.transfer.specs.Halts.{Blames};
-ghost use Rattle.transfer.specs.Running.{MeetsWrong, alone};
+ghost use Rattle.transfer.specs.Running.{IsBehindMount, MeetsWrong, alone};
 
 use crate::halts::Halt;
 use crate::sides::{read_source, read_target};
@@ -44,6 +44,7 @@ pub(crate) fn has_same<P: Platform, Q: Platform>(
     ensures blame { (tape output ledger : ℕ) → Blames (counts (P.faults from.old) (Q.faults to.old) tape output ledger)
         (counts (P.faults from.new) (Q.faults to.new) tape output ledger) result }
     ensures wrong { IfErr result (MeetsWrong P.tells Q.tells (P.history from.new).present (Q.history to.new).present) }
+    ensures behind { IfErr result IsBehindMount }
 {
     for block in blocks {
         match has_same_block(*block, source, target, from, to) {
@@ -72,6 +73,7 @@ fn has_same_block<P: Platform, Q: Platform>(
     ensures blame { (tape output ledger : ℕ) → Blames (counts (P.faults from.old) (Q.faults to.old) tape output ledger)
         (counts (P.faults from.new) (Q.faults to.new) tape output ledger) result }
     ensures wrong { IfErr result (MeetsWrong P.tells Q.tells (P.history from.new).present (Q.history to.new).present) }
+    ensures behind { IfErr result IsBehindMount }
 {
     let mut content = [0; BLOCK];
     let mut other = [0; BLOCK];

@@ -7,7 +7,7 @@ ghost use Rattle.session_calls.specs.Carrying.{Carries, IsReady};
 ghost use Rattle.transfer.specs.Counts.{counts};
 ghost use Rattle.transfer.specs.Halts.{Blames, EndsAs};
 ghost use Rattle.session_calls.specs.Spans.{Spans};
-ghost use Rattle.transfer.specs.Running.{Clears, MeetsWrong, alone};
+ghost use Rattle.transfer.specs.Running.{Clears, IsBehindMount, Looked, MeetsWrong, alone};
 ghost use Rattle.transfer.specs.declared.halts.Halt.{Halt};
 ghost use Rattle.transfer.specs.declared.halts.Moved.{Moved};
 
@@ -41,7 +41,7 @@ pub(crate) fn run<P: Platform, Q: Platform, T: Tape, O: Sink, L: Sink>(
     ensures blame { Blames (counts (P.faults from.old) (Q.faults to.old) (T.faults tape.old) (O.faults output.old) (L.faults ledger.old))
         (counts (P.faults from.new) (Q.faults to.new) (T.faults tape.new) (O.faults output.new) (L.faults ledger.new)) result }
     ensures ran { (moved : Result Moved Halt) × EndsAs moved result (O.written output.old) (O.written output.new)
-        × IfErr moved (MeetsWrong P.tells Q.tells (P.history from.new).present (Q.history to.new).present) }
+        × IfErr moved (MeetsWrong P.tells Q.tells (P.history from.new).present (Q.history to.new).present) × Looked P.tells (P.history from.old).present moved }
 {
     match move_device(alloc, from, to, tape, ledger) {
         Ok(moved) => put_moved(&moved, output),
@@ -64,6 +64,7 @@ fn move_device<P: Platform, Q: Platform, T: Tape, L: Sink>(
         (counts (P.faults from.new) (Q.faults to.new) (T.faults tape.new) output (L.faults ledger.new)) result }
     // On any pages: which record is named.
     ensures wrong { IfErr result (MeetsWrong P.tells Q.tells (P.history from.new).present (Q.history to.new).present) }
+    ensures looked { Looked P.tells (P.history from.old).present result }
 {
     match mount_session(alloc, from, CACHED_NODES) {
         Ok(Some(source)) => move_session(alloc, source, from, to, tape, ledger),
@@ -88,6 +89,7 @@ fn move_session<P: Platform, Q: Platform, T: Tape, L: Sink>(
     ensures blame { (output : ℕ) → Blames (counts (P.faults from.old) (Q.faults to.old) (T.faults tape.old) output (L.faults ledger.old))
         (counts (P.faults from.new) (Q.faults to.new) (T.faults tape.new) output (L.faults ledger.new)) result }
     ensures wrong { IfErr result (MeetsWrong P.tells Q.tells (P.history from.new).present (Q.history to.new).present) }
+    ensures behind { IfErr result IsBehindMount }
 {
     let mut source = first;
     let blocks = source.mapped();
@@ -117,6 +119,7 @@ fn fill<P: Platform, Q: Platform, T: Tape, L: Sink>(
     ensures blame { (output : ℕ) → Blames (counts (P.faults from.old) (Q.faults to.old) (T.faults tape.old) output (L.faults ledger.old))
         (counts (P.faults from.new) (Q.faults to.new) (T.faults tape.new) output (L.faults ledger.new)) result }
     ensures wrong { IfErr result (MeetsWrong P.tells Q.tells (P.history from.new).present (Q.history to.new).present) }
+    ensures behind { IfErr result IsBehindMount }
 {
     let blocks = source.blocks();
     let order = source.root().order;
@@ -154,6 +157,7 @@ fn fill_target<P: Platform, Q: Platform, T: Tape, L: Sink>(
     ensures blame { (output : ℕ) → Blames (counts (P.faults from.old) (Q.faults to.old) (T.faults tape.old) output (L.faults ledger.old))
         (counts (P.faults from.new) (Q.faults to.new) (T.faults tape.new) output (L.faults ledger.new)) result }
     ensures wrong { IfErr result (MeetsWrong P.tells Q.tells (P.history from.new).present (Q.history to.new).present) }
+    ensures behind { IfErr result IsBehindMount }
 {
     if !is_alike(source, &target) {
         return Err(Halt::NotEmpty);
@@ -190,6 +194,7 @@ fn fill_found<P: Platform, Q: Platform, T: Tape, L: Sink>(
     ensures blame { (output : ℕ) → Blames (counts (P.faults from.old) (Q.faults to.old) (T.faults tape.old) output (L.faults ledger.old))
         (counts (P.faults from.new) (Q.faults to.new) (T.faults tape.new) output (L.faults ledger.new)) result }
     ensures wrong { IfErr result (MeetsWrong P.tells Q.tells (P.history from.new).present (Q.history to.new).present) }
+    ensures behind { IfErr result IsBehindMount }
 {
     let mut target = found;
     let number = target.number();
@@ -226,6 +231,7 @@ fn has_all<P: Platform, Q: Platform>(
     ensures blame { (tape output ledger : ℕ) → Blames (counts (P.faults from.old) (Q.faults to.old) tape output ledger)
         (counts (P.faults from.new) (Q.faults to.new) tape output ledger) result }
     ensures wrong { IfErr result (MeetsWrong P.tells Q.tells (P.history from.new).present (Q.history to.new).present) }
+    ensures behind { IfErr result IsBehindMount }
 {
     let others = match list_target(alloc, target, to) {
         Ok(others) => others,
@@ -258,6 +264,7 @@ fn copy<P: Platform, Q: Platform, T: Tape, L: Sink>(
     ensures blame { (output : ℕ) → Blames (counts (P.faults from.old) (Q.faults to.old) (T.faults tape.old) output (L.faults ledger.old))
         (counts (P.faults from.new) (Q.faults to.new) (T.faults tape.new) output (L.faults ledger.new)) result }
     ensures wrong { IfErr result (MeetsWrong P.tells Q.tells (P.history from.new).present (Q.history to.new).present) }
+    ensures behind { IfErr result IsBehindMount }
 {
     let mut target = first;
     match copy_blocks(blocks, source, &mut target, from, to, tape) {

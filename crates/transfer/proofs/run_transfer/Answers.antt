@@ -38,7 +38,7 @@ returns-in-Ok-clause-other_words g c two = absurd (omega (arith, two))
 pub returns-in-Ok-clause-ran : goal.returns-in-Ok-clause-ran
 returns-in-Ok-clause-ran g c none =
     let ran = c.in-Ok.ensures.ran in
-    record { moved = ran.0; ending = Ok tt; said = ran.1; status_is = refl; wrong = ran.2 }
+    record { moved = ran.0; ending = Ok tt; said = ran.1; status_is = refl; wrong = ran.2; looked = ran.3 }
 
 pub returns-in-Ok-clause-from_alone : goal.returns-in-Ok-clause-from_alone
 returns-in-Ok-clause-from_alone g c = from_alone _ _ _ _ _ (λ zero. refl) (g.met.P.Platform.has_room c.run.new.from) c.in-Ok.ensures.from
@@ -62,7 +62,7 @@ returns-in-Err-clause-other_words g c two = absurd (never_two c.in-Err.halt (sym
 pub returns-in-Err-clause-ran : goal.returns-in-Err-clause-ran
 returns-in-Err-clause-ran g c none =
     let ran = c.in-Err.ensures.ran in
-    record { moved = ran.0; ending = Err c.in-Err.halt; said = ran.1; status_is = c.status.ensures; wrong = ran.2 }
+    record { moved = ran.0; ending = Err c.in-Err.halt; said = ran.1; status_is = c.status.ensures; wrong = ran.2; looked = ran.3 }
 
 pub returns-in-Err-clause-from_alone : goal.returns-in-Err-clause-from_alone
 returns-in-Err-clause-from_alone g c = from_alone _ _ _ _ _ (λ zero. absurd (never_zero c.in-Err.halt (sym c.status.ensures ∙ zero))) (g.met.P.Platform.has_room c.run.new.from) c.in-Err.ensures.from

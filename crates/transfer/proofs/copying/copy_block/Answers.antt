@@ -3,7 +3,7 @@ use Rattle.session_calls.specs.Along.{drawn_by}
 use Rattle.session_calls.proofs.AlongLaws.{along_start}
 use Rattle.session_calls.proofs.CallLaws.{along_more}
 use Rattle.transfer.proofs.BlameLaws.{blames_then}
-use Rattle.transfer.proofs.HaltLaws.{meets_from, meets_to}
+use Rattle.transfer.proofs.HaltLaws.{behind_from, behind_to, meets_from, meets_to}
 use Rattle.transfer.proofs.copying.copy_block.Goals as goal
 
 pub returns-in-Err-clause-from : goal.returns-in-Err-clause-from
@@ -38,3 +38,9 @@ returns-in-Err-write_target-clause-blame g c output ledger =
 
 pub returns-in-Err-write_target-clause-wrong : goal.returns-in-Err-write_target-clause-wrong
 returns-in-Err-write_target-clause-wrong g c = meets_to _ _ _ _ c.in-Err-write_target.halt c.in-Err-write_target.ensures.wrong
+
+pub returns-in-Err-clause-behind : goal.returns-in-Err-clause-behind
+returns-in-Err-clause-behind g c = behind_from _ _ c.in-Err.halt c.in-Err.ensures.wrong
+
+pub returns-in-Err-write_target-clause-behind : goal.returns-in-Err-write_target-clause-behind
+returns-in-Err-write_target-clause-behind g c = behind_to _ _ c.in-Err-write_target.halt c.in-Err-write_target.ensures.wrong

@@ -1,6 +1,6 @@
 use Rattle.session_calls.proofs.AlongLaws.{along_start}
 use Rattle.transfer.proofs.BlameLaws.{blames_as, blames_done, blames_then}
-use Rattle.transfer.proofs.HaltLaws.{meets_from, meets_to}
+use Rattle.transfer.proofs.HaltLaws.{behind_from, behind_to, meets_from, meets_to}
 use Rattle.transfer.proofs.matching.has_same_block.Goals as goal
 
 pub returns-in-Err-clause-from : goal.returns-in-Err-clause-from
@@ -39,3 +39,9 @@ returns-in-Err-read_target-clause-blame g c tape output ledger =
 
 pub returns-in-Err-read_target-clause-wrong : goal.returns-in-Err-read_target-clause-wrong
 returns-in-Err-read_target-clause-wrong g c = meets_to _ _ _ _ c.in-Err-read_target.halt c.in-Err-read_target.ensures.wrong
+
+pub returns-in-Err-clause-behind : goal.returns-in-Err-clause-behind
+returns-in-Err-clause-behind g c = behind_from _ _ c.in-Err.halt c.in-Err.ensures.wrong
+
+pub returns-in-Err-read_target-clause-behind : goal.returns-in-Err-read_target-clause-behind
+returns-in-Err-read_target-clause-behind g c = behind_to _ _ c.in-Err-read_target.halt c.in-Err-read_target.ensures.wrong

@@ -1,7 +1,7 @@
 use Rattle.std.proofs.Common.{length}
 use Rattle.session_calls.proofs.CarryLaws.{carries_along, carries_end, carries_then}
 use Rattle.transfer.proofs.BlameLaws.{blames_as, blames_then}
-use Rattle.transfer.proofs.HaltLaws.{meets_opening_all}
+use Rattle.transfer.proofs.HaltLaws.{behind_opening_all, meets_opening_all}
 use Rattle.transfer.proofs.running.copy.Goals as goal
 
 pub returns-in-Ok-clause-from : goal.returns-in-Ok-clause-from
@@ -33,3 +33,6 @@ returns-in-Err-clause-blame g c output = blames_as _ _ c.in-Err.halt (c.in-Err.e
 
 pub returns-in-Ok-clause-wrong : goal.returns-in-Ok-clause-wrong
 returns-in-Ok-clause-wrong g c = meets_opening_all _ _ _ _ c.commit_target.result c.commit_target.ensures.wrong
+
+pub returns-in-Ok-clause-behind : goal.returns-in-Ok-clause-behind
+returns-in-Ok-clause-behind g c = behind_opening_all c.commit_target.result c.commit_target.ensures.wrong

@@ -1,6 +1,6 @@
 use Rattle.session_calls.proofs.AlongLaws.{along_start}
 use Rattle.transfer.proofs.BlameLaws.{blames_as, blames_then}
-use Rattle.transfer.proofs.HaltLaws.{meets_opening}
+use Rattle.transfer.proofs.HaltLaws.{behind_opening, meets_opening}
 use Rattle.transfer.proofs.ToLaws.{spans_more, spans_opened}
 use Rattle.transfer.proofs.running.fill.Goals as goal
 
@@ -23,3 +23,6 @@ returns-in-Err-clause-blame g c output = blames_as _ _ c.in-Err.halt (c.in-Err.e
 
 pub returns-in-Err-clause-wrong : goal.returns-in-Err-clause-wrong
 returns-in-Err-clause-wrong g c = meets_opening _ _ _ _ c.in-Err.halt c.in-Err.ensures.stops
+
+pub returns-in-Err-clause-behind : goal.returns-in-Err-clause-behind
+returns-in-Err-clause-behind g c = behind_opening c.in-Err.halt c.in-Err.ensures.stops

@@ -3,7 +3,7 @@ use Rattle.session_calls.proofs.AlongLaws.{along_start, along_then}
 use Rattle.session_calls.proofs.CallLaws.{no_draw}
 use Rattle.session_calls.proofs.CarryLaws.{carries_end, carries_start}
 use Rattle.transfer.proofs.BlameLaws.{blames_as, blames_halt, blames_then}
-use Rattle.transfer.proofs.HaltLaws.{meets_from}
+use Rattle.transfer.proofs.HaltLaws.{behind_from, meets_from}
 use Rattle.transfer.proofs.running.fill_target.Goals as goal
 
 pub returns-then-not-is_alike-clause-from : goal.returns-then-not-is_alike-clause-from
@@ -51,3 +51,6 @@ returns-clause-from g c any = along_then g.P.Platform 0 0 _ _ _ any any any _ _ 
 pub returns-clause-blame : goal.returns-clause-blame
 returns-clause-blame g c output =
     blames_then _ _ _ _ (c.in-Ok.ensures.blame (g.Q.Platform.faults c.args.to.now) (g.T.Tape.faults c.args.tape.now) output (g.L.Sink.faults c.args.ledger.now)).quiet (c.fill_found.ensures.blame output)
+
+pub returns-in-Err-clause-behind : goal.returns-in-Err-clause-behind
+returns-in-Err-clause-behind g c = behind_from _ _ c.in-Err.halt c.in-Err.ensures.wrong

@@ -1,7 +1,7 @@
 use Rattle.session_calls.proofs.AlongLaws.{along_start, along_then}
 use Rattle.session_calls.proofs.CallLaws.{no_draw}
 use Rattle.transfer.proofs.BlameLaws.{blames_as, blames_done, blames_then}
-use Rattle.transfer.proofs.HaltLaws.{meets_to}
+use Rattle.transfer.proofs.HaltLaws.{behind_to, meets_to}
 use Rattle.transfer.proofs.running.has_all.Goals as goal
 
 pub returns-in-Err-clause-from : goal.returns-in-Err-clause-from
@@ -39,3 +39,6 @@ returns-clause-to g c any = c.list_target.ensures.along any
 
 pub returns-clause-blame : goal.returns-clause-blame
 returns-clause-blame g c tape output ledger = blames_done _ _ _ (c.in-Ok.ensures.blame (g.P.Platform.faults c.args.from.now) tape output ledger).quiet
+
+pub returns-in-Err-clause-behind : goal.returns-in-Err-clause-behind
+returns-in-Err-clause-behind g c = behind_to _ _ c.in-Err.halt c.in-Err.ensures.wrong

@@ -2,6 +2,7 @@ use Rattle.std.proofs.Common.{◌∙◌, Ok, refl, ap}
 use Rattle.transfer.specs.Counts.{counts}
 use Rattle.transfer.proofs.BlameLaws.{blames_halt, blames_then, from_quiet, from_stopped, of_platform}
 use Rattle.transfer.proofs.FromLaws.{clears_look, clears_mounted, ready_found}
+use Rattle.transfer.proofs.LookedLaws.{looked_found, looked_none, looked_stop}
 use Rattle.transfer.proofs.HaltLaws.{mount_from}
 use Rattle.transfer.proofs.ToLaws.{spans_not}
 use Rattle.transfer.proofs.running.move_device.Goals as goal
@@ -50,3 +51,14 @@ returns-in-Err-clause-blame g c output =
 
 pub returns-in-Err-clause-wrong : goal.returns-in-Err-clause-wrong
 returns-in-Err-clause-wrong g c = mount_from g.P.Platform.tells g.Q.Platform.tells (g.P.Platform.history c.mount_session.new.platform).present (g.Q.Platform.history c.args.to.now).present _ _ _ c.in-Err.stop c.in-Err.ensures.stops
+
+pub returns-in-Ok-Some-clause-looked : goal.returns-in-Ok-Some-clause-looked
+returns-in-Ok-Some-clause-looked g c =
+    looked_found g.P.Platform c.args.from.now c.mount_session.new.platform c.in-Ok-Some.source c.mount_session.result c.move_session.result (c.in-Ok-Some.is ∙ ap Ok c.in-Ok-Some.field-0-is) (λ told. g.met.P.Platform.counts_pages told c.args.from.now) c.mount_session.ensures.looks
+    c.mount_session.ensures.finds c.move_session.ensures.behind
+
+pub returns-in-Ok-None-clause-looked : goal.returns-in-Ok-None-clause-looked
+returns-in-Ok-None-clause-looked g c = looked_none g.P.Platform c.args.from.now c.mount_session.new.platform c.mount_session.result (c.in-Ok-None.is ∙ ap Ok c.in-Ok-None.field-0-is) c.mount_session.ensures.finds
+
+pub returns-in-Err-clause-looked : goal.returns-in-Err-clause-looked
+returns-in-Err-clause-looked g c = looked_stop _ _ _ c.in-Err.stop (λ told. g.met.P.Platform.counts_pages told c.args.from.now) c.in-Err.ensures.stops

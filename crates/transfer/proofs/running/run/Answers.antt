@@ -32,7 +32,7 @@ returns-in-Err-clause-blame g c =
     blames_told before mid now c.in-Err.halt c.put_last_line.result c.put_last_line.ensures.count refl (c.in-Err.ensures.blame (g.O.Sink.faults c.args.output.now)) c.put_last_line.ensures.blame
 
 pub returns-in-Ok-clause-ran : goal.returns-in-Ok-clause-ran
-returns-in-Ok-clause-ran g c = (Ok c.in-Ok.moved, c.put_moved.ensures.put, tt)
+returns-in-Ok-clause-ran g c = (Ok c.in-Ok.moved, c.put_moved.ensures.put, tt, c.in-Ok.ensures.looked)
 
 pub returns-in-Err-clause-ran : goal.returns-in-Err-clause-ran
-returns-in-Err-clause-ran g c = (Err c.in-Err.halt, (c.put_last_line.result, refl, c.put_last_line.ensures.told), c.in-Err.ensures.wrong)
+returns-in-Err-clause-ran g c = (Err c.in-Err.halt, (c.put_last_line.result, refl, c.put_last_line.ensures.told), c.in-Err.ensures.wrong, c.in-Err.ensures.looked)
