@@ -2,6 +2,7 @@
 use Rattle.std.proofs.Common.{inl, inr}
 use Rattle.std.specs.Prelude.{◌≡◌, ◌≢◌, ◌≤◌, ◌+◌, ◌*◌, ◌⊎◌, ◌↔◌, ◌^◌, ℕ, List, [], All, length, Option, None, Some, Result, Ok, Err}
 use Rattle.sdbt_base.specs.Told.{Gave}
+use Rattle.device_course.specs.States.{Outside}
 use Rattle.session_calls.specs.Handed.{Handed, IsBlamedAt}
 use Rattle.device_terms.specs.Served.{IsServedImage}
 use Rattle.sdbt_base.specs.Counts.{NoneRose}
