@@ -21,7 +21,8 @@ use Rattle.volume_lines.specs.Replies.{Reply}
 use Rattle.volume_terms.specs.Destroyed.{IfDestroyed, IsFree, IsFreeUntilTaken, IsTakenIn, LeavesNothing}
 use Rattle.volume_terms.specs.Volumes.{IsBlockOf}
 use Rattle.volumes.specs.Destroyed.{IsDestroyed, ReachesNone}
-use Rattle.volumes.specs.Program.{Exits, Handed, Serving}
+use Rattle.session_calls.specs.Handed.{Handed}
+use Rattle.volumes.specs.Program.{Exits, Serving}
 use Rattle.volumes.specs.Running.{Serves}
 use Rattle.volumes.specs.Starting.{IsStart}
 use Rattle.volumes.specs.declared.halts.Halt.{Halt}
