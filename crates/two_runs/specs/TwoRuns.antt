@@ -1,8 +1,8 @@
 -- Two runs with a loss of power between them.
-use Rattle.std.specs.Prelude.{◌≡◌, ◌≢◌, ℕ, ◌+◌, ◌<◌, ◌≤◌, List, ◌++◌, Option, Some, Contains, length, slice_get}
-use Rattle.medium_trace.specs.Page.{zero_page}
-use Rattle.platform.specs.Image.{Image, MayLeave}
+use Rattle.std.specs.Prelude.{◌≢◌, ℕ, ◌+◌, ◌≤◌, List, ◌++◌, Option, length}
+use Rattle.platform.specs.Image.{MayLeave}
 use Rattle.platform.specs.History.{History, image_at, moment}
+use Rattle.power_loss.specs.Loss.{Tore}
 use Rattle.key_graph.specs.Chains.{KeyPremises}
 use Rattle.page_store.specs.Kept.{Kept}
 use Rattle.page_store.specs.Keeping.{DrewAll, HandedOver}
@@ -16,12 +16,6 @@ use Rattle.sdbt_base.specs.Counts.{Counts}
 use Rattle.device_cli.specs.World.{World}
 use Rattle.device_cli.specs.Represents.{StandsFor}
 use Rattle.device_cli.specs.Ran.{AnswersScript, AnswersFrom}
-
--- a loss of power leaves this of an image: each page of the list that it may tear reads as zero bytes, and all else is as it was
-pub record Tore (torn : List ℕ) (image left : Image) : Type 0 where
-  pub may : MayLeave image left
-  pub zeros : (addr : ℕ) → Contains torn addr → image.synced ≤ addr → addr < length image.recorded → slice_get left.readable addr ≡ Some zero_page
-  pub others : (addr : ℕ) → ¬ (Contains torn addr) → slice_get left.readable addr ≡ slice_get image.readable addr
 
 -- what a loss of power left stands for the device after so many of these replies; the run over it answers from that
 -- device on, without a session

@@ -1,7 +1,7 @@
 //! Two runs over one platform in memory, with a loss of power between them.
 #![tactic(auto)]
 
-ghost use Rattle.std.specs.Prelude.{◌≡◌, ◌∷◌, [], Option, None, length};
+ghost use Rattle.std.specs.Prelude.{Option, None, length};
 ghost use Rattle.sdbt_base.specs.Arrays.{Device};
 ghost use Rattle.device_terms.specs.Served.{IsServedImage};
 ghost use Rattle.device_course.specs.Fitting.{LeavesFitting};
@@ -9,13 +9,14 @@ ghost use Rattle.device_cli.specs.Represents.{StandsFor};
 ghost use Rattle.platform.specs.Mem.{mem_history, image_of_now, capacity_of, reads_of, faults_of};
 ghost use Rattle.sdbt_base.specs.Counts.{counts};
 ghost use Rattle.device_cli.specs.World.{world};
-ghost use Rattle.two_runs.specs.TwoRuns.{Tore, TwoRuns, HaveCauses};
+ghost use Rattle.two_runs.specs.TwoRuns.{TwoRuns, HaveCauses};
 
 #[cfg(test)]
 mod tests;
 
 use device_cli::run_main;
-use platform::{MemPlatform, Platform};
+use platform::MemPlatform;
+use power_loss::lose_power;
 use sdbt_base::{Sink, Source, Tape};
 use std::alloc::Global;
 
@@ -53,29 +54,4 @@ pub fn run_twice<T: Tape, I: Source, O: Sink, L: Sink>(
     lose_power(platform, torn);
     let other = run_main(alloc, &[], platform, tape, second, output, ledger);
     (status, other)
-}
-
-/// The power is lost: the pages of the list that may be torn read as zero bytes from now on.
-fn lose_power(platform: &mut MemPlatform, torn: &[u64])
-    ensures left { Tore torn.now (image_of_now platform.old) (image_of_now platform.new) }
-    ensures capacity { capacity_of platform.new ≡ capacity_of platform.old }
-    ensures faults { faults_of platform.new ≡ faults_of platform.old }
-{
-    platform.power_cut(&[]);
-    for addr in torn {
-        tear_page(platform, *addr);
-    }
-}
-
-/// A page reads as zero bytes from now on, if it is one that a loss of power may tear.
-fn tear_page(platform: &mut MemPlatform, addr: u64)
-    ensures left { Tore (addr ∷ []) (image_of_now platform.old) (image_of_now platform.new) }
-    ensures capacity { capacity_of platform.new ≡ capacity_of platform.old }
-    ensures faults { faults_of platform.new ≡ faults_of platform.old }
-{
-    if platform.synced() <= addr && addr < platform.head() {
-        platform.power_cut(&[addr]);
-    } else {
-        platform.power_cut(&[]);
-    }
 }
