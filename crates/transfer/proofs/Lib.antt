@@ -5,4 +5,8 @@ pub mod StatusLaws
 pub mod ListLaws
 pub mod HaltLaws
 pub mod FormatLaws
+pub mod CopyLaws
+pub mod MovingLaws
+pub mod CommitLaws
+pub mod FillLaws
 pub mod LookedLaws

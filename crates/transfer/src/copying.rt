@@ -6,6 +6,10 @@ ghost use Rattle.session_calls.specs.Along.{Along, Drawn, drawn_by};
 ghost use Rattle.session_calls.specs.Carrying.{Carries, IsReady};
 ghost use Rattle.transfer.specs.Counts.{counts};
 ghost use Rattle.transfer.specs.Halts.{Blames};
+ghost use Rattle.sdbt_base.specs.Arrays.{Device, Session as OpenSession, committed, mounted};
+ghost use Rattle.device_course.specs.States.{IsAt};
+ghost use Rattle.transfer.specs.Copies.{copied, copy_block};
+ghost use Rattle.transfer.specs.Moving.{Commits, Copies};
 ghost use Rattle.transfer.specs.Running.{IsBehindMount, IsNumberOf, IsOfOpening, MeetsWrong, alone};
 
 use crate::halts::Halt;
@@ -33,6 +37,10 @@ pub(crate) fn copy_blocks<P: Platform, Q: Platform, T: Tape>(
     ensures blame { (output ledger : ℕ) → Blames (counts (P.faults from.old) (Q.faults to.old) (T.faults tape.old) output ledger)
         (counts (P.faults from.new) (Q.faults to.new) (T.faults tape.new) output ledger) result }
     ensures wrong { IfErr result (MeetsWrong P.tells Q.tells (P.history from.new).present (Q.history to.new).present) }
+    ensures leads { P.tells → Q.tells → (device there : Device) (array other : OpenSession) → IsAt (P.history from.old).present (Some source.old) (mounted device array)
+        → IsAt (Q.history to.old).present (Some target.old) (mounted there other)
+        → Copies (P.history from.new).present (Q.history to.new).present source.new target.new device there array
+        (copied array.contents blocks.now other) result }
     ensures behind { IfErr result IsBehindMount }
 {
     for block in blocks {
@@ -62,6 +70,10 @@ fn copy_block<P: Platform, Q: Platform, T: Tape>(
     ensures blame { (output ledger : ℕ) → Blames (counts (P.faults from.old) (Q.faults to.old) (T.faults tape.old) output ledger)
         (counts (P.faults from.new) (Q.faults to.new) (T.faults tape.new) output ledger) result }
     ensures wrong { IfErr result (MeetsWrong P.tells Q.tells (P.history from.new).present (Q.history to.new).present) }
+    ensures leads { P.tells → Q.tells → (device there : Device) (array other : OpenSession) → IsAt (P.history from.old).present (Some source.old) (mounted device array)
+        → IsAt (Q.history to.old).present (Some target.old) (mounted there other)
+        → Copies (P.history from.new).present (Q.history to.new).present source.new target.new device there array
+        (copy_block array.contents other block) result }
     ensures behind { IfErr result IsBehindMount }
 {
     let mut content = [0; BLOCK];
@@ -88,6 +100,8 @@ pub(crate) fn commit_target<Q: Platform, T: Tape, L: Sink>(
     ensures blame { (from output : ℕ) → Blames (counts from (Q.faults to.old) (T.faults tape.old) output (L.faults ledger.old))
         (counts from (Q.faults to.new) (T.faults tape.new) output (L.faults ledger.new)) result }
     ensures wrong { IfErr result IsOfOpening }
+    ensures leads { Q.tells → (there : Device) (other : OpenSession) → IsAt (Q.history to.old).present (Some target) (mounted there other)
+        → Commits (Q.history to.old) (Q.history to.new) there other result }
 {
     match commit_session(target, to, tape, ledger) {
         Ok(done) => number_of(&done.reply),

@@ -1,10 +1,14 @@
 //! Which blocks a device has mapped.
-ghost use Rattle.std.specs.Prelude.{◌≡◌, ◌<◌, ◌≤◌, All, IfErr, IfOk, List, ℕ, map};
+ghost use Rattle.std.specs.Prelude.{◌≡◌, ◌<◌, ◌≤◌, All, IfErr, IfOk, Some, List, ℕ, map};
 ghost use Rattle.platform.specs.Calls.{Looks};
 ghost use Rattle.sdbt_base.specs.Counts.{counts};
 ghost use Rattle.device_session.specs.Open.{blocks_of, root_of, IsOpen};
 ghost use Rattle.session_calls.specs.Blame.{IsBlamed};
 ghost use Rattle.session_calls.specs.Damage.{IsMounted};
+ghost use Rattle.std.specs.FinMap as maps;
+ghost use Rattle.sdbt_base.specs.Arrays.{Device, Session as OpenSession, mounted};
+ghost use Rattle.device_course.specs.States.{IsAt};
+ghost use Rattle.transfer.specs.Moving.{IsSoundStop};
 ghost use Rattle.transfer.specs.Listing.{IsListStop, IsOfEntries, stop_of_walk};
 
 use btree_walk::{Entries, WalkRefusal, entries};
@@ -25,6 +29,9 @@ pub(crate) fn list_blocks<P: Platform>(
     ensures looks { Looks P.Platform platform.old platform.new }
     ensures blame { IsBlamed (counts (P.faults platform.old) 0 0 0 0) (counts (P.faults platform.new) 0 0 0 0) result }
     ensures wrong { IfErr result (IsListStop (P.tells × IsMounted (P.history platform.old).present session.now) (P.history platform.new).present) }
+    // Of a device these are its mapped blocks, in their order.
+    ensures lists { P.tells → (there : Device) (array : OpenSession) → IsAt (P.history platform.old).present (Some session.now) (mounted there array)
+        → IfOk result (λ blocks. blocks.items ≡ maps.keys there.contents) × IfErr result IsSoundStop }
 {
     let Ok(mut buffers) = Buffers::new(alloc) else {
         return Err(DeviceStop::Memory);

@@ -5,6 +5,9 @@ ghost use Rattle.session_calls.specs.Along.{Along, Drawn};
 ghost use Rattle.session_calls.specs.Carrying.{IsReady};
 ghost use Rattle.transfer.specs.Counts.{counts};
 ghost use Rattle.transfer.specs.Halts.{Blames};
+ghost use Rattle.sdbt_base.specs.Arrays.{Device, Session as OpenSession, content_of, mounted};
+ghost use Rattle.device_course.specs.States.{IsAt};
+ghost use Rattle.transfer.specs.Moving.{Matches};
 ghost use Rattle.transfer.specs.Running.{IsBehindMount, MeetsWrong, alone};
 
 use crate::halts::Halt;
@@ -44,6 +47,10 @@ pub(crate) fn has_same<P: Platform, Q: Platform>(
     ensures blame { (tape output ledger : ℕ) → Blames (counts (P.faults from.old) (Q.faults to.old) tape output ledger)
         (counts (P.faults from.new) (Q.faults to.new) tape output ledger) result }
     ensures wrong { IfErr result (MeetsWrong P.tells Q.tells (P.history from.new).present (Q.history to.new).present) }
+    ensures leads { P.tells → Q.tells → (device there : Device) (array other : OpenSession) → IsAt (P.history from.old).present (Some source.old) (mounted device array)
+        → IsAt (Q.history to.old).present (Some target.old) (mounted there other)
+        → Matches (P.history from.new).present (Q.history to.new).present source.new target.new device there array other
+        (All (λ block. content_of array.contents block ≡ content_of other.contents block) blocks.now) result }
     ensures behind { IfErr result IsBehindMount }
 {
     for block in blocks {
@@ -73,6 +80,10 @@ fn has_same_block<P: Platform, Q: Platform>(
     ensures blame { (tape output ledger : ℕ) → Blames (counts (P.faults from.old) (Q.faults to.old) tape output ledger)
         (counts (P.faults from.new) (Q.faults to.new) tape output ledger) result }
     ensures wrong { IfErr result (MeetsWrong P.tells Q.tells (P.history from.new).present (Q.history to.new).present) }
+    ensures leads { P.tells → Q.tells → (device there : Device) (array other : OpenSession) → IsAt (P.history from.old).present (Some source.old) (mounted device array)
+        → IsAt (Q.history to.old).present (Some target.old) (mounted there other)
+        → Matches (P.history from.new).present (Q.history to.new).present source.new target.new device there array other
+        (content_of array.contents block ≡ content_of other.contents block) result }
     ensures behind { IfErr result IsBehindMount }
 {
     let mut content = [0; BLOCK];
@@ -82,7 +93,14 @@ fn has_same_block<P: Platform, Q: Platform>(
         Err(halt) => return Err(halt),
     }
     match read_target(target, to, block, &mut other) {
-        Ok(()) => Ok(content == other),
+        Ok(()) => Ok(is_same(&content, &other)),
         Err(halt) => Err(halt),
     }
+}
+
+/// Whether two contents have the same bytes.
+fn is_same(content: &[u8], other: &[u8]) -> bool
+    ensures { IsTrue result ↔ (content.now ≡ other.now) }
+{
+    content == other
 }

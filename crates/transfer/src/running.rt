@@ -4,6 +4,11 @@ ghost use Rattle.device_course.specs.States.{around};
 ghost use Rattle.device_session.specs.Open.{blocks_of};
 ghost use Rattle.session_calls.specs.Along.{Along, Drawn};
 ghost use Rattle.session_calls.specs.Carrying.{Carries, IsReady};
+ghost use Rattle.std.specs.FinMap as map;
+ghost use Rattle.sdbt_base.specs.Arrays.{Device, mounted, session_on};
+ghost use Rattle.device_course.specs.States.{IsAt};
+ghost use Rattle.transfer.specs.Copies.{blank_of};
+ghost use Rattle.transfer.specs.Moving.{Fills};
 ghost use Rattle.transfer.specs.Counts.{counts};
 ghost use Rattle.transfer.specs.Halts.{Blames, EndsAs};
 ghost use Rattle.session_calls.specs.Spans.{Spans};
@@ -264,6 +269,9 @@ fn copy<P: Platform, Q: Platform, T: Tape, L: Sink>(
     ensures blame { (output : ℕ) → Blames (counts (P.faults from.old) (Q.faults to.old) (T.faults tape.old) output (L.faults ledger.old))
         (counts (P.faults from.new) (Q.faults to.new) (T.faults tape.new) output (L.faults ledger.new)) result }
     ensures wrong { IfErr result (MeetsWrong P.tells Q.tells (P.history from.new).present (Q.history to.new).present) }
+    ensures leads { P.tells → Q.tells → (device there : Device) → IsAt (P.history from.old).present (Some source.old) (mounted device (session_on device))
+        → IsAt (Q.history to.old).present (Some first) (mounted there (session_on there)) → blocks.now ≡ map.keys device.contents → there ≡ blank_of device
+        → Fills (Q.history to.old) (Q.history to.new) device there result }
     ensures behind { IfErr result IsBehindMount }
 {
     let mut target = first;

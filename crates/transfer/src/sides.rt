@@ -5,6 +5,10 @@ ghost use Rattle.session_calls.specs.Along.{Along, Drawn, drawn_by};
 ghost use Rattle.session_calls.specs.Carrying.{IsReady};
 ghost use Rattle.transfer.specs.Counts.{counts};
 ghost use Rattle.transfer.specs.Halts.{Blames};
+ghost use Rattle.std.specs.FinMap as map;
+ghost use Rattle.sdbt_base.specs.Arrays.{Device, Session as OpenSession, mounted, written};
+ghost use Rattle.device_course.specs.States.{IsAt};
+ghost use Rattle.transfer.specs.Moving.{IsSoundHalt, ReadsHere, WritesHere};
 ghost use Rattle.transfer.specs.Running.{HaltsFrom, HaltsTo, alone};
 
 use crate::halts::Halt;
@@ -29,6 +33,9 @@ pub(crate) fn read_source<P: Platform>(
     ensures blame { (to tape output ledger : ℕ) → Blames (counts (P.faults from.old) to tape output ledger)
         (counts (P.faults from.new) to tape output ledger) result }
     ensures wrong { IfErr result (HaltsFrom P.tells (P.history from.new).present) }
+    ensures leads { P.tells → (there : Device) (array : OpenSession) → IsAt (P.history from.old).present (Some source.old) (mounted there array)
+        → ReadsHere (P.history from.new).present source.new there array block out.new result }
+    ensures size { length out.new ≡ 4096 }
 {
     match read_block(source, from, block, out) {
         Ok(()) => Ok(()),
@@ -50,6 +57,8 @@ pub(crate) fn read_target<Q: Platform>(
     ensures blame { (from tape output ledger : ℕ) → Blames (counts from (Q.faults to.old) tape output ledger)
         (counts from (Q.faults to.new) tape output ledger) result }
     ensures wrong { IfErr result (HaltsTo Q.tells (Q.history to.new).present) }
+    ensures leads { Q.tells → (there : Device) (array : OpenSession) → IsAt (Q.history to.old).present (Some target.old) (mounted there array)
+        → ReadsHere (Q.history to.new).present target.new there array block out.new result }
 {
     match read_block(target, to, block, out) {
         Ok(()) => Ok(()),
@@ -72,6 +81,8 @@ pub(crate) fn write_target<Q: Platform, T: Tape>(
     ensures blame { (from output ledger : ℕ) → Blames (counts from (Q.faults to.old) (T.faults tape.old) output ledger)
         (counts from (Q.faults to.new) (T.faults tape.new) output ledger) result }
     ensures wrong { IfErr result (HaltsTo Q.tells (Q.history to.new).present) }
+    ensures leads { Q.tells → (there : Device) (array : OpenSession) → IsAt (Q.history to.old).present (Some target.old) (mounted there array)
+        → WritesHere (Q.history to.new).present target.new there (written array block content.now) result }
 {
     if to.head() == to.capacity() {
         return Err(Halt::Full);
@@ -94,6 +105,8 @@ pub(crate) fn list_source<P: Platform>(
     ensures blame { (to tape output ledger : ℕ) → Blames (counts (P.faults from.old) to tape output ledger)
         (counts (P.faults from.new) to tape output ledger) result }
     ensures wrong { IfErr result (HaltsFrom P.tells (P.history from.new).present) }
+    ensures lists { P.tells → (there : Device) (array : OpenSession) → IsAt (P.history from.old).present (Some source.now) (mounted there array)
+        → IfOk result (λ blocks. blocks.items ≡ map.keys there.contents) × IfErr result IsSoundHalt }
 {
     match list_blocks(alloc, source, from) {
         Ok(blocks) => Ok(blocks),
@@ -112,6 +125,8 @@ pub(crate) fn list_target<Q: Platform>(
     ensures blame { (from tape output ledger : ℕ) → Blames (counts from (Q.faults to.old) tape output ledger)
         (counts from (Q.faults to.new) tape output ledger) result }
     ensures wrong { IfErr result (HaltsTo Q.tells (Q.history to.new).present) }
+    ensures lists { Q.tells → (there : Device) (array : OpenSession) → IsAt (Q.history to.old).present (Some target.now) (mounted there array)
+        → IfOk result (λ blocks. blocks.items ≡ map.keys there.contents) × IfErr result IsSoundHalt }
 {
     match list_blocks(alloc, target, to) {
         Ok(blocks) => Ok(blocks),

@@ -2,6 +2,7 @@ use Rattle.std.proofs.Common.{refl}
 use Rattle.transfer.specs.Counts.{counts}
 use Rattle.session_calls.proofs.CarryLaws.{carries_committed, carries_end, carries_going, carries_stopped}
 use Rattle.transfer.proofs.BlameLaws.{of_ledger, to_quiet, to_stopped}
+use Rattle.transfer.proofs.CommitLaws.{commit_done, commit_stopped}
 use Rattle.transfer.proofs.HaltLaws.{commit_to, number_blamed, number_opening}
 use Rattle.transfer.proofs.copying.commit_target.Goals as goal
 
@@ -38,3 +39,11 @@ returns-in-Ok-clause-wrong g c = number_opening c.in-Ok.done.reply c.number_of.r
 
 pub returns-in-Err-clause-wrong : goal.returns-in-Err-clause-wrong
 returns-in-Err-clause-wrong g c = commit_to g.Q.Platform g.T.Tape _ _ _ _ c.in-Err.stop c.in-Err.ensures.answers.left
+
+pub returns-in-Ok-clause-leads : goal.returns-in-Ok-clause-leads
+returns-in-Ok-clause-leads g c told there other at =
+    commit_done (g.Q.Platform.history c.args.to.now) (g.Q.Platform.history c.commit_session.new.platform) c.args.target c.in-Ok.done.session there other c.in-Ok.done.reply c.number_of.result at (c.in-Ok.ensures.leads told there other at) c.number_of.ensures
+
+pub returns-in-Err-clause-leads : goal.returns-in-Err-clause-leads
+returns-in-Err-clause-leads g c told there other at =
+    commit_stopped (g.Q.Platform.history c.args.to.now) (g.Q.Platform.history c.commit_session.new.platform) c.args.target there other c.in-Err.stop at (c.in-Err.ensures.goes.keeps.serves told at.served) (c.in-Err.ensures.leads told there other at)

@@ -3,6 +3,7 @@ use Rattle.session_calls.specs.Along.{drawn_by}
 use Rattle.session_calls.proofs.AlongLaws.{along_start}
 use Rattle.session_calls.proofs.CallLaws.{along_more}
 use Rattle.transfer.proofs.BlameLaws.{blames_then}
+use Rattle.transfer.proofs.MovingLaws.{copied_block}
 use Rattle.transfer.proofs.HaltLaws.{behind_from, behind_to, meets_from, meets_to}
 use Rattle.transfer.proofs.copying.copy_block.Goals as goal
 
@@ -38,6 +39,18 @@ returns-in-Err-write_target-clause-blame g c output ledger =
 
 pub returns-in-Err-write_target-clause-wrong : goal.returns-in-Err-write_target-clause-wrong
 returns-in-Err-write_target-clause-wrong g c = meets_to _ _ _ _ c.in-Err-write_target.halt c.in-Err-write_target.ensures.wrong
+
+pub returns-in-Err-clause-leads : goal.returns-in-Err-clause-leads
+returns-in-Err-clause-leads g c from_told to_told device there array other at at_other = c.in-Err.ensures.leads from_told device array at
+
+pub returns-in-Err-write_target-clause-leads : goal.returns-in-Err-write_target-clause-leads
+returns-in-Err-write_target-clause-leads g c from_told to_told device there array other at at_other = c.in-Err-write_target.ensures.leads to_told there other at_other
+
+pub returns-in-Ok-write_target-clause-leads : goal.returns-in-Ok-write_target-clause-leads
+returns-in-Ok-write_target-clause-leads g c from_told to_told device there array other at at_other =
+    let one = c.in-Ok.ensures.leads from_told device array at in
+    let two = c.in-Ok-write_target.ensures.leads to_told there other at_other in
+    (one.0, copied_block (g.Q.Platform.history c.write_target.new.to).present c.write_target.new.target there array other c.args.block c.read_source.new.out c.in-Ok.ensures.size one.1 two)
 
 pub returns-in-Err-clause-behind : goal.returns-in-Err-clause-behind
 returns-in-Err-clause-behind g c = behind_from _ _ c.in-Err.halt c.in-Err.ensures.wrong

@@ -5,6 +5,12 @@ use Rattle.session_calls.specs.Along.{Along, drawn_by}
 use Rattle.session_calls.proofs.AlongLaws.{along_start, along_then}
 use Rattle.session_calls.proofs.CallLaws.{along_more, no_draw}
 use Rattle.transfer.specs.Counts.{Counts}
+use Rattle.std.proofs.Common.{◌∙◌, List, Some, get_or, sym, take}
+use Rattle.std.proofs.lemmas.List.{take_all, take_more}
+use Rattle.sdbt_base.specs.Arrays.{Device, Session as OpenSession, mounted}
+use Rattle.device_course.specs.States.{IsAt}
+use Rattle.transfer.specs.Copies.{copied, copy_block}
+use Rattle.transfer.proofs.CopyLaws.{copied-more}
 use Rattle.transfer.proofs.BlameLaws.{blames_done, blames_then, same_counts}
 use Rattle.transfer.proofs.copying.copy_blocks.Goals as goal
 
@@ -14,6 +20,7 @@ loop-block-init g c = record {
   target = along_start g.Q.Platform c.args.to.now (drawn_by g.T.Tape c.args.tape.now) c.args.target.now c.requires.target.is_open;
   from_quiet = refl;
   to_quiet = refl;
+  leads = λ from_told to_told device there array other at at_other. (at, at_other);
   tape_quiet = refl;
 }
 
@@ -45,6 +52,15 @@ loop-block-preserved g c =
       target = along_then g.Q.Platform c.loop-block.block-index 1 _ _ _ (drawn_by T c.args.tape.now) (drawn_by T c.loop-block.tape) (drawn_by T c.copy_block.new.tape) _ _ _ before.target c.copy_block.ensures.to;
       from_quiet = ap (λ (n : Counts). n.from) same ∙ before.from_quiet;
       to_quiet = ap (λ (n : Counts). n.to) same ∙ before.to_quiet;
+      leads = λ from_told to_told device there array other at at_other.
+          let so_far = before.leads from_told to_told device there array other at at_other in
+          let blocks : List ℕ = c.args.blocks.now in
+          let index : ℕ = c.loop-block.block-index in
+          let block : ℕ = get_or blocks index 0 in
+          let mid : OpenSession = copied array.contents (take index blocks) other in
+          let led = c.in-Ok.ensures.leads from_told to_told device there array mid so_far.0 so_far.1 in
+          let more : copied array.contents (take (index + 1) blocks) other ≡ copy_block array.contents mid block = ap (λ (bs : List ℕ). copied array.contents bs other) (take_more blocks index 0 c.loop-block-test.true) ∙ copied-more array.contents (take index blocks) block other in
+          (led.0, subst (λ (o : OpenSession). IsAt (g.Q.Platform.history c.copy_block.new.to).present (Some c.copy_block.new.target) (mounted there o)) (sym more) led.1);
       tape_quiet = ap (λ (n : Counts). n.tape) same ∙ before.tape_quiet;
     }
 
@@ -72,3 +88,14 @@ returns-clause-to g c =
 
 pub returns-clause-blame : goal.returns-clause-blame
 returns-clause-blame g c output ledger = blames_done _ _ _ (same_counts _ _ _ _ _ _ _ _ _ _ c.loop-block.invariant.from_quiet c.loop-block.invariant.to_quiet c.loop-block.invariant.tape_quiet refl refl)
+
+pub returns-in-Err-clause-leads : goal.returns-in-Err-clause-leads
+returns-in-Err-clause-leads g c from_told to_told device there array other at at_other =
+    let so_far = c.loop-block.invariant.leads from_told to_told device there array other at at_other in
+    c.in-Err.ensures.leads from_told to_told device there array (copied array.contents (take c.loop-block.block-index c.args.blocks.now) other) so_far.0 so_far.1
+
+pub returns-clause-leads : goal.returns-clause-leads
+returns-clause-leads g c from_told to_told device there array other at at_other =
+    let so_far = c.loop-block.invariant.leads from_told to_told device there array other at at_other in
+    let blocks : List ℕ = c.args.blocks.now in
+    (so_far.0, subst (λ (bs : List ℕ). IsAt (g.Q.Platform.history c.loop-block.to).present (Some c.loop-block.target) (mounted there (copied array.contents bs other))) (take_all c.loop-block.block-index blocks (omega arith)) so_far.1)

@@ -3,11 +3,17 @@ use Rattle.std.specs.Prelude.{All}
 use Rattle.node_codec.specs.declared.body.Entry.{Entry}
 use Rattle.root_codec.specs.RootRecord.{FitsRoot}
 use Rattle.root_codec.specs.declared.root.Root.{Root}
-use Rattle.btree_walk.specs.Nodes.{FirstWrongOf}
+use Rattle.btree_walk.specs.Nodes.{FirstWrongOf, NodesOf}
 use Rattle.btree_walk.specs.declared.refusals.WalkRefusal.{WalkRefusal}
 use Rattle.session_calls.specs.Damage.{IsMounted}
 use Rattle.session_calls.specs.declared.stops.DeviceStop.{DeviceStop}
 use Rattle.transfer.specs.Listing.{IsListStop}
+use Rattle.std.proofs.Common.{◌∙◌, ℕ, map}
+use Rattle.std.specs.FinMap as maps
+use Rattle.std.specs.declared.vec.Vec.{Vec}
+use Rattle.transfer.specs.Moving.{IsSoundStop}
+use Rattle.transfer.proofs.CopyLaws.{listed_keys}
+use Rattle.transfer.proofs.MovingLaws.{lists_done, walk_sound}
 use Rattle.transfer.proofs.ListLaws.{entries_stopped, entries_within, list_stopped}
 use Rattle.transfer.proofs.listing.list_blocks.Goals as goal
 
@@ -28,3 +34,26 @@ returns-clause-wrong g c =
     subst (λ (s : DeviceStop). IsListStop Known (P.history c.entries.new.platform).present s) (sym c.stop_of.ensures)
     (list_stopped Known (P.history c.args.platform.now).present (P.history c.entries.new.platform).present c.args.session.now c.in-Err.refusal (λ known. c.in-Err.ensures.looks.image known.0) c.requires.open.served.in_range (λ known. known.1)
     (λ known addr is. subst (λ (r : Root). FirstWrongOf (P.history c.args.platform.now).present.readable r addr) c.root-root.ensures (c.in-Err.ensures.wrong known.0 addr (ap (λ (r : WalkRefusal). Err r) is))))
+
+pub returns-in-Ok-entries-clause-lists : goal.returns-in-Ok-entries-clause-lists
+returns-in-Ok-entries-clause-lists g c told there array at =
+    let P = g.P.Platform in
+    let image = (P.history c.args.platform.now).present in
+    let root : Root = c.root-root.result.now in
+    let same : root ≡ c.args.session.now.root = c.root-root.ensures in
+    let holds = at.there.session.0 in
+    let lists = c.in-Ok-entries.ensures.listed told in
+    let of : NodesOf image.readable c.args.session.now.root lists.nodes = subst (λ (r : Root). NodesOf image.readable r lists.nodes) same lists.are in
+    lists_done (λ (v : Vec ℕ _). v.items) c.lows_of.result c.in-Ok-entries.list root.blocks root.addr (maps.keys there.contents) c.lows_of.ensures.blocks c.lows_of.ensures.stops
+    (subst (λ (l : List Entry). All (λ e. e.low < root.blocks) l) (sym lists.is) (entries_within image.readable root lists.nodes (subst FitsRoot (sym same) c.requires.open.served.in_range) lists.are))
+    (ap (λ (l : List Entry). map (λ (e : Entry). e.low) l) lists.is ∙ listed_keys image there c.args.session.now.root holds.committed lists.nodes holds.stands of)
+
+pub returns-clause-lists : goal.returns-clause-lists
+returns-clause-lists g c told there array at =
+    let P = g.P.Platform in
+    let image = (P.history c.args.platform.now).present in
+    let holds = at.there.session.0 in (
+      tt,
+      subst IsSoundStop (sym c.stop_of.ensures) (walk_sound image.readable c.args.session.now.root holds.committed c.in-Err.refusal holds.stands.in_range holds.stands.tree
+          (λ addr is. subst (λ (r : Root). FirstWrongOf image.readable r addr) c.root-root.ensures (c.in-Err.ensures.wrong told addr (ap (λ (r : WalkRefusal). Err r) is)))),
+    )

@@ -1,9 +1,15 @@
-use Rattle.std.proofs.Common.{◌<◌, ◌∙◌, ℕ, refl, ap, arith}
+use Rattle.std.proofs.Common.{◌≡◌, ◌<◌, ◌∙◌, ℕ, refl, ap, arith}
 use Rattle.std.proofs.lemmas.List.Elements.{All-get_or}
 use Rattle.device_session.specs.Open.{blocks_of}
 use Rattle.session_calls.proofs.AlongLaws.{along_start, along_then}
 use Rattle.session_calls.proofs.CallLaws.{no_draw}
 use Rattle.transfer.specs.Counts.{Counts}
+use Rattle.std.proofs.Common.{List, subst, sym}
+use Rattle.std.specs.Prelude.{All}
+use Rattle.std.proofs.lemmas.List.{take_all}
+use Rattle.std.proofs.lemmas.List.Elements.{All-nil}
+use Rattle.sdbt_base.specs.Arrays.{content_of}
+use Rattle.transfer.proofs.MovingLaws.{same_at, same_more}
 use Rattle.transfer.proofs.BlameLaws.{blames_done, blames_then, same_counts}
 use Rattle.transfer.proofs.matching.has_same.Goals as goal
 
@@ -12,6 +18,7 @@ loop-block-init g c = record {
   source = λ any. along_start g.P.Platform c.args.from.now any c.args.source.now c.requires.source.is_open;
   target = λ any. along_start g.Q.Platform c.args.to.now any c.args.target.now c.requires.target.is_open;
   from_quiet = refl;
+  leads = λ from_told to_told device there array other at at_other. (at, at_other, All-nil (λ (block : ℕ). content_of array.contents block ≡ content_of other.contents block));
   to_quiet = refl;
 }
 
@@ -41,6 +48,10 @@ loop-block-preserved g c =
       source = λ any. along_then g.P.Platform 0 0 _ _ _ any any any _ _ _ (before.source any) (c.has_same_block.ensures.from any);
       target = λ any. along_then g.Q.Platform 0 0 _ _ _ any any any _ _ _ (before.target any) (c.has_same_block.ensures.to any);
       from_quiet = ap (λ (n : Counts). n.from) same ∙ before.from_quiet;
+      leads = λ from_told to_told device there array other at at_other.
+          let so_far = before.leads from_told to_told device there array other at at_other in
+          let led = c.in-Ok-true.ensures.leads from_told to_told device there array other so_far.0 so_far.1 in
+          (led.0, led.1, same_more array other c.args.blocks.now c.loop-block.block-index c.loop-block-test.true so_far.2 (led.2.0 c.in-Ok-true.field-0-test));
       to_quiet = ap (λ (n : Counts). n.to) same ∙ before.to_quiet;
     }
 
@@ -74,3 +85,19 @@ returns-clause-to g c any = c.loop-block.invariant.target any
 
 pub returns-clause-blame : goal.returns-clause-blame
 returns-clause-blame g c tape output ledger = blames_done _ _ _ (same_counts _ _ _ _ _ _ _ _ _ _ c.loop-block.invariant.from_quiet c.loop-block.invariant.to_quiet refl refl refl)
+
+pub returns-in-Ok-false-clause-leads : goal.returns-in-Ok-false-clause-leads
+returns-in-Ok-false-clause-leads g c from_told to_told device there array other at at_other =
+    let so_far = c.loop-block.invariant.leads from_told to_told device there array other at at_other in
+    let led = c.in-Ok-false.ensures.leads from_told to_told device there array other so_far.0 so_far.1 in
+    (led.0, led.1, (λ never. absurd cc, λ all. sym c.in-Ok-false.field-0-test ∙ led.2.1 (same_at array other c.args.blocks.now c.loop-block.block-index c.loop-block-test.true all)))
+
+pub returns-in-Err-clause-leads : goal.returns-in-Err-clause-leads
+returns-in-Err-clause-leads g c from_told to_told device there array other at at_other =
+    let so_far = c.loop-block.invariant.leads from_told to_told device there array other at at_other in
+    c.in-Err.ensures.leads from_told to_told device there array other so_far.0 so_far.1
+
+pub returns-clause-leads : goal.returns-clause-leads
+returns-clause-leads g c from_told to_told device there array other at at_other =
+    let so_far = c.loop-block.invariant.leads from_told to_told device there array other at at_other in
+    (so_far.0, so_far.1, (λ yes. subst (λ (bs : List ℕ). All (λ block. content_of array.contents block ≡ content_of other.contents block) bs) (take_all c.loop-block.block-index c.args.blocks.now (omega arith)) so_far.2, λ all. refl))

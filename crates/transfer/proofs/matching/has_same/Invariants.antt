@@ -1,4 +1,7 @@
-use Rattle.std.proofs.Common.{◌≡◌}
+use Rattle.std.proofs.Common.{◌≡◌, Some, take}
+use Rattle.std.specs.Prelude.{All}
+use Rattle.sdbt_base.specs.Arrays.{Device, Session as OpenSession, content_of, mounted}
+use Rattle.device_course.specs.States.{IsAt}
 use Rattle.session_calls.specs.Along.{Along, Drawn}
 use Rattle.transfer.proofs.matching.has_same.Given as goal
 
@@ -7,5 +10,10 @@ invariant-loop-block g l = record {
   source : (any : Drawn) → Along g.P.Platform 0 l.fn.from l.from any any l.fn.source l.source;
   target : (any : Drawn) → Along g.Q.Platform 0 l.fn.to l.to any any l.fn.target l.target;
   from_quiet : g.P.Platform.faults l.from ≡ g.P.Platform.faults l.fn.from;
+  leads : g.P.Platform.tells → g.Q.Platform.tells → (device there : Device) (array other : OpenSession) → IsAt (g.P.Platform.history l.fn.from).present (Some l.fn.source) (mounted device array)
+      → IsAt (g.Q.Platform.history l.fn.to).present (Some l.fn.target) (mounted there other)
+      → IsAt (g.P.Platform.history l.from).present (Some l.source) (mounted device array)
+      × IsAt (g.Q.Platform.history l.to).present (Some l.target) (mounted there other)
+      × All (λ block. content_of array.contents block ≡ content_of other.contents block) (take l.block-index l.blocks);
   to_quiet : g.Q.Platform.faults l.to ≡ g.Q.Platform.faults l.fn.to;
 }

@@ -1,3 +1,4 @@
+use Rattle.std.proofs.Common.{◌∙◌, sym}
 use Rattle.session_calls.proofs.AlongLaws.{along_start}
 use Rattle.transfer.proofs.BlameLaws.{blames_as, blames_done, blames_then}
 use Rattle.transfer.proofs.HaltLaws.{behind_from, behind_to, meets_from, meets_to}
@@ -39,6 +40,18 @@ returns-in-Err-read_target-clause-blame g c tape output ledger =
 
 pub returns-in-Err-read_target-clause-wrong : goal.returns-in-Err-read_target-clause-wrong
 returns-in-Err-read_target-clause-wrong g c = meets_to _ _ _ _ c.in-Err-read_target.halt c.in-Err-read_target.ensures.wrong
+
+pub returns-in-Err-clause-leads : goal.returns-in-Err-clause-leads
+returns-in-Err-clause-leads g c from_told to_told device there array other at at_other = c.in-Err.ensures.leads from_told device array at
+
+pub returns-in-Err-read_target-clause-leads : goal.returns-in-Err-read_target-clause-leads
+returns-in-Err-read_target-clause-leads g c from_told to_told device there array other at at_other = c.in-Err-read_target.ensures.leads to_told there other at_other
+
+pub returns-in-Ok-read_target-clause-leads : goal.returns-in-Ok-read_target-clause-leads
+returns-in-Ok-read_target-clause-leads g c from_told to_told device there array other at at_other =
+    let one = c.in-Ok.ensures.leads from_told device array at in
+    let two = c.in-Ok-read_target.ensures.leads to_told there other at_other in
+    (one.0, two.0, (λ yes. sym one.1 ∙ (c.is_same.ensures.0 yes ∙ two.1), λ same. c.is_same.ensures.1 (one.1 ∙ (same ∙ sym two.1))))
 
 pub returns-in-Err-clause-behind : goal.returns-in-Err-clause-behind
 returns-in-Err-clause-behind g c = behind_from _ _ c.in-Err.halt c.in-Err.ensures.wrong

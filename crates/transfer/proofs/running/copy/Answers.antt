@@ -1,5 +1,12 @@
 use Rattle.std.proofs.Common.{length}
 use Rattle.session_calls.proofs.CarryLaws.{carries_along, carries_end, carries_then}
+use Rattle.std.proofs.Common.{ℕ, List, Some, subst}
+use Rattle.std.specs.FinMap as maps
+use Rattle.sdbt_base.specs.Arrays.{Device, Session as OpenSession, mounted, session_on}
+use Rattle.device_course.specs.States.{IsAt}
+use Rattle.device_course.proofs.MadeLaws.{made_kept}
+use Rattle.transfer.specs.Copies.{copied}
+use Rattle.transfer.proofs.FillLaws.{fills_committed, fills_halted, fills_since}
 use Rattle.transfer.proofs.BlameLaws.{blames_as, blames_then}
 use Rattle.transfer.proofs.HaltLaws.{behind_opening_all, meets_opening_all}
 use Rattle.transfer.proofs.running.copy.Goals as goal
@@ -33,6 +40,21 @@ returns-in-Err-clause-blame g c output = blames_as _ _ c.in-Err.halt (c.in-Err.e
 
 pub returns-in-Ok-clause-wrong : goal.returns-in-Ok-clause-wrong
 returns-in-Ok-clause-wrong g c = meets_opening_all _ _ _ _ c.commit_target.result c.commit_target.ensures.wrong
+
+pub returns-in-Err-clause-leads : goal.returns-in-Err-clause-leads
+returns-in-Err-clause-leads g c from_told to_told device there at at_there keys blank =
+    fills_halted (g.Q.Platform.history c.args.to.now) (g.Q.Platform.history c.copy_blocks.new.to) device there c.in-Err.halt (c.in-Err.ensures.leads from_told to_told device there (session_on device) (session_on there) at at_there)
+    (made_kept (g.Q.Platform.history c.args.to.now) (g.Q.Platform.history c.copy_blocks.new.to) there at_there.there.device at_there.served (c.copy_blocks.ensures.to.cell to_told))
+
+pub returns-in-Ok-clause-leads : goal.returns-in-Ok-clause-leads
+returns-in-Ok-clause-leads g c from_told to_told device there at at_there keys blank =
+    let led = c.in-Ok.ensures.leads from_told to_told device there (session_on device) (session_on there) at at_there in
+    let array : List ℕ → OpenSession = λ bs. copied device.contents bs (session_on there) in
+    let here = subst (λ (bs : List ℕ). IsAt (g.Q.Platform.history c.copy_blocks.new.to).present (Some c.copy_blocks.new.target) (mounted there (array bs))) keys led.1 in
+    fills_since (g.Q.Platform.history c.args.to.now) (g.Q.Platform.history c.copy_blocks.new.to) (g.Q.Platform.history c.commit_target.new.to) device there c.commit_target.result
+    (made_kept (g.Q.Platform.history c.args.to.now) (g.Q.Platform.history c.copy_blocks.new.to) there at_there.there.device at_there.served (c.copy_blocks.ensures.to.cell to_told))
+    (fills_committed (g.Q.Platform.history c.copy_blocks.new.to) (g.Q.Platform.history c.commit_target.new.to) device there c.commit_target.result blank
+    (c.commit_target.ensures.leads to_told there (array (maps.keys device.contents)) here))
 
 pub returns-in-Ok-clause-behind : goal.returns-in-Ok-clause-behind
 returns-in-Ok-clause-behind g c = behind_opening_all c.commit_target.result c.commit_target.ensures.wrong

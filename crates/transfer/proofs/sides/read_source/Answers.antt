@@ -3,6 +3,7 @@ use Rattle.session_calls.specs.Damage.{IsMounted}
 use Rattle.session_calls.proofs.CallLaws.{no_draw}
 use Rattle.transfer.specs.Counts.{counts}
 use Rattle.transfer.proofs.BlameLaws.{blames_done, from_quiet, from_stopped, of_platform}
+use Rattle.transfer.proofs.MovingLaws.{read_sound}
 use Rattle.transfer.proofs.HaltLaws.{read_from}
 use Rattle.transfer.proofs.sides.read_source.Goals as goal
 
@@ -31,3 +32,6 @@ pub returns-in-Err-clause-wrong : goal.returns-in-Err-clause-wrong
 returns-in-Err-clause-wrong g c =
     let P = g.P.Platform in
     read_from P.tells (IsMounted (P.history c.args.from.now).present c.args.source.now) c.requires.ready.mounted (P.history c.args.from.now).present (P.history c.read_block.new.platform).present c.args.source.now c.args.block c.read_block.new.out c.in-Err.stop c.in-Err.ensures.any
+
+pub returns-in-Err-clause-leads : goal.returns-in-Err-clause-leads
+returns-in-Err-clause-leads g c told there array at = read_sound (g.P.Platform.history c.read_block.new.platform).present c.read_block.new.session there array c.args.block c.read_block.new.out c.in-Err.stop (c.in-Err.ensures.leads told there array at)

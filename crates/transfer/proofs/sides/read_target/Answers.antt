@@ -3,6 +3,7 @@ use Rattle.session_calls.specs.Damage.{IsMounted}
 use Rattle.session_calls.proofs.CallLaws.{no_draw}
 use Rattle.transfer.specs.Counts.{counts}
 use Rattle.transfer.proofs.BlameLaws.{blames_done, to_quiet, to_stopped, of_platform}
+use Rattle.transfer.proofs.MovingLaws.{read_sound}
 use Rattle.transfer.proofs.HaltLaws.{read_to}
 use Rattle.transfer.proofs.sides.read_target.Goals as goal
 
@@ -31,3 +32,6 @@ pub returns-in-Err-clause-wrong : goal.returns-in-Err-clause-wrong
 returns-in-Err-clause-wrong g c =
     let P = g.Q.Platform in
     read_to P.tells (IsMounted (P.history c.args.to.now).present c.args.target.now) c.requires.ready.mounted (P.history c.args.to.now).present (P.history c.read_block.new.platform).present c.args.target.now c.args.block c.read_block.new.out c.in-Err.stop c.in-Err.ensures.any
+
+pub returns-in-Err-clause-leads : goal.returns-in-Err-clause-leads
+returns-in-Err-clause-leads g c told there array at = read_sound (g.Q.Platform.history c.read_block.new.platform).present c.read_block.new.session there array c.args.block c.read_block.new.out c.in-Err.stop (c.in-Err.ensures.leads told there array at)

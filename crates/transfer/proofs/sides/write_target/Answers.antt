@@ -5,6 +5,7 @@ use Rattle.session_calls.proofs.AlongLaws.{along_start}
 use Rattle.session_calls.proofs.CallLaws.{along_more}
 use Rattle.transfer.specs.Counts.{counts}
 use Rattle.transfer.proofs.BlameLaws.{blames_done, blames_halt, of_tape, to_quiet, to_stopped}
+use Rattle.transfer.proofs.MovingLaws.{write_sound}
 use Rattle.transfer.proofs.HaltLaws.{write_to}
 use Rattle.transfer.proofs.sides.write_target.Goals as goal
 
@@ -42,3 +43,6 @@ returns-then-head-capacity-clause-along g c =
 
 pub returns-then-head-capacity-clause-blame : goal.returns-then-head-capacity-clause-blame
 returns-then-head-capacity-clause-blame g c from output ledger = blames_halt _ _ _ refl refl
+
+pub returns-in-Err-clause-leads : goal.returns-in-Err-clause-leads
+returns-in-Err-clause-leads g c told there array at = write_sound (g.Q.Platform.history c.write_block.new.platform).present c.write_block.new.session there array c.args.block c.args.content.now c.in-Err.stop (c.in-Err.ensures.leads told there array at)
