@@ -1,12 +1,13 @@
 //! A row, line by line.
 use crate::keys::Keys;
 use crate::serving::{Ran, Server};
-use crate::showing::{show, write_end};
+use crate::showing::{show, write_end, write_other};
 use crate::state::Scene;
 use key_tape::SeedTape;
 use row_lines::{Client, LineFault, end, number, word, write_told};
 use sdbt_base::{Line, Memory};
 use std::alloc::Global;
+use std::mem::swap;
 use std::str::SplitWhitespace;
 
 /// A row that is being followed: the text that is written of it, the objects of its runs, and the run whose input is being read.
@@ -15,6 +16,7 @@ pub(crate) struct Row {
     alloc: Global,
     text: Line,
     scene: Scene,
+    other: Scene,
     names: Vec<(String, String)>,
     run: Option<Run>,
     step: usize,
@@ -43,6 +45,7 @@ impl Row {
             alloc,
             text: Line::new(alloc),
             scene: Scene::new(alloc),
+            other: Scene::new(alloc),
             names: Vec::new(alloc),
             run: None,
             step,
@@ -160,6 +163,11 @@ impl Row {
             self.begin_run(Server::Volumes, words)
         } else if first == "nbd" {
             self.begin_client(words)
+        } else if first == "transfer" {
+            self.transfer(words)
+        } else if first == "other" {
+            swap(&mut self.scene, &mut self.other);
+            end(words)
         } else if first == "medium" {
             self.scene.begin(words)
         } else if first == "fail" {
@@ -217,6 +225,19 @@ impl Row {
             words: all,
             input: Given::Script(script),
         });
+        Ok(())
+    }
+
+    /// `transfer WORD..`: the device on the medium is moved to the other one.
+    fn transfer(&mut self, words: &mut SplitWhitespace<'_>) -> Result<(), LineFault> {
+        let mut all = Vec::new(self.alloc);
+        for word in words {
+            all.push(String::from_str(self.alloc, self.meant_by(word))?)?;
+        }
+        let ran = self.scene.transfer(&mut self.other, &all)?;
+        self.write_output(&ran)?;
+        write_end(self.alloc, &self.scene, &ran, &mut self.text)?;
+        write_other(self.alloc, &self.other, &mut self.text)?;
         Ok(())
     }
 

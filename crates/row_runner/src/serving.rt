@@ -5,6 +5,7 @@ use nbd_core::run_nbd;
 use platform::{Failure, MemPlatform, Platform};
 use sdbt_base::{Line, MemSink, MemSource, Memory, Tape};
 use std::alloc::Global;
+use transfer::run_transfer;
 use volumes::run_volumes;
 
 /// Which top call serves a run.
@@ -98,6 +99,54 @@ fn status_of<T: Tape>(
         Server::Nbd => run_nbd(alloc, words, platform, tape, input, output, ledger),
         Server::Volumes => run_volumes(alloc, words, platform, tape, input, output, ledger),
     }
+}
+
+/// Hands words and two media to the top call of transfers: what fails of the first one are its calls alone.
+pub(crate) fn serve_transfer(
+    alloc: Global,
+    from: &mut MemPlatform,
+    to: &mut MemPlatform,
+    keys: &mut Keys,
+    calls: &[Failure],
+    faults: &Faults,
+    words: &[String],
+) -> Result<Ran, Memory> {
+    from.set_failures(calls)?;
+    to.set_failures(&faults.calls)?;
+    let mut output = MemSink::new(alloc, &faults.puts)?;
+    let mut ledger = MemSink::new(alloc, &faults.entries)?;
+    let status = match keys {
+        Keys::Rising => {
+            let mut tape = rising(alloc, to.head(), &faults.draws)?;
+            transfer_status(alloc, words, from, to, &mut tape, &mut output, &mut ledger)
+        }
+        Keys::Seeded(tape) => {
+            transfer_status(alloc, words, from, to, tape, &mut output, &mut ledger)
+        }
+    };
+    from.set_failures(&[])?;
+    to.set_failures(&[])?;
+    let sinks = output.starved().saturating_add(ledger.starved());
+    let platforms = from.starved().saturating_add(to.starved());
+    Ok(Ran {
+        status,
+        output: copied(alloc, output.bytes())?,
+        entries: copied(alloc, ledger.bytes())?,
+        starved: platforms.saturating_add(sinks),
+    })
+}
+
+/// Hands all to the top call of transfers. Its contract is not said again here.
+fn transfer_status<T: Tape>(
+    alloc: Global,
+    words: &[String],
+    from: &mut MemPlatform,
+    to: &mut MemPlatform,
+    tape: &mut T,
+    output: &mut MemSink,
+    ledger: &mut MemSink,
+) -> u8 {
+    run_transfer(alloc, words, from, to, tape, output, ledger)
 }
 
 /// These bytes.

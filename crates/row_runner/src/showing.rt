@@ -36,6 +36,19 @@ pub(crate) fn write_end(
     text.append(line.as_bytes())
 }
 
+/// Adds a line of what a run left of the medium that a device was moved to.
+pub(crate) fn write_other(alloc: Global, scene: &Scene, text: &mut Line) -> Result<(), Memory> {
+    let (pages, synced) = (scene.platform.head(), scene.platform.synced());
+    let ledger = scene.ledger.bytes().len();
+    let cell = if scene.platform.cell() == scene.cell {
+        ""
+    } else {
+        " new root"
+    };
+    let line = format!(in alloc; "= other pages {pages} synced {synced} ledger {ledger}{cell}\n")?;
+    text.append(line.as_bytes())
+}
+
 /// Adds what the words ask for to a text.
 pub(crate) fn show(
     alloc: Global,

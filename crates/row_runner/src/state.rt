@@ -1,7 +1,7 @@
 //! The objects in memory that the runs of a row share.
 use crate::forging::{change, page_of, root_of};
 use crate::keys::Keys;
-use crate::serving::{Faults, Ran, Server, serve};
+use crate::serving::{Faults, Ran, Server, serve, serve_transfer};
 use medium_trace::Pages;
 use platform::{CallKind, Failure, MemPlatform, Platform};
 use row_lines::{LineFault, end, number, word};
@@ -80,6 +80,27 @@ impl Scene {
             step,
         )?;
         self.ledger.append(ran.entries.bytes())?;
+        Ok(ran)
+    }
+
+    /// Moves the device on this medium to another one, whose ledger gets the entries.
+    pub(crate) fn transfer(&mut self, to: &mut Scene, words: &[String]) -> Result<Ran, Memory> {
+        self.reads = self.platform.reads();
+        self.cell = self.platform.cell();
+        to.reads = to.platform.reads();
+        to.cell = to.platform.cell();
+        let own = replace(&mut self.faults, Faults::none(self.alloc));
+        let faults = replace(&mut to.faults, Faults::none(self.alloc));
+        let ran = serve_transfer(
+            self.alloc,
+            &mut self.platform,
+            &mut to.platform,
+            &mut to.keys,
+            &own.calls,
+            &faults,
+            words,
+        )?;
+        to.ledger.append(ran.entries.bytes())?;
         Ok(ran)
     }
 
