@@ -9,26 +9,45 @@ _sdbt_more_folders() {
     compopt -o filenames 2>/dev/null
 }
 
+# The cells that it may become: folders and indices.
+_sdbt_more_cells() {
+    COMPREPLY=($(compgen -W 'tpm:0x' -- "$1"))
+    test "${#COMPREPLY[@]}" = 0 || compopt -o nospace 2>/dev/null
+    _sdbt_more_folders "$1"
+}
+
+# The switches that it may become, and else folders.
+_sdbt_more_switches() {
+    COMPREPLY=($(compgen -W "$2" -- "$1"))
+    test "${#COMPREPLY[@]}" != 0 && test -n "$1" || _sdbt_more_folders "$1"
+}
+
 _sdbt_more() {
-    local word=${COMP_WORDS[COMP_CWORD]} place=$COMP_CWORD
+    local word=${COMP_WORDS[COMP_CWORD]} place=$COMP_CWORD at=2 switches switch
     COMPREPLY=()
     if [ "$place" = 1 ]; then
-        COMPREPLY=($(compgen -W 'nbd volumes -h --help --version' -- "$word"))
+        COMPREPLY=($(compgen -W 'nbd volumes transfer -h --help --version' -- "$word"))
         return
     fi
     case ${COMP_WORDS[1]} in
-    nbd | volumes) ;;
+    nbd | volumes) switches=--root ;;
+    transfer) switches='--from-root --to-root' ;;
     *) return ;;
     esac
-    if [ "$place" = 2 ]; then
-        COMPREPLY=($(compgen -W '--root' -- "$word"))
-        test "${#COMPREPLY[@]}" != 0 && test -n "$word" || _sdbt_more_folders "$word"
-    elif [ "$place" -le 4 ] && [ "${COMP_WORDS[2]}" = --root ]; then
-        # CELL, and FOLDER
-        if [ "$place" = 3 ]; then
-            COMPREPLY=($(compgen -W 'tpm:0x' -- "$word"))
-            test "${#COMPREPLY[@]}" = 0 || compopt -o nospace 2>/dev/null
+    # Each switch may stand once, in this order, with its CELL behind it.
+    for switch in $switches; do
+        if [ "$place" -gt "$at" ] && [ "${COMP_WORDS[at]}" = "$switch" ]; then
+            if [ "$place" = $((at + 1)) ]; then
+                _sdbt_more_cells "$word"
+                return
+            fi
+            at=$((at + 2))
+            switches=${switches#*"$switch"}
         fi
+    done
+    if [ "$place" = "$at" ]; then
+        _sdbt_more_switches "$word" "$switches"
+    elif [ "$place" = $((at + 1)) ] && [ "${COMP_WORDS[1]}" = transfer ]; then
         _sdbt_more_folders "$word"
     fi
 }

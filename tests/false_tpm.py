@@ -289,6 +289,7 @@ def kill(path, pid, at, when, program, folder):
     return run.status if len(run.commands) > int(at) else 64
 
 
-if sys.argv[1:2] == ["--kill"]:
-    sys.exit(kill(*sys.argv[2:]))
-sys.exit(spoil_all(*sys.argv[1:] or ["crates/sdbt/out/sdbt"]))
+if __name__ == "__main__":
+    if sys.argv[1:2] == ["--kill"]:
+        sys.exit(kill(*sys.argv[2:]))
+    sys.exit(spoil_all(*sys.argv[1:] or ["crates/sdbt/out/sdbt"]))

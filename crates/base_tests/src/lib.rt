@@ -3,9 +3,9 @@
 #![tactic(auto)]
 
 #[cfg(test)]
-mod drawn_keys;
+mod cached_nodes;
 #[cfg(test)]
-mod kept_nodes;
+mod drawn_keys;
 #[cfg(test)]
 mod memory_objects;
 #[cfg(test)]

@@ -4,14 +4,14 @@ use sdbt_base::{FreshKey, RECORD, ROOT};
 use seal_record::seal;
 use std::str::SplitWhitespace;
 
-/// Where the entries of a node begin in its body, and how long each is: its low and its child's address in eight bytes each, most
-/// significant first, and the child's key in 32.
+/// Where the entries of a node begin in its body.
 const ENTRIES: usize = 32;
 
+/// How long an entry is: its low and its child's address in eight bytes each, most significant first, and the child's key in 32.
 const ENTRY: usize = 48;
 
-/// How many entries a body has room for.
-const MOST_ENTRIES: u64 = 84;
+/// The place of the last entry for which a body has room, from 0 on.
+const LAST_ENTRY: u64 = 84;
 
 /// Puts bytes at a place; what reaches beyond the end is left out.
 pub(crate) fn put(into: &mut [u8], place: usize, bytes: &[u8]) {
@@ -101,7 +101,7 @@ fn put_entry(
     addr: u64,
     key: u8,
 ) -> Result<(), LineFault> {
-    if place > MOST_ENTRIES {
+    if place > LAST_ENTRY {
         return Err(LineFault::Unknown);
     }
     let at = ENTRY * place as usize + ENTRIES;

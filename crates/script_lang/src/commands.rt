@@ -1,6 +1,6 @@
 //! The commands of a script, and the grammar of their lines.
 
-ghost use Rattle.std.specs.Prelude.{◌≡◌, ◌<◌, ℕ, List, length, IfSome, IfNone};
+ghost use Rattle.std.specs.Prelude.{◌≡◌, ◌<◌, ◌≤◌, ◌++◌, ℕ, List, length, take, codes, IfSome, IfNone};
 ghost use Rattle.script_lang.specs.Commands as commands;
 ghost use Rattle.script_lang.specs.Commands.{Command as Asked, FitsBlock, asked};
 ghost use Rattle.script_lang.specs.Grammar.{Spells, IsBad};
@@ -111,9 +111,18 @@ fn parse_write(line: &[u8], buffer: &mut [u8; BLOCK]) -> Option<Command>
     ensures fits { IfSome result FitsBlock }
     ensures none { IfNone result ((block : ℕ) (content : List ℕ) → Spells line.now (commands.Write block content) → ⊥) }
 {
-    let (block, digits) = number_before(line.strip_prefix(b"write ".as_slice())?)?;
-    let count = parse_hex(digits, buffer)?;
+    let (block, count) = parse_write_operands(line.strip_prefix(b"write ".as_slice())?, buffer)?;
     Some(Command::Write { block, count })
+}
+
+/// `N HEX`, as it stands behind `write` and a space: the block, and how many bytes of the buffer's front are written to it.
+pub fn parse_write_operands(text: &[u8], buffer: &mut [u8; BLOCK]) -> Option<(u64, usize)>
+    ensures found { IfSome result (λ it. Spells (codes "write " ++ text.now) (commands.Write it.0 (take it.1 buffer.new)) × (it.1 ≤ 4096)) }
+    ensures none { IfNone result ((block : ℕ) (content : List ℕ) → Spells (codes "write " ++ text.now) (commands.Write block content) → ⊥) }
+{
+    let (block, digits) = number_before(text)?;
+    let count = parse_hex(digits, buffer)?;
+    Some((block, count))
 }
 
 /// `trim N`

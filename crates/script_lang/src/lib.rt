@@ -11,7 +11,9 @@ mod replies;
 mod words;
 mod writing;
 
-pub use commands::{Command, lines_spell_one_command, long_lines_are_bad, parse};
+pub use commands::{
+    Command, lines_spell_one_command, long_lines_are_bad, parse, parse_write_operands,
+};
 pub use devices::{Contents, Device, Session};
 pub use machine::{Machine, is_in_limits, reply_with_content};
 pub use reading::{is_refusal_text, read_reply, replies_are_determined, replies_are_lines};

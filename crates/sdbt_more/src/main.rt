@@ -1,12 +1,17 @@
-//! The second program: makes the objects of the outside, and hands them to a server.
+//! The second program: makes the objects of the outside, and hands them to a server or to a move.
 //!
 //! `sdbt_more nbd FOLDER` serves the device in a folder to a client of NBD on standard input and
 //! output, and `sdbt_more volumes FOLDER` serves lines of its volumes; `--root CELL` before FOLDER says
-//! that the root record is in a folder of its own or in an index of a TPM.
+//! that the root record is in a folder of its own or in an index of a TPM. `sdbt_more transfer FROM TO`
+//! moves the device in one folder to another, and `sdbt_more` one that a script makes in memory.
 #![tactic(auto)]
 
+mod in_memory;
+mod moving;
 mod texts;
 
+use crate::in_memory::serve_and_move;
+use crate::moving::{move_device, reason_of_move};
 use crate::texts::{HELP, NAME, USAGE, VERSION};
 use folder_files::{LockFile, open_in_folders};
 use folder_objects::{
@@ -17,11 +22,15 @@ use platform::Platform;
 use sdbt_base::{ReadSource, Tape, WriteSink};
 use std::alloc::Global;
 use std::io;
+use std::io::IsTerminal;
 use std::process::ExitCode;
 use std::rt::{Env, Files};
 use tpm_cell::open_in_tpm;
 use tpm_nv::{OnTpm, parse_cell};
 use volumes::run_volumes;
+
+/// The exit status where a folder or an index is named twice.
+const NOT_READY: u8 = 1;
 
 /// The exit status of a faulty command line.
 const FAULTY: u8 = 2;
@@ -30,7 +39,7 @@ const FAULTY: u8 = 2;
 const OUTPUT_FAULT: u8 = 4;
 
 /// The exit status where there is no device; of NBD also where too few pages are free, of volumes where
-/// block 0 has no table.
+/// block 0 has no table, of a move where it has no place.
 const NO_DEVICE: u8 = 10;
 
 /// The exit status where memory was refused.
@@ -51,6 +60,21 @@ enum Server {
     Volumes,
 }
 
+/// What the command line asks for.
+#[derive(Clone, Copy)]
+enum Order<'a> {
+    /// A script over a device in memory, which is moved then.
+    InMemory,
+    /// The help.
+    Help,
+    /// The version.
+    Version,
+    /// This server, for the device that the words name.
+    Serve(Server, &'a [String]),
+    /// A move between the places that the words name.
+    Transfer(&'a [String]),
+}
+
 fn main(rt: HostRuntime) -> ExitCode {
     let words = match words_of(&rt) {
         Ok(words) => words,
@@ -63,58 +87,74 @@ fn main(rt: HostRuntime) -> ExitCode {
             return ended(&rt, None, status.into());
         }
     };
-    let server = server_of(words.as_slice());
-    ended(&rt, server, serve(&rt, server, words.as_slice()))
+    match order_of(words.as_slice()) {
+        Some(order) => {
+            let run = obey(&rt, rt.stderr().is_terminal(), order);
+            ended(&rt, Some(order), run)
+        }
+        None => ended(&rt, None, FAULTY.into()),
+    }
 }
 
-/// The server that the first word names.
-fn server_of(words: &[String]) -> Option<Server> {
-    match words.first()?.as_str() {
-        "nbd" => Some(Server::Nbd),
-        "volumes" => Some(Server::Volumes),
+/// What these words ask for, by the first of them.
+fn order_of(words: &[String]) -> Option<Order<'_>> {
+    let [first, others @ ..] = words else {
+        return Some(Order::InMemory);
+    };
+    match first.as_str() {
+        "nbd" => Some(Order::Serve(Server::Nbd, others)),
+        "volumes" => Some(Order::Serve(Server::Volumes, others)),
+        "transfer" => Some(Order::Transfer(others)),
+        "-h" | "--help" => Some(Order::Help),
+        "--version" => Some(Order::Version),
         _ => None,
     }
 }
 
 /// The exit status of a run, after standard error said why it ended so. At status 1 that was said before.
-fn ended(rt: &impl Eprint, server: Option<Server>, run: Ended<'_>) -> ExitCode {
+fn ended(rt: &impl Eprint, order: Option<Order<'_>>, run: Ended<'_>) -> ExitCode {
     if run.status == FAULTY {
         let _ = eprint!(rt; "{USAGE}");
-    } else if let Some(reason) = reason_here(server, run.status) {
+    } else if let Some(reason) = reason_here(order, run.status) {
         run.tell(rt, NAME, reason);
     }
     ExitCode::from(run.status)
 }
 
-/// What failed where a run of this server ended with this status.
-fn reason_here(server: Option<Server>, status: u8) -> Option<&'static str> {
-    match (server, status) {
-        (Some(Server::Nbd), NO_DEVICE) => {
-            Some("there is no device, or too few pages are free for the last commit")
-        }
-        (Some(Server::Nbd), TOO_LONG) => Some("2^40 bytes of input were taken before its end"),
-        (Some(Server::Nbd), BROKEN) => Some("the client broke off, or is none of NBD"),
-        (Some(Server::Volumes), NO_DEVICE) => Some("there is no device, or no table of volumes"),
+/// What failed where a run of this order ended with this status.
+fn reason_here(order: Option<Order<'_>>, status: u8) -> Option<&'static str> {
+    match order {
+        Some(Order::Serve(server, _)) => reason_of_server(server, status),
+        Some(Order::InMemory | Order::Transfer(_)) => reason_of_move(status),
         _ => reason_of(status),
     }
 }
 
-/// Does what the command line asks for, of which the first word names this server.
-fn serve<'a, R>(rt: &R, server: Option<Server>, words: &'a [String]) -> Ended<'a>
+/// What failed where a run of this server ended with this status.
+fn reason_of_server(server: Server, status: u8) -> Option<&'static str> {
+    match (server, status) {
+        (Server::Nbd, NO_DEVICE) => {
+            Some("there is no device, or too few pages are free for the last commit")
+        }
+        (Server::Nbd, TOO_LONG) => Some("2^40 bytes of input were taken before its end"),
+        (Server::Nbd, BROKEN) => Some("the client broke off, or is none of NBD"),
+        (Server::Volumes, NO_DEVICE) => Some("there is no device, or no table of volumes"),
+        _ => reason_of(status),
+    }
+}
+
+/// Does what the command line asks for, with standard error at a terminal or not.
+fn obey<'a, R>(rt: &R, at_terminal: bool, order: Order<'a>) -> Ended<'a>
 where
     R: Files + Alloc<A = Global> + Input + Print + Eprint + Clone + Drop,
     R::File: LockFile,
 {
-    let [first, others @ ..] = words else {
-        return FAULTY.into();
-    };
-    if let Some(server) = server {
-        return serve_device(rt, server, others);
-    }
-    match first.as_str() {
-        "-h" | "--help" => print(rt, &[USAGE, HELP]).into(),
-        "--version" => print(rt, &[VERSION]).into(),
-        _ => FAULTY.into(),
+    match order {
+        Order::InMemory => serve_and_move(rt).into(),
+        Order::Help => print(rt, &[USAGE, HELP]).into(),
+        Order::Version => print(rt, &[VERSION]).into(),
+        Order::Serve(server, words) => serve_device(rt, server, words),
+        Order::Transfer(words) => move_device(rt, at_terminal, words),
     }
 }
 

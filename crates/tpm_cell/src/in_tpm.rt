@@ -1,7 +1,9 @@
 //! A device whose root record is in a TPM.
-ghost use Rattle.std.specs.Prelude.{◌≡◌, ℕ, List, Option, Some, None, if◌then◌else◌, length, is_ok, IfOk, IsErr, OnOk};
+ghost use Rattle.std.specs.Prelude.{◌≡◌, ℕ, List, Option, Some, None, if◌then◌else◌, length, is_ok, IfOk, IsErr, IsSomeAnd, OnErr, OnOk};
 ghost use Rattle.folder_platform.specs.Sequences.{NotesCell, Replaces, Clears};
-ghost use Rattle.tpm_cell.specs.Asking.{no_root, IsInCell, Reads, Stores};
+ghost use Rattle.tpm_nv.specs.Messages.{read_bytes};
+ghost use Rattle.tpm_nv.specs.Replies.{IsContent};
+ghost use Rattle.tpm_cell.specs.Asking.{no_root, FailsAs, IsInCell, Reads, Stores, StoresNot};
 
 use crate::{TpmCalls, TpmCell, TpmFault};
 use folder_files::StdPages;
@@ -96,6 +98,8 @@ impl<R: Files, T: TpmCalls + Drop> CellCalls for InTpm<R, T> {
         // What is noted is what the index holds.
         ensures loaded { IfOk result (λ full. (held : Option (List ℕ)) × Reads T.TpmCalls.asks self.old.cell.index held self.old.cell.tpm self.new.cell.tpm
             × IsInCell held (if full then Some into.new else None)) }
+        // Where it failed, no more was asked than to read the index.
+        ensures failed { OnErr result (IsSomeAnd self.new.failure (FailsAs T.TpmCalls.asks (read_bytes self.old.cell.index) IsContent self.old.cell.tpm self.new.cell.tpm)) }
     {
         match self.cell.load(into) {
             Ok(true) => {
@@ -115,6 +119,8 @@ impl<R: Files, T: TpmCalls + Drop> CellCalls for InTpm<R, T> {
         ensures noted { Replaces bytes.now (is_ok result) (self.old.pages.calls.events) (self.new.pages.calls.events) }
         // It is noted as done only where the TPM stored the bytes.
         ensures stored { OnOk result (Stores T.TpmCalls.asks self.old.cell.index bytes.now self.old.cell.tpm self.new.cell.tpm) }
+        // Where it failed, no more was asked than to write these bytes, and to read them back.
+        ensures failed { OnErr result (IsSomeAnd self.new.failure (StoresNot T.TpmCalls.asks self.old.cell.index bytes.now self.old.cell.tpm self.new.cell.tpm)) }
     {
         match self.cell.replace(bytes) {
             Ok(()) => {
@@ -131,6 +137,7 @@ impl<R: Files, T: TpmCalls + Drop> CellCalls for InTpm<R, T> {
     fn clear(&mut self) -> io::Result<()>
         ensures noted { Clears (is_ok result) (self.old.pages.calls.events) (self.new.pages.calls.events) }
         ensures stored { OnOk result (Stores T.TpmCalls.asks self.old.cell.index no_root self.old.cell.tpm self.new.cell.tpm) }
+        ensures failed { OnErr result (IsSomeAnd self.new.failure (StoresNot T.TpmCalls.asks self.old.cell.index no_root self.old.cell.tpm self.new.cell.tpm)) }
     {
         match self.cell.clear() {
             Ok(()) => {
@@ -147,7 +154,8 @@ impl<R: Files, T: TpmCalls + Drop> CellCalls for InTpm<R, T> {
 
 /// A call on the cell failed, and why is kept.
 pub(crate) fn failed<V>(failure: &mut Option<TpmFault>, fault: TpmFault) -> io::Result<V>
-    ensures { IsErr result }
+    ensures refused { IsErr result }
+    ensures kept { failure.new ≡ Some fault }
 {
     *failure = Some(fault);
     Err(ErrorKind::Other.into())

@@ -1,7 +1,9 @@
 //! A device whose root record is in a TPM, and that is only looked at.
-ghost use Rattle.std.specs.Prelude.{◌≡◌, ℕ, List, Option, Some, None, if◌then◌else◌, length, IfOk};
+ghost use Rattle.std.specs.Prelude.{◌≡◌, ℕ, List, Option, Some, None, if◌then◌else◌, length, IfOk, IsSomeAnd, OnErr};
 ghost use Rattle.folder_platform.specs.Sequences.{NotesCell};
-ghost use Rattle.tpm_cell.specs.Asking.{IsInCell, Reads};
+ghost use Rattle.tpm_nv.specs.Messages.{read_bytes};
+ghost use Rattle.tpm_nv.specs.Replies.{IsContent};
+ghost use Rattle.tpm_cell.specs.Asking.{FailsAs, IsInCell, Reads};
 
 use crate::in_tpm::failed;
 use crate::{TpmCalls, TpmCell, TpmFault};
@@ -64,6 +66,8 @@ impl<R: Files, T: TpmCalls + Drop> LookCalls for LookInTpm<R, T> {
         // What is noted is what the index holds.
         ensures loaded { IfOk result (λ full. (held : Option (List ℕ)) × Reads T.TpmCalls.asks self.old.cell.index held self.old.cell.tpm self.new.cell.tpm
             × IsInCell held (if full then Some into.new else None)) }
+        // Where it failed, no more was asked than to read the index.
+        ensures failed { OnErr result (IsSomeAnd self.new.failure (FailsAs T.TpmCalls.asks (read_bytes self.old.cell.index) IsContent self.old.cell.tpm self.new.cell.tpm)) }
     {
         match self.cell.load(into) {
             Ok(true) => {

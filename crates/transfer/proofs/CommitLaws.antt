@@ -1,16 +1,18 @@
 -- What a commit makes of the device that another one comes to.
-use Rattle.std.proofs.Common.{◌⊎◌, ◌∷◌, ℕ, List, [], Option, None, Some, Result, Ok, Err, inl, inr, refl, sym, subst}
+use Rattle.std.proofs.Common.{◌≡◌, ◌-◌, ◌<◌, ◌∙◌, ◌⊎◌, ◌∷◌, ℕ, List, [], Option, None, Some, Result, Ok, Err, inl, inr, refl, sym, subst, arith}
 use Rattle.sdbt_base.specs.Arrays.{Device, Session as OpenSession, closed, committed, committed_if, mounted}
+use Rattle.platform.specs.declared.platforms.Platform.{Ghosts as PlatformGhosts}
 use Rattle.platform.specs.History.{During, History}
 use Rattle.platform.proofs.Moments.{During-now}
 use Rattle.device_terms.specs.Served.{IsServedImage}
 use Rattle.device_course.specs.Course.{Made, MadeBetween}
 use Rattle.device_course.specs.States.{IsAt}
 use Rattle.device_course.proofs.MadeLaws.{made_none, made_one, shut}
+use Rattle.device_session.specs.Open.{needed_by}
 use Rattle.device_session.specs.Sessions.{Session}
 use Rattle.device_session.specs.declared.refusals.CommitReply.{CommitReply}
 use Rattle.device_session.specs.declared.refusals.CommitReply.TheVariants as replies
-use Rattle.session_calls.specs.Commits.{CommitLeads, ReplyLeads}
+use Rattle.session_calls.specs.Commits.{AnswersReply, CommitLeads, ReplyLeads}
 use Rattle.session_calls.specs.declared.stops.DeviceStop.{DeviceStop}
 use Rattle.session_calls.specs.declared.stops.DeviceStop.TheVariants as stops
 use Rattle.session_calls.proofs.CommitLaws.{stop_made}
@@ -46,3 +48,9 @@ commit_stopped old new session there other stop at served led = (
     | inr one ↦ inr (between old new there (committed there other) other (Some (committed there other) ∷ []) one)
   ],
 )
+
+-- where too few pages are free, fewer are than the session needs
+pub commit_short : {S R W : Type 0} (P : PlatformGhosts S) (platform platform_now : S) (tape tape_now : R) (ledger ledger_now : W) (session now : Session) (reply : CommitReply) (result : Result ℕ Halt) → AnswersReply P platform platform_now tape tape_now ledger ledger_now session now reply
+    → IsNumberOf reply result → result ≡ Err halts.Full → P.capacity platform - P.head platform < needed_by session
+commit_short P platform platform_now tape tape_now ledger ledger_now session now (replies.Committed number) result answers is full = absurd (let both : Ok number ≡ Err halts.Full = sym is ∙ full in cc)
+commit_short P platform platform_now tape tape_now ledger ledger_now session now (replies.Full needed free) result answers is full = omega (arith, answers.short, answers.is_needed, answers.is_free)

@@ -200,7 +200,7 @@ clears_weaker tells before old new Was Done was c = record {
   ];
 }
 
-promised_of : (tells : Type 0) (told : tells) (old new : Outside) (there : Device) (exit : State) (marks : List (Option Device)) → Stands old.history.present (Some there) → IsServedImage old.history.present → IsLater old new
+pub promised_of : (tells : Type 0) (told : tells) (old new : Outside) (there : Device) (exit : State) (marks : List (Option Device)) → Stands old.history.present (Some there) → IsServedImage old.history.present → IsLater old new
     → KeepsOn tells old.drawn new.drawn old.written new.written None old.history new.history (Unit {0}) (λ keys. Unit {0}) → Made old.history new.history None (closed (Some there)) marks (closed exit.device) → Promised old new (Some there) marks
 unfolding course_ended
 promised_of tells told old new there exit marks stands served later keeps made =

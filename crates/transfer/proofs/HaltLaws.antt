@@ -1,6 +1,8 @@
 -- Which record a halt names.
-use Rattle.std.proofs.Common.{◌≡◌, ℕ, List, Option, Result, Ok, Err, inl, inr, sym, subst}
+use Rattle.std.proofs.Common.{◌≡◌, ◌∙◌, ℕ, List, Option, Result, Ok, Err, inl, inr, sym, ap, subst}
 use Rattle.std.specs.Prelude.{◌⊎◌, IfErr}
+use Rattle.std.specs.Result.{IsErrAnd}
+use Rattle.std.proofs.lemmas.Result.{err_from_is_err_and}
 use Rattle.platform.specs.Image.{Image}
 use Rattle.platform.specs.declared.platforms.Platform.{Ghosts as PlatformGhosts}
 use Rattle.sdbt_base.specs.declared.tapes.Tape.{Ghosts as TapeGhosts}
@@ -15,7 +17,7 @@ use Rattle.session_calls.specs.declared.stops.DeviceStop.TheVariants as stops
 use Rattle.transfer.specs.Counts.{Counts}
 use Rattle.transfer.specs.Halts.{Blames}
 use Rattle.transfer.specs.Listing.{IsListStop}
-use Rattle.transfer.specs.Running.{HaltsFrom, HaltsTo, IsBehindMount, IsNumberOf, IsOfOpening, MeetsWrong}
+use Rattle.transfer.specs.Running.{HaltsFrom, HaltsTo, IsBehindBoth, IsBehindMount, IsNumberOf, IsOfCommit, IsOfOpening, MeetsWrong}
 use Rattle.transfer.specs.declared.halts.Halt.{Halt}
 use Rattle.transfer.specs.declared.halts.Halt.TheVariants as halts
 use Rattle.transfer.proofs.BlameLaws.{blames_done, blames_halt}
@@ -84,17 +86,17 @@ mount_from from_tells to_tells from to tells cell pages stops.Tape is = tt
 mount_from from_tells to_tells from to tells cell pages stops.Ledger is = tt
 mount_from from_tells to_tells from to tells cell pages (stops.BadRecord addr) is = absurd is
 
-pub commit_to : {S R : Type 0} (P : PlatformGhosts S) (T : TapeGhosts R) (platform platform_now : S) (tape tape_now : R) (stop : DeviceStop) → LeftAt P T platform platform_now tape tape_now stop → IsOfOpening (halts.To stop)
+pub commit_to : {S R : Type 0} (P : PlatformGhosts S) (T : TapeGhosts R) (platform platform_now : S) (tape tape_now : R) (stop : DeviceStop) → LeftAt P T platform platform_now tape tape_now stop → IsOfCommit (halts.To stop)
 commit_to P T platform platform_now tape tape_now stops.Platform left = tt
 commit_to P T platform platform_now tape tape_now stops.Memory left = tt
-commit_to P T platform platform_now tape tape_now stops.BadRoot left = tt
+commit_to P T platform platform_now tape tape_now stops.BadRoot left = absurd left
 commit_to P T platform platform_now tape tape_now stops.Tape left = tt
 commit_to P T platform platform_now tape tape_now stops.Ledger left = tt
 commit_to P T platform platform_now tape tape_now (stops.BadRecord addr) left = absurd left
 
-pub number_opening : (reply : CommitReply) (result : Result ℕ Halt) → IsNumberOf reply result → IfErr result IsOfOpening
-number_opening (replies.Committed number) result is = subst (λ (r : Result ℕ Halt). IfErr r IsOfOpening) (sym is) tt
-number_opening (replies.Full needed free) result is = subst (λ (r : Result ℕ Halt). IfErr r IsOfOpening) (sym is) tt
+pub number_commit : (reply : CommitReply) (result : Result ℕ Halt) → IsNumberOf reply result → IfErr result IsOfCommit
+number_commit (replies.Committed number) result is = subst (λ (r : Result ℕ Halt). IfErr r IsOfCommit) (sym is) tt
+number_commit (replies.Full needed free) result is = subst (λ (r : Result ℕ Halt). IfErr r IsOfCommit) (sym is) tt
 
 pub number_blamed : (before now : Counts) (reply : CommitReply) (result : Result ℕ Halt) → now ≡ before → IsNumberOf reply result → Blames before now result
 number_blamed before now (replies.Committed number) result same is = subst (Blames before now) (sym is) (blames_done before now number same)
@@ -141,13 +143,26 @@ meets_opening from_tells to_tells from to (halts.To stops.Ledger) is = tt
 meets_opening from_tells to_tells from to (halts.To stops.BadRoot) is = tt
 meets_opening from_tells to_tells from to (halts.To (stops.BadRecord addr)) is = absurd is
 
-pub meets_opening_all : {X : Type 0} (from_tells to_tells : Type 0) (from to : Image) (result : Result X Halt) → IfErr result IsOfOpening → IfErr result (MeetsWrong from_tells to_tells from to)
-meets_opening_all from_tells to_tells from to (Ok done) is = tt
-meets_opening_all from_tells to_tells from to (Err halt) is = meets_opening from_tells to_tells from to halt is
+meets_commit : (from_tells to_tells : Type 0) (from to : Image) (halt : Halt) → IsOfCommit halt → MeetsWrong from_tells to_tells from to halt
+meets_commit from_tells to_tells from to halts.NoDevice is = absurd is
+meets_commit from_tells to_tells from to halts.NotEmpty is = absurd is
+meets_commit from_tells to_tells from to halts.Full is = tt
+meets_commit from_tells to_tells from to halts.Output is = absurd is
+meets_commit from_tells to_tells from to (halts.From stop) is = absurd is
+meets_commit from_tells to_tells from to (halts.To stops.Platform) is = tt
+meets_commit from_tells to_tells from to (halts.To stops.Tape) is = tt
+meets_commit from_tells to_tells from to (halts.To stops.Ledger) is = tt
+meets_commit from_tells to_tells from to (halts.To stops.Memory) is = tt
+meets_commit from_tells to_tells from to (halts.To stops.BadRoot) is = absurd is
+meets_commit from_tells to_tells from to (halts.To (stops.BadRecord addr)) is = absurd is
+
+pub meets_commit_all : {X : Type 0} (from_tells to_tells : Type 0) (from to : Image) (result : Result X Halt) → IfErr result IsOfCommit → IfErr result (MeetsWrong from_tells to_tells from to)
+meets_commit_all from_tells to_tells from to (Ok done) is = tt
+meets_commit_all from_tells to_tells from to (Err halt) is = meets_commit from_tells to_tells from to halt is
 
 -- ---- behind the mount
 
-pub behind_from : (tells : Type 0) (image : Image) (halt : Halt) → HaltsFrom tells image halt → IsBehindMount halt
+pub behind_from : (tells : Type 0) (image : Image) (halt : Halt) → HaltsFrom tells image halt → IsBehindBoth halt
 behind_from tells image halts.NoDevice is = absurd is
 behind_from tells image halts.NotEmpty is = absurd is
 behind_from tells image halts.Full is = absurd is
@@ -160,13 +175,18 @@ behind_from tells image (halts.From stops.BadRoot) is = absurd is
 behind_from tells image (halts.From (stops.BadRecord addr)) is = tt
 behind_from tells image (halts.To stop) is = absurd is
 
-pub behind_to : (tells : Type 0) (image : Image) (halt : Halt) → HaltsTo tells image halt → IsBehindMount halt
+pub behind_to : (tells : Type 0) (image : Image) (halt : Halt) → HaltsTo tells image halt → IsBehindBoth halt
 behind_to tells image halts.NoDevice is = absurd is
 behind_to tells image halts.NotEmpty is = absurd is
 behind_to tells image halts.Full is = tt
 behind_to tells image halts.Output is = absurd is
 behind_to tells image (halts.From stop) is = absurd is
-behind_to tells image (halts.To stop) is = tt
+behind_to tells image (halts.To stops.Platform) is = tt
+behind_to tells image (halts.To stops.Memory) is = tt
+behind_to tells image (halts.To stops.Tape) is = tt
+behind_to tells image (halts.To stops.Ledger) is = tt
+behind_to tells image (halts.To stops.BadRoot) is = absurd is
+behind_to tells image (halts.To (stops.BadRecord addr)) is = tt
 
 pub behind_opening : (halt : Halt) → IsOfOpening halt → IsBehindMount halt
 behind_opening halts.NoDevice is = absurd is
@@ -176,6 +196,41 @@ behind_opening halts.Output is = absurd is
 behind_opening (halts.From stop) is = absurd is
 behind_opening (halts.To stop) is = tt
 
-pub behind_opening_all : {X : Type 0} (result : Result X Halt) → IfErr result IsOfOpening → IfErr result IsBehindMount
-behind_opening_all (Ok done) is = tt
-behind_opening_all (Err halt) is = behind_opening halt is
+behind_commit : (halt : Halt) → IsOfCommit halt → IsBehindBoth halt
+behind_commit halts.NoDevice is = absurd is
+behind_commit halts.NotEmpty is = absurd is
+behind_commit halts.Full is = tt
+behind_commit halts.Output is = absurd is
+behind_commit (halts.From stop) is = absurd is
+behind_commit (halts.To stops.Platform) is = tt
+behind_commit (halts.To stops.Memory) is = tt
+behind_commit (halts.To stops.Tape) is = tt
+behind_commit (halts.To stops.Ledger) is = tt
+behind_commit (halts.To stops.BadRoot) is = absurd is
+behind_commit (halts.To (stops.BadRecord addr)) is = absurd is
+
+pub behind_commit_all : {X : Type 0} (result : Result X Halt) → IfErr result IsOfCommit → IfErr result IsBehindBoth
+behind_commit_all (Ok done) is = tt
+behind_commit_all (Err halt) is = behind_commit halt is
+
+behind_both : (halt : Halt) → IsBehindBoth halt → IsBehindMount halt
+behind_both halts.NoDevice is = is
+behind_both halts.NotEmpty is = is
+behind_both halts.Full is = is
+behind_both halts.Output is = is
+behind_both (halts.From stop) is = is
+behind_both (halts.To stop) is = tt
+
+pub behind_both_all : {X : Type 0} (result : Result X Halt) → IfErr result IsBehindBoth → IfErr result IsBehindMount
+behind_both_all (Ok done) is = tt
+behind_both_all (Err halt) is = behind_both halt is
+
+-- the first device is only read
+pub from_full : {X : Type 0} (tells : Type 0) (image : Image) (result : Result X Halt) → IfErr result (HaltsFrom tells image) → result ≡ Err halts.Full → ⊥
+from_full {X = X} tells image result is full = subst (λ (r : Result X Halt). IfErr r (HaltsFrom tells image)) full is
+
+-- a part of a run halts as its call did
+pub halted : {X : Type 0} (result : Result X Halt) (halt : Halt) → IsErrAnd result (λ y. y ≡ halt) → result ≡ Err halt
+halted result halt is =
+    let found = err_from_is_err_and result is in
+    found.1 ∙ ap Err found.2

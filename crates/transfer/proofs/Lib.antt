@@ -10,3 +10,6 @@ pub mod MovingLaws
 pub mod CommitLaws
 pub mod FillLaws
 pub mod LookedLaws
+pub mod OpenLaws
+pub mod MoveLaws
+pub mod KeyLaws

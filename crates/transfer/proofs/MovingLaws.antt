@@ -22,7 +22,7 @@ use Rattle.device_session.specs.Sessions.{Session}
 use Rattle.session_calls.specs.Goes.{ReadsBlock, WritesBlock}
 use Rattle.session_calls.specs.declared.stops.DeviceStop.{DeviceStop}
 use Rattle.session_calls.specs.declared.stops.DeviceStop.TheVariants as stops
-use Rattle.transfer.specs.Copies.{copied, copy_block}
+use Rattle.transfer.specs.Copies.{copy_block}
 use Rattle.transfer.specs.Listing.{IsOfEntries, stop_of_walk}
 use Rattle.transfer.specs.Moving.{IsSoundStop}
 

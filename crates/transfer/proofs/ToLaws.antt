@@ -274,7 +274,7 @@ spans_behind tells old mid new Going (Err y) idles spans = spans_idle tells old 
 
 -- ---- the whole run
 
-promised_of : (tells Going : Type 0) (told : tells) (old new : Outside) (there : Option Device) (marks : List (Option Device)) → Stands old.history.present there → IsServedImage old.history.present → IsLater old new
+pub promised_of : (tells Going : Type 0) (told : tells) (old new : Outside) (there : Option Device) (marks : List (Option Device)) → Stands old.history.present there → IsServedImage old.history.present → IsLater old new
     → KeepsOn tells old.drawn new.drawn old.written new.written None old.history new.history Going (λ keys. Unit {0}) → Made old.history new.history None (closed there) marks (closed (last_mark there marks)) → Promised old new there marks
 unfolding course_ended
 promised_of tells Going told old new there marks stands served later keeps made =

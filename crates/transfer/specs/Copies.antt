@@ -18,6 +18,25 @@ abbrev pub IsOnWay : Device → Option Device → Type 0
 IsOnWay device None = ⊥
 IsOnWay device (Some there) = (there ≡ blank_of device) ⊎ IsCopy device there
 
+-- as many blocks, and a tree of the same order
+pub record IsAlike (device there : Device) : Type 0 where
+  pub blocks : there.blocks ≡ device.blocks
+  pub order : there.order ≡ device.order
+
+-- there is a copy
+abbrev pub HasCopy : Device → Option Device → Type 0
+HasCopy device None = ⊥
+HasCopy device (Some there) = IsCopy device there
+
+-- there is none, or one of as many blocks and of the same order that was never written
+abbrev pub IsFresh : Device → Option Device → Type 0
+IsFresh device None = Unit {0}
+IsFresh device (Some there) = there ≡ blank_of device
+
+-- another device, to which none is moved
+abbrev pub IsOther : Device → Option Device → Type 0
+IsOther device there = (HasCopy device there → ⊥) × (IsFresh device there → ⊥)
+
 -- an array, with a block written as another array has it
 abbrev pub copy_block : Blocks → OpenSession → ℕ → OpenSession
 copy_block contents array block = record { contents = map.insert array.contents block (content_of contents block); touched = true }

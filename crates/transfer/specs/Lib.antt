@@ -6,3 +6,4 @@ pub mod Opening
 pub mod Running
 pub mod Program
 pub mod Moving
+pub mod Both

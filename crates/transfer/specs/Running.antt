@@ -4,6 +4,8 @@ use Rattle.sdbt_base.specs.Arrays.{Device, State, closed, mounted, new_device, s
 use Rattle.platform.specs.declared.platforms.Platform.{Ghosts as PlatformGhosts}
 use Rattle.platform.specs.Image.{Image}
 use Rattle.platform.specs.History.{Turns}
+use Rattle.root_codec.specs.RootRecord.{root_bytes}
+use Rattle.root_codec.specs.declared.root.Root.{Root}
 use Rattle.page_store.specs.Stands.{Stands}
 use Rattle.device_terms.specs.Served.{IsServedImage}
 use Rattle.device_course.specs.Course.{Made}
@@ -62,12 +64,34 @@ IsBehindMount halts.Output = ⊥
 IsBehindMount (halts.From device.BadRoot) = ⊥
 IsBehindMount _ = Unit {0}
 
+-- the same behind the mount of both devices
+abbrev pub IsBehindBoth : Halt → Type 0
+IsBehindBoth (halts.To device.BadRoot) = ⊥
+IsBehindBoth halt = IsBehindMount halt
+
 -- where the cell of the device that is moved is empty, or can't be served, the run halts so, or its platform failed; and only there
 pub record Looked {X : Type 0} (tells : Type 0) (image : Image) (result : Result X Halt) : Type 0 where
   pub bad : tells → (IsServedImage image → ⊥) → (result ≡ Err (halts.From device.BadRoot)) ⊎ (result ≡ Err (halts.From device.Platform))
   pub empty : tells → image.cell ≡ None → (result ≡ Err halts.NoDevice) ⊎ (result ≡ Err (halts.From device.Platform))
   pub bad_only : tells → result ≡ Err (halts.From device.BadRoot) → IsServedImage image → ⊥
   pub empty_only : tells → result ≡ Err halts.NoDevice → image.cell ≡ None
+
+-- so many blocks are mapped, as the root record in the cell has it
+abbrev pub HasMapped : Image → ℕ → Type 0
+HasMapped image blocks = (root : Root) × (image.cell ≡ Some (root_bytes root)) × (blocks ≡ root.mapped)
+
+-- a halt before the second device's root record is told of, or at it
+abbrev pub IsAtRoot : {X : Type 0} → Result X Halt → Type 0
+IsAtRoot (Err halts.NoDevice) = Unit {0}
+IsAtRoot (Err (halts.From stop)) = Unit {0}
+IsAtRoot (Err (halts.To device.BadRoot)) = Unit {0}
+IsAtRoot (Err (halts.To device.Platform)) = Unit {0}
+IsAtRoot _ = ⊥
+
+-- where the cell of the device that it is moved to can't be served, the run halts so, unless it did at the first one, or the second platform failed; and only there
+pub record LookedThere {X : Type 0} (tells : Type 0) (image : Image) (result : Result X Halt) : Type 0 where
+  pub bad : tells → (IsServedImage image → ⊥) → IsAtRoot result
+  pub bad_only : tells → result ≡ Err (halts.To device.BadRoot) → IsServedImage image → ⊥
 
 -- a halt of the device that is moved, and of the one that it is moved to: at a record that doesn't fit its place, on any pages; or since a platform, the tape or the ledger failed, no memory
 -- was given, or too few pages are free
@@ -96,6 +120,15 @@ IsOfOpening (halts.To device.Ledger) = Unit {0}
 IsOfOpening (halts.To device.BadRoot) = Unit {0}
 IsOfOpening (halts.To device.Memory) = Unit {0}
 IsOfOpening _ = ⊥
+
+-- and at a commit
+abbrev pub IsOfCommit : Halt → Type 0
+IsOfCommit halts.Full = Unit {0}
+IsOfCommit (halts.To device.Platform) = Unit {0}
+IsOfCommit (halts.To device.Tape) = Unit {0}
+IsOfCommit (halts.To device.Ledger) = Unit {0}
+IsOfCommit (halts.To device.Memory) = Unit {0}
+IsOfCommit _ = ⊥
 
 -- the number that a commit answered, or that too few pages are free
 abbrev pub IsNumberOf : CommitReply → Result ℕ Halt → Type 0

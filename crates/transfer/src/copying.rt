@@ -1,16 +1,16 @@
 //! The copying of blocks from one session to another, and its commit.
-ghost use Rattle.std.specs.Prelude.{◌≡◌, ◌<◌, ℕ, All, None, Some, IfErr, IsOk, List, Option, length};
+ghost use Rattle.std.specs.Prelude.{◌≡◌, ◌-◌, ◌<◌, ℕ, All, None, Some, Err, IfErr, IsOk, length};
 ghost use Rattle.device_course.specs.States.{around};
-ghost use Rattle.device_session.specs.Open.{blocks_of};
+ghost use Rattle.device_session.specs.Open.{blocks_of, needed_by};
 ghost use Rattle.session_calls.specs.Along.{Along, Drawn, drawn_by};
 ghost use Rattle.session_calls.specs.Carrying.{Carries, IsReady};
 ghost use Rattle.transfer.specs.Counts.{counts};
 ghost use Rattle.transfer.specs.Halts.{Blames};
-ghost use Rattle.sdbt_base.specs.Arrays.{Device, Session as OpenSession, committed, mounted};
+ghost use Rattle.sdbt_base.specs.Arrays.{Device, Session as OpenSession, mounted};
 ghost use Rattle.device_course.specs.States.{IsAt};
 ghost use Rattle.transfer.specs.Copies.{copied, copy_block};
 ghost use Rattle.transfer.specs.Moving.{Commits, Copies};
-ghost use Rattle.transfer.specs.Running.{IsBehindMount, IsNumberOf, IsOfOpening, MeetsWrong, alone};
+ghost use Rattle.transfer.specs.Running.{IsBehindBoth, IsNumberOf, IsOfCommit, MeetsWrong, alone};
 
 use crate::halts::Halt;
 use crate::sides::{read_source, write_target};
@@ -41,18 +41,17 @@ pub(crate) fn copy_blocks<P: Platform, Q: Platform, T: Tape>(
         → IsAt (Q.history to.old).present (Some target.old) (mounted there other)
         → Copies (P.history from.new).present (Q.history to.new).present source.new target.new device there array
         (copied array.contents blocks.now other) result }
-    ensures behind { IfErr result IsBehindMount }
+    ensures full { result ≡ Err Halt.Full → (0 < length blocks.now) × (Q.head to.new ≡ Q.capacity to.new) }
+    ensures behind { IfErr result IsBehindBoth }
 {
+    let mut content = [0; BLOCK];
     for block in blocks {
-        match copy_block(*block, source, target, from, to, tape) {
-            Ok(()) => {}
-            Err(halt) => return Err(halt),
-        }
+        copy_block(*block, source, target, from, to, tape, &mut content)?;
     }
     Ok(())
 }
 
-/// Writes to one session what another one reads of a block.
+/// Writes to one session what another one reads of a block, by way of `content`.
 fn copy_block<P: Platform, Q: Platform, T: Tape>(
     block: u64,
     source: &mut Session,
@@ -60,7 +59,9 @@ fn copy_block<P: Platform, Q: Platform, T: Tape>(
     from: &mut P,
     to: &mut Q,
     tape: &mut T,
+    content: &mut [u8],
 ) -> Result<(), Halt>
+    requires size { length content.old ≡ 4096 }
     requires source { IsReady P.tells (alone P.Platform from.old) source.old }
     requires target { IsReady Q.tells (alone Q.Platform to.old) target.old }
     requires within { block < blocks_of source.old }
@@ -74,14 +75,12 @@ fn copy_block<P: Platform, Q: Platform, T: Tape>(
         → IsAt (Q.history to.old).present (Some target.old) (mounted there other)
         → Copies (P.history from.new).present (Q.history to.new).present source.new target.new device there array
         (copy_block array.contents other block) result }
-    ensures behind { IfErr result IsBehindMount }
+    ensures full { result ≡ Err Halt.Full → Q.head to.new ≡ Q.capacity to.new }
+    ensures behind { IfErr result IsBehindBoth }
+    ensures size { length content.new ≡ 4096 }
 {
-    let mut content = [0; BLOCK];
-    match read_source(source, from, block, &mut content) {
-        Ok(()) => {}
-        Err(halt) => return Err(halt),
-    }
-    match write_target(target, to, tape, block, &content) {
+    read_source(source, from, block, content)?;
+    match write_target(target, to, tape, block, content) {
         Ok(()) => Ok(()),
         Err(halt) => Err(halt),
     }
@@ -99,7 +98,8 @@ pub(crate) fn commit_target<Q: Platform, T: Tape, L: Sink>(
         (around Q.Platform T.Tape L.Sink to.new tape.new ledger.new) target None (IsOk result) }
     ensures blame { (from output : ℕ) → Blames (counts from (Q.faults to.old) (T.faults tape.old) output (L.faults ledger.old))
         (counts from (Q.faults to.new) (T.faults tape.new) output (L.faults ledger.new)) result }
-    ensures wrong { IfErr result IsOfOpening }
+    ensures full { result ≡ Err Halt.Full → Q.capacity to.old - Q.head to.old < needed_by target }
+    ensures wrong { IfErr result IsOfCommit }
     ensures leads { Q.tells → (there : Device) (other : OpenSession) → IsAt (Q.history to.old).present (Some target) (mounted there other)
         → Commits (Q.history to.old) (Q.history to.new) there other result }
 {

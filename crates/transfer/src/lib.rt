@@ -1,10 +1,13 @@
 //! The move of a device to a fresh medium: what is on one platform is copied to another, and the root record that leads to it is cleared.
 #![tactic(auto)]
 
-ghost use Rattle.std.specs.Prelude.{◌≡◌, [], map, string_bytes};
+ghost use Rattle.std.specs.Prelude.{◌≡◌, [], Option, Some, map, string_bytes};
+ghost use Rattle.sdbt_base.specs.Arrays.{Device};
+ghost use Rattle.page_store.specs.Stands.{Stands};
+ghost use Rattle.device_terms.specs.Served.{IsServedImage};
 ghost use Rattle.device_course.specs.States.{around};
 ghost use Rattle.transfer.specs.Counts.{counts};
-ghost use Rattle.transfer.specs.Program.{Exits, FromAlone, Ran, ToAlone};
+ghost use Rattle.transfer.specs.Program.{Exits, FromAlone, MovesDevice, Ran, ToAlone};
 ghost use Rattle.transfer.specs.Running.{alone};
 
 mod copying;
@@ -45,8 +48,14 @@ pub fn run_transfer<P: Platform, Q: Platform, T: Tape, O: Sink, L: Sink>(
     ensures other_words { result ≡ 2 → (from.new ≡ from.old) × (to.new ≡ to.old) × (tape.new ≡ tape.old) × (output.new ≡ output.old) × (ledger.new ≡ ledger.old) }
 
     // What was said, and, on any pages, which record is named.
-    ensures ran { map string_bytes words.now ≡ [] → Ran P.tells Q.tells (P.history from.old).present (P.history from.new).present (Q.history to.new).present result
+    ensures ran { map string_bytes words.now ≡ [] → Ran P.tells Q.tells (P.history from.old).present (Q.history to.old).present (P.history from.new).present (Q.history to.new).present result
         (O.written output.old) (O.written output.new) }
+
+    // From one device to another one, or to none: the first one is cleared only once the second one is a copy, whatever stops the run.
+    ensures moved { map string_bytes words.now ≡ [] → P.tells → Q.tells → (device : Device) (there : Option Device)
+        → Stands (P.history from.old).present (Some device) → IsServedImage (P.history from.old).present → Stands (Q.history to.old).present there → IsServedImage (Q.history to.old).present
+        → MovesDevice (alone P.Platform from.old) (alone P.Platform from.new) (around Q.Platform T.Tape L.Sink to.old tape.old ledger.old)
+        (around Q.Platform T.Tape L.Sink to.new tape.new ledger.new) (O.written output.old) (O.written output.new) result device there }
 
     // Whatever the other platform does: at each moment a loss of power leaves the device of `from`, or none.
     ensures from_alone { FromAlone P.tells (alone P.Platform from.old) (alone P.Platform from.new) result }

@@ -1,8 +1,8 @@
 //! Which blocks a device has mapped.
-ghost use Rattle.std.specs.Prelude.{◌≡◌, ◌<◌, ◌≤◌, All, IfErr, IfOk, Some, List, ℕ, map};
+ghost use Rattle.std.specs.Prelude.{◌≡◌, ◌<◌, All, IfErr, IfOk, Some, map};
 ghost use Rattle.platform.specs.Calls.{Looks};
 ghost use Rattle.sdbt_base.specs.Counts.{counts};
-ghost use Rattle.device_session.specs.Open.{blocks_of, root_of, IsOpen};
+ghost use Rattle.device_session.specs.Open.{blocks_of, IsOpen};
 ghost use Rattle.session_calls.specs.Blame.{IsBlamed};
 ghost use Rattle.session_calls.specs.Damage.{IsMounted};
 ghost use Rattle.std.specs.FinMap as maps;

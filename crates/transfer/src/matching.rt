@@ -1,14 +1,12 @@
 //! Whether two devices have the same blocks.
-ghost use Rattle.std.specs.Prelude.{◌≡◌, ◌<◌, ◌↔◌, ℕ, All, None, Some, IfErr, IsTrue, List, Option};
+ghost use Rattle.std.specs.Prelude.{◌≡◌, ◌<◌, ◌↔◌, All, Some, IsTrue, length};
 ghost use Rattle.device_session.specs.Open.{blocks_of, number_of, root_of};
-ghost use Rattle.session_calls.specs.Along.{Along, Drawn};
 ghost use Rattle.session_calls.specs.Carrying.{IsReady};
-ghost use Rattle.transfer.specs.Counts.{counts};
-ghost use Rattle.transfer.specs.Halts.{Blames};
+ghost use Rattle.transfer.specs.Both.{AreReady, ReadsBoth};
 ghost use Rattle.sdbt_base.specs.Arrays.{Device, Session as OpenSession, content_of, mounted};
 ghost use Rattle.device_course.specs.States.{IsAt};
 ghost use Rattle.transfer.specs.Moving.{Matches};
-ghost use Rattle.transfer.specs.Running.{IsBehindMount, MeetsWrong, alone};
+ghost use Rattle.transfer.specs.Running.{alone};
 
 use crate::halts::Halt;
 use crate::sides::{read_source, read_target};
@@ -38,62 +36,50 @@ pub(crate) fn has_same<P: Platform, Q: Platform>(
     from: &mut P,
     to: &mut Q,
 ) -> Result<bool, Halt>
-    requires source { IsReady P.tells (alone P.Platform from.old) source.old }
-    requires target { IsReady Q.tells (alone Q.Platform to.old) target.old }
-    requires within { All (λ block. block < blocks_of source.old) blocks.now }
-    requires alike { blocks_of target.old ≡ blocks_of source.old }
-    ensures from { (any : Drawn) → Along P.Platform 0 from.old from.new any any source.old source.new }
-    ensures to { (any : Drawn) → Along Q.Platform 0 to.old to.new any any target.old target.new }
-    ensures blame { (tape output ledger : ℕ) → Blames (counts (P.faults from.old) (Q.faults to.old) tape output ledger)
-        (counts (P.faults from.new) (Q.faults to.new) tape output ledger) result }
-    ensures wrong { IfErr result (MeetsWrong P.tells Q.tells (P.history from.new).present (Q.history to.new).present) }
+    requires { AreReady P.tells Q.tells (alone P.Platform from.old) (alone Q.Platform to.old) source.old target.old blocks.now }
+    ensures both { ReadsBoth P.Platform Q.Platform from.old from.new to.old to.new source.old source.new target.old target.new result }
     ensures leads { P.tells → Q.tells → (device there : Device) (array other : OpenSession) → IsAt (P.history from.old).present (Some source.old) (mounted device array)
         → IsAt (Q.history to.old).present (Some target.old) (mounted there other)
         → Matches (P.history from.new).present (Q.history to.new).present source.new target.new device there array other
         (All (λ block. content_of array.contents block ≡ content_of other.contents block) blocks.now) result }
-    ensures behind { IfErr result IsBehindMount }
 {
+    let mut content = [0; BLOCK];
+    let mut other = [0; BLOCK];
     for block in blocks {
-        match has_same_block(*block, source, target, from, to) {
-            Ok(true) => {}
-            Ok(false) => return Ok(false),
-            Err(halt) => return Err(halt),
+        if !has_same_block(*block, source, target, from, to, &mut content, &mut other)? {
+            return Ok(false);
         }
     }
     Ok(true)
 }
 
-/// Whether a block has the same content on both.
+/// Whether a block has the same content on both, each read into a place of its own.
 fn has_same_block<P: Platform, Q: Platform>(
     block: u64,
     source: &mut Session,
     target: &mut Session,
     from: &mut P,
     to: &mut Q,
+    content: &mut [u8],
+    other: &mut [u8],
 ) -> Result<bool, Halt>
+    requires size { length content.old ≡ 4096 }
+    requires other_size { length other.old ≡ 4096 }
     requires source { IsReady P.tells (alone P.Platform from.old) source.old }
     requires target { IsReady Q.tells (alone Q.Platform to.old) target.old }
     requires within { block < blocks_of source.old }
     requires alike { blocks_of target.old ≡ blocks_of source.old }
-    ensures from { (any : Drawn) → Along P.Platform 0 from.old from.new any any source.old source.new }
-    ensures to { (any : Drawn) → Along Q.Platform 0 to.old to.new any any target.old target.new }
-    ensures blame { (tape output ledger : ℕ) → Blames (counts (P.faults from.old) (Q.faults to.old) tape output ledger)
-        (counts (P.faults from.new) (Q.faults to.new) tape output ledger) result }
-    ensures wrong { IfErr result (MeetsWrong P.tells Q.tells (P.history from.new).present (Q.history to.new).present) }
+    ensures both { ReadsBoth P.Platform Q.Platform from.old from.new to.old to.new source.old source.new target.old target.new result }
     ensures leads { P.tells → Q.tells → (device there : Device) (array other : OpenSession) → IsAt (P.history from.old).present (Some source.old) (mounted device array)
         → IsAt (Q.history to.old).present (Some target.old) (mounted there other)
         → Matches (P.history from.new).present (Q.history to.new).present source.new target.new device there array other
         (content_of array.contents block ≡ content_of other.contents block) result }
-    ensures behind { IfErr result IsBehindMount }
+    ensures size { length content.new ≡ 4096 }
+    ensures other_size { length other.new ≡ 4096 }
 {
-    let mut content = [0; BLOCK];
-    let mut other = [0; BLOCK];
-    match read_source(source, from, block, &mut content) {
-        Ok(()) => {}
-        Err(halt) => return Err(halt),
-    }
-    match read_target(target, to, block, &mut other) {
-        Ok(()) => Ok(is_same(&content, &other)),
+    read_source(source, from, block, content)?;
+    match read_target(target, to, block, other) {
+        Ok(()) => Ok(is_same(content, other)),
         Err(halt) => Err(halt),
     }
 }

@@ -1,11 +1,7 @@
 //! The device that another one comes to: the one that there is, or a new one.
-ghost use Rattle.std.specs.Prelude.{◌≡◌, ◌≤◌, ◌%◌, ℕ, None, Some, IfErr, IfOk, IsOk, List, Option};
-ghost use Rattle.device_course.specs.States.{around};
-ghost use Rattle.transfer.specs.Counts.{counts};
-ghost use Rattle.transfer.specs.Halts.{Blames};
-ghost use Rattle.transfer.specs.Opening.{halt_of_format};
-ghost use Rattle.session_calls.specs.Spans.{Spans};
-ghost use Rattle.transfer.specs.Running.{IsOfOpening, Opens};
+ghost use Rattle.std.specs.Prelude.{◌≡◌, ◌≤◌, ◌%◌, Err};
+ghost use Rattle.transfer.specs.Opening.{OpensTarget, halt_of_format};
+ghost use Rattle.transfer.specs.Running.{LookedThere};
 
 use crate::halts::Halt;
 use crate::running::CACHED_NODES;
@@ -36,13 +32,8 @@ pub(crate) fn open_target<Q: Platform, T: Tape, L: Sink>(
 ) -> Result<Target, Halt>
     requires sized { (1 ≤ blocks) × (blocks ≤ 1048576) }
     requires ordered { (4 ≤ order) × (order ≤ 64) × (order % 2 ≡ 0) }
-    ensures opened { IfOk result (λ target. Opens Q.tells blocks order (around Q.Platform T.Tape L.Sink to.old tape.old ledger.old)
-        (around Q.Platform T.Tape L.Sink to.new tape.new ledger.new) target.session) }
-    ensures stopped { IfErr result (λ halt. Spans Q.tells (around Q.Platform T.Tape L.Sink to.old tape.old ledger.old)
-        (around Q.Platform T.Tape L.Sink to.new tape.new ledger.new) ⊥) }
-    ensures blame { (from output : ℕ) → Blames (counts from (Q.faults to.old) (T.faults tape.old) output (L.faults ledger.old))
-        (counts from (Q.faults to.new) (T.faults tape.new) output (L.faults ledger.new)) result }
-    ensures stops { IfErr result IsOfOpening }
+    ensures target { OpensTarget Q.Platform T.Tape L.Sink to.old to.new tape.old tape.new ledger.old ledger.new blocks order result }
+    ensures there { LookedThere Q.tells (Q.history to.old).present result }
 {
     match mount_session(alloc, to, CACHED_NODES) {
         Ok(Some(session)) => Ok(Target {
@@ -66,13 +57,8 @@ fn make_target<Q: Platform, T: Tape, L: Sink>(
     requires sized { (1 ≤ blocks) × (blocks ≤ 1048576) }
     requires ordered { (4 ≤ order) × (order ≤ 64) × (order % 2 ≡ 0) }
     requires empty { Q.tells → (Q.history to.old).present.cell ≡ None }
-    ensures opened { IfOk result (λ target. Opens Q.tells blocks order (around Q.Platform T.Tape L.Sink to.old tape.old ledger.old)
-        (around Q.Platform T.Tape L.Sink to.new tape.new ledger.new) target.session) }
-    ensures stopped { IfErr result (λ halt. Spans Q.tells (around Q.Platform T.Tape L.Sink to.old tape.old ledger.old)
-        (around Q.Platform T.Tape L.Sink to.new tape.new ledger.new) ⊥) }
-    ensures blame { (from output : ℕ) → Blames (counts from (Q.faults to.old) (T.faults tape.old) output (L.faults ledger.old))
-        (counts from (Q.faults to.new) (T.faults tape.new) output (L.faults ledger.new)) result }
-    ensures stops { IfErr result IsOfOpening }
+    ensures target { OpensTarget Q.Platform T.Tape L.Sink to.old to.new tape.old tape.new ledger.old ledger.new blocks order result }
+    ensures there { Q.tells → result ≡ Err (Halt.To DeviceStop.BadRoot) → ⊥ }
 {
     match format(alloc, to, tape, ledger, blocks, order) {
         Ok(()) => {}

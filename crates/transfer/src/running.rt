@@ -1,20 +1,20 @@
 //! A run: the device that is moved, the one that it comes to, and the last line.
-ghost use Rattle.std.specs.Prelude.{◌≡◌, ◌<◌, ◌≤◌, ℕ, All, None, Some, Result, IfErr, IsOk, List, Option};
+ghost use Rattle.std.specs.Prelude.{◌≡◌, ◌-◌, ◌<◌, ℕ, None, Some, IfErr, IfOk, IsOk, IsTrue, Option};
 ghost use Rattle.device_course.specs.States.{around};
-ghost use Rattle.device_session.specs.Open.{blocks_of};
 ghost use Rattle.session_calls.specs.Along.{Along, Drawn};
-ghost use Rattle.session_calls.specs.Carrying.{Carries, IsReady};
+ghost use Rattle.session_calls.specs.Carrying.{IsReady};
 ghost use Rattle.std.specs.FinMap as map;
 ghost use Rattle.sdbt_base.specs.Arrays.{Device, mounted, session_on};
 ghost use Rattle.device_course.specs.States.{IsAt};
-ghost use Rattle.transfer.specs.Copies.{blank_of};
-ghost use Rattle.transfer.specs.Moving.{Fills};
+ghost use Rattle.page_store.specs.Stands.{Stands};
+ghost use Rattle.device_terms.specs.Served.{IsServedImage};
+ghost use Rattle.transfer.specs.Copies.{IsAlike, blank_of};
+ghost use Rattle.transfer.specs.Moving.{IsShort, Matches, Moves, Reaches, Went};
+ghost use Rattle.transfer.specs.Both.{AreReady, FillsBoth, ReadsBoth};
 ghost use Rattle.transfer.specs.Counts.{counts};
-ghost use Rattle.transfer.specs.Halts.{Blames, EndsAs};
+ghost use Rattle.transfer.specs.Halts.{Blames};
 ghost use Rattle.session_calls.specs.Spans.{Spans};
-ghost use Rattle.transfer.specs.Running.{Clears, IsBehindMount, Looked, MeetsWrong, alone};
-ghost use Rattle.transfer.specs.declared.halts.Halt.{Halt};
-ghost use Rattle.transfer.specs.declared.halts.Moved.{Moved};
+ghost use Rattle.transfer.specs.Running.{Clears, HasMapped, IsBehindMount, Looked, LookedThere, MeetsWrong, alone};
 
 use crate::copying::{commit_target, copy_blocks};
 use crate::halts::{Halt, Moved, put_last_line, put_moved};
@@ -45,8 +45,7 @@ pub(crate) fn run<P: Platform, Q: Platform, T: Tape, O: Sink, L: Sink>(
         (around Q.Platform T.Tape L.Sink to.new tape.new ledger.new) (IsOk result) }
     ensures blame { Blames (counts (P.faults from.old) (Q.faults to.old) (T.faults tape.old) (O.faults output.old) (L.faults ledger.old))
         (counts (P.faults from.new) (Q.faults to.new) (T.faults tape.new) (O.faults output.new) (L.faults ledger.new)) result }
-    ensures ran { (moved : Result Moved Halt) × EndsAs moved result (O.written output.old) (O.written output.new)
-        × IfErr moved (MeetsWrong P.tells Q.tells (P.history from.new).present (Q.history to.new).present) × Looked P.tells (P.history from.old).present moved }
+    ensures went { Went P.tells Q.tells (P.history from.old) (P.history from.new) (Q.history to.old) (Q.history to.new) (Q.capacity to.old - Q.head to.old) result (O.written output.old) (O.written output.new) }
 {
     match move_device(alloc, from, to, tape, ledger) {
         Ok(moved) => put_moved(&moved, output),
@@ -70,6 +69,12 @@ fn move_device<P: Platform, Q: Platform, T: Tape, L: Sink>(
     // On any pages: which record is named.
     ensures wrong { IfErr result (MeetsWrong P.tells Q.tells (P.history from.new).present (Q.history to.new).present) }
     ensures looked { Looked P.tells (P.history from.old).present result }
+    ensures there { LookedThere Q.tells (Q.history to.old).present result }
+    ensures mapped { IfOk result (λ moved. P.tells → HasMapped (P.history from.old).present moved.blocks) }
+    // From one device to another one, or to none.
+    ensures leads { P.tells → Q.tells → (device : Device) (there : Option Device) → Stands (P.history from.old).present (Some device) → IsServedImage (P.history from.old).present
+        → Stands (Q.history to.old).present there → IsServedImage (Q.history to.old).present
+        → Moves (P.history from.old) (P.history from.new) (Q.history to.old) (Q.history to.new) device there (IsShort device 1 (Q.capacity to.old - Q.head to.old)) result }
 {
     match mount_session(alloc, from, CACHED_NODES) {
         Ok(Some(source)) => move_session(alloc, source, from, to, tape, ledger),
@@ -94,14 +99,16 @@ fn move_session<P: Platform, Q: Platform, T: Tape, L: Sink>(
     ensures blame { (output : ℕ) → Blames (counts (P.faults from.old) (Q.faults to.old) (T.faults tape.old) output (L.faults ledger.old))
         (counts (P.faults from.new) (Q.faults to.new) (T.faults tape.new) output (L.faults ledger.new)) result }
     ensures wrong { IfErr result (MeetsWrong P.tells Q.tells (P.history from.new).present (Q.history to.new).present) }
+    ensures leads { P.tells → Q.tells → (device : Device) (there : Option Device) → IsAt (P.history from.old).present (Some first) (mounted device (session_on device))
+        → Stands (Q.history to.old).present there → IsServedImage (Q.history to.old).present
+        → Moves (P.history from.old) (P.history from.new) (Q.history to.old) (Q.history to.new) device there (IsShort device 1 (Q.capacity to.old - Q.head to.old)) result }
+    ensures mapped { IfOk result (λ moved. moved.blocks ≡ first.mapped) }
+    ensures there { LookedThere Q.tells (Q.history to.old).present result }
     ensures behind { IfErr result IsBehindMount }
 {
     let mut source = first;
     let blocks = source.mapped();
-    let number = match fill(alloc, &mut source, from, to, tape, ledger) {
-        Ok(number) => number,
-        Err(halt) => return Err(halt),
-    };
+    let number = fill(alloc, &mut source, from, to, tape, ledger)?;
     match clear(from) {
         Ok(()) => Ok(Moved { blocks, number }),
         Err(_) => Err(Halt::From(DeviceStop::Platform)),
@@ -124,23 +131,25 @@ fn fill<P: Platform, Q: Platform, T: Tape, L: Sink>(
     ensures blame { (output : ℕ) → Blames (counts (P.faults from.old) (Q.faults to.old) (T.faults tape.old) output (L.faults ledger.old))
         (counts (P.faults from.new) (Q.faults to.new) (T.faults tape.new) output (L.faults ledger.new)) result }
     ensures wrong { IfErr result (MeetsWrong P.tells Q.tells (P.history from.new).present (Q.history to.new).present) }
+    ensures leads { P.tells → Q.tells → (device : Device) (there : Option Device) → IsAt (P.history from.old).present (Some source.old) (mounted device (session_on device))
+        → Stands (Q.history to.old).present there → IsServedImage (Q.history to.old).present
+        → Reaches (Q.history to.old) (Q.history to.new) device there (IsShort device 1 (Q.capacity to.old - Q.head to.old)) result }
+    ensures there { LookedThere Q.tells (Q.history to.old).present result }
     ensures behind { IfErr result IsBehindMount }
 {
     let blocks = source.blocks();
     let order = source.root().order;
-    match open_target(alloc, to, tape, ledger, blocks, order) {
-        Ok(target) => fill_target(
-            alloc,
-            source,
-            target.session,
-            target.is_new,
-            from,
-            to,
-            tape,
-            ledger,
-        ),
-        Err(halt) => Err(halt),
-    }
+    let target = open_target(alloc, to, tape, ledger, blocks, order)?;
+    fill_target(
+        alloc,
+        source,
+        target.session,
+        target.is_new,
+        from,
+        to,
+        tape,
+        ledger,
+    )
 }
 
 /// The same of the device that a session on `to` is open on.
@@ -156,21 +165,15 @@ fn fill_target<P: Platform, Q: Platform, T: Tape, L: Sink>(
 ) -> Result<u64, Halt>
     requires source { IsReady P.tells (alone P.Platform from.old) source.old }
     requires target { IsReady Q.tells (around Q.Platform T.Tape L.Sink to.old tape.old ledger.old) target }
-    ensures from { (any : Drawn) → Along P.Platform 0 from.old from.new any any source.old source.new }
-    ensures to { Carries Q.tells (around Q.Platform T.Tape L.Sink to.old tape.old ledger.old)
-        (around Q.Platform T.Tape L.Sink to.new tape.new ledger.new) target None (IsOk result) }
-    ensures blame { (output : ℕ) → Blames (counts (P.faults from.old) (Q.faults to.old) (T.faults tape.old) output (L.faults ledger.old))
-        (counts (P.faults from.new) (Q.faults to.new) (T.faults tape.new) output (L.faults ledger.new)) result }
-    ensures wrong { IfErr result (MeetsWrong P.tells Q.tells (P.history from.new).present (Q.history to.new).present) }
-    ensures behind { IfErr result IsBehindMount }
+    ensures both { FillsBoth P.Platform Q.Platform T.Tape L.Sink from.old from.new to.old to.new tape.old tape.new ledger.old ledger.new source.old source.new target result }
+    ensures leads { P.tells → Q.tells → (device there : Device) → IsAt (P.history from.old).present (Some source.old) (mounted device (session_on device))
+        → IsAt (Q.history to.old).present (Some target) (mounted there (session_on there)) → (IsTrue is_new → there ≡ blank_of device)
+        → Reaches (Q.history to.old) (Q.history to.new) device (Some there) (IsShort device 0 (Q.capacity to.old - Q.head to.old)) result }
 {
     if !is_alike(source, &target) {
         return Err(Halt::NotEmpty);
     }
-    let blocks = match list_source(alloc, source, from) {
-        Ok(blocks) => blocks,
-        Err(halt) => return Err(halt),
-    };
+    let blocks = list_source(alloc, source, from)?;
     if is_new {
         copy(&blocks, source, target, from, to, tape, ledger)
     } else {
@@ -189,25 +192,16 @@ fn fill_found<P: Platform, Q: Platform, T: Tape, L: Sink>(
     tape: &mut T,
     ledger: &mut L,
 ) -> Result<u64, Halt>
-    requires source { IsReady P.tells (alone P.Platform from.old) source.old }
-    requires target { IsReady Q.tells (around Q.Platform T.Tape L.Sink to.old tape.old ledger.old) found }
-    requires within { All (λ block. block < blocks_of source.old) blocks.now }
-    requires alike { blocks_of found ≡ blocks_of source.old }
-    ensures from { (any : Drawn) → Along P.Platform 0 from.old from.new any any source.old source.new }
-    ensures to { Carries Q.tells (around Q.Platform T.Tape L.Sink to.old tape.old ledger.old)
-        (around Q.Platform T.Tape L.Sink to.new tape.new ledger.new) found None (IsOk result) }
-    ensures blame { (output : ℕ) → Blames (counts (P.faults from.old) (Q.faults to.old) (T.faults tape.old) output (L.faults ledger.old))
-        (counts (P.faults from.new) (Q.faults to.new) (T.faults tape.new) output (L.faults ledger.new)) result }
-    ensures wrong { IfErr result (MeetsWrong P.tells Q.tells (P.history from.new).present (Q.history to.new).present) }
-    ensures behind { IfErr result IsBehindMount }
+    requires { AreReady P.tells Q.tells (alone P.Platform from.old) (around Q.Platform T.Tape L.Sink to.old tape.old ledger.old) source.old found blocks.now }
+    ensures both { FillsBoth P.Platform Q.Platform T.Tape L.Sink from.old from.new to.old to.new tape.old tape.new ledger.old ledger.new source.old source.new found result }
+    ensures leads { P.tells → Q.tells → (device there : Device) → IsAt (P.history from.old).present (Some source.old) (mounted device (session_on device))
+        → IsAt (Q.history to.old).present (Some found) (mounted there (session_on there)) → blocks.now ≡ map.keys device.contents → IsAlike device there
+        → Reaches (Q.history to.old) (Q.history to.new) device (Some there) (IsShort device 0 (Q.capacity to.old - Q.head to.old)) result }
 {
     let mut target = found;
     let number = target.number();
     let fresh = is_fresh(&target);
-    let has = match has_all(alloc, blocks, source, &mut target, from, to) {
-        Ok(has) => has,
-        Err(halt) => return Err(halt),
-    };
+    let has = has_all(alloc, blocks, source, &mut target, from, to)?;
     if has {
         return Ok(number);
     }
@@ -227,21 +221,13 @@ fn has_all<P: Platform, Q: Platform>(
     from: &mut P,
     to: &mut Q,
 ) -> Result<bool, Halt>
-    requires source { IsReady P.tells (alone P.Platform from.old) source.old }
-    requires target { IsReady Q.tells (alone Q.Platform to.old) target.old }
-    requires within { All (λ block. block < blocks_of source.old) blocks.now }
-    requires alike { blocks_of target.old ≡ blocks_of source.old }
-    ensures from { (any : Drawn) → Along P.Platform 0 from.old from.new any any source.old source.new }
-    ensures to { (any : Drawn) → Along Q.Platform 0 to.old to.new any any target.old target.new }
-    ensures blame { (tape output ledger : ℕ) → Blames (counts (P.faults from.old) (Q.faults to.old) tape output ledger)
-        (counts (P.faults from.new) (Q.faults to.new) tape output ledger) result }
-    ensures wrong { IfErr result (MeetsWrong P.tells Q.tells (P.history from.new).present (Q.history to.new).present) }
-    ensures behind { IfErr result IsBehindMount }
+    requires { AreReady P.tells Q.tells (alone P.Platform from.old) (alone Q.Platform to.old) source.old target.old blocks.now }
+    ensures both { ReadsBoth P.Platform Q.Platform from.old from.new to.old to.new source.old source.new target.old target.new result }
+    ensures leads { P.tells → Q.tells → (device there : Device) → IsAt (P.history from.old).present (Some source.old) (mounted device (session_on device))
+        → IsAt (Q.history to.old).present (Some target.old) (mounted there (session_on there)) → blocks.now ≡ map.keys device.contents
+        → Matches (P.history from.new).present (Q.history to.new).present source.new target.new device there (session_on device) (session_on there) (there.contents ≡ device.contents) result }
 {
-    let others = match list_target(alloc, target, to) {
-        Ok(others) => others,
-        Err(halt) => return Err(halt),
-    };
+    let others = list_target(alloc, target, to)?;
     if others.as_slice() == blocks {
         has_same(blocks, source, target, from, to)
     } else {
@@ -259,24 +245,13 @@ fn copy<P: Platform, Q: Platform, T: Tape, L: Sink>(
     tape: &mut T,
     ledger: &mut L,
 ) -> Result<u64, Halt>
-    requires source { IsReady P.tells (alone P.Platform from.old) source.old }
-    requires target { IsReady Q.tells (around Q.Platform T.Tape L.Sink to.old tape.old ledger.old) first }
-    requires within { All (λ block. block < blocks_of source.old) blocks.now }
-    requires alike { blocks_of first ≡ blocks_of source.old }
-    ensures from { (any : Drawn) → Along P.Platform 0 from.old from.new any any source.old source.new }
-    ensures to { Carries Q.tells (around Q.Platform T.Tape L.Sink to.old tape.old ledger.old)
-        (around Q.Platform T.Tape L.Sink to.new tape.new ledger.new) first None (IsOk result) }
-    ensures blame { (output : ℕ) → Blames (counts (P.faults from.old) (Q.faults to.old) (T.faults tape.old) output (L.faults ledger.old))
-        (counts (P.faults from.new) (Q.faults to.new) (T.faults tape.new) output (L.faults ledger.new)) result }
-    ensures wrong { IfErr result (MeetsWrong P.tells Q.tells (P.history from.new).present (Q.history to.new).present) }
+    requires { AreReady P.tells Q.tells (alone P.Platform from.old) (around Q.Platform T.Tape L.Sink to.old tape.old ledger.old) source.old first blocks.now }
+    ensures both { FillsBoth P.Platform Q.Platform T.Tape L.Sink from.old from.new to.old to.new tape.old tape.new ledger.old ledger.new source.old source.new first result }
     ensures leads { P.tells → Q.tells → (device there : Device) → IsAt (P.history from.old).present (Some source.old) (mounted device (session_on device))
         → IsAt (Q.history to.old).present (Some first) (mounted there (session_on there)) → blocks.now ≡ map.keys device.contents → there ≡ blank_of device
-        → Fills (Q.history to.old) (Q.history to.new) device there result }
-    ensures behind { IfErr result IsBehindMount }
+        → Reaches (Q.history to.old) (Q.history to.new) device (Some there) (IsShort device 0 (Q.capacity to.old - Q.head to.old)) result }
 {
     let mut target = first;
-    match copy_blocks(blocks, source, &mut target, from, to, tape) {
-        Ok(()) => commit_target(target, to, tape, ledger),
-        Err(halt) => Err(halt),
-    }
+    copy_blocks(blocks, source, &mut target, from, to, tape)?;
+    commit_target(target, to, tape, ledger)
 }

@@ -1,5 +1,5 @@
 //! Calls on either side, each with the halt of its side.
-ghost use Rattle.std.specs.Prelude.{◌≡◌, ◌<◌, ◌≤◌, ℕ, All, None, Some, IfErr, IfOk, List, Option, length};
+ghost use Rattle.std.specs.Prelude.{◌≡◌, ◌<◌, ◌≤◌, ℕ, All, Some, Err, IfErr, IfOk, length};
 ghost use Rattle.device_session.specs.Open.{blocks_of};
 ghost use Rattle.session_calls.specs.Along.{Along, Drawn, drawn_by};
 ghost use Rattle.session_calls.specs.Carrying.{IsReady};
@@ -8,7 +8,7 @@ ghost use Rattle.transfer.specs.Halts.{Blames};
 ghost use Rattle.std.specs.FinMap as map;
 ghost use Rattle.sdbt_base.specs.Arrays.{Device, Session as OpenSession, mounted, written};
 ghost use Rattle.device_course.specs.States.{IsAt};
-ghost use Rattle.transfer.specs.Moving.{IsSoundHalt, ReadsHere, WritesHere};
+ghost use Rattle.transfer.specs.Moving.{IsReadHalt, ReadsHere, WritesHere};
 ghost use Rattle.transfer.specs.Running.{HaltsFrom, HaltsTo, alone};
 
 use crate::halts::Halt;
@@ -59,6 +59,7 @@ pub(crate) fn read_target<Q: Platform>(
     ensures wrong { IfErr result (HaltsTo Q.tells (Q.history to.new).present) }
     ensures leads { Q.tells → (there : Device) (array : OpenSession) → IsAt (Q.history to.old).present (Some target.old) (mounted there array)
         → ReadsHere (Q.history to.new).present target.new there array block out.new result }
+    ensures size { length out.new ≡ 4096 }
 {
     match read_block(target, to, block, out) {
         Ok(()) => Ok(()),
@@ -80,6 +81,7 @@ pub(crate) fn write_target<Q: Platform, T: Tape>(
     ensures along { Along Q.Platform 1 to.old to.new (drawn_by T.Tape tape.old) (drawn_by T.Tape tape.new) target.old target.new }
     ensures blame { (from output ledger : ℕ) → Blames (counts from (Q.faults to.old) (T.faults tape.old) output ledger)
         (counts from (Q.faults to.new) (T.faults tape.new) output ledger) result }
+    ensures full { result ≡ Err Halt.Full → Q.head to.new ≡ Q.capacity to.new }
     ensures wrong { IfErr result (HaltsTo Q.tells (Q.history to.new).present) }
     ensures leads { Q.tells → (there : Device) (array : OpenSession) → IsAt (Q.history to.old).present (Some target.old) (mounted there array)
         → WritesHere (Q.history to.new).present target.new there (written array block content.now) result }
@@ -105,8 +107,9 @@ pub(crate) fn list_source<P: Platform>(
     ensures blame { (to tape output ledger : ℕ) → Blames (counts (P.faults from.old) to tape output ledger)
         (counts (P.faults from.new) to tape output ledger) result }
     ensures wrong { IfErr result (HaltsFrom P.tells (P.history from.new).present) }
+    ensures image { P.tells → (P.history from.new).present ≡ (P.history from.old).present }
     ensures lists { P.tells → (there : Device) (array : OpenSession) → IsAt (P.history from.old).present (Some source.now) (mounted there array)
-        → IfOk result (λ blocks. blocks.items ≡ map.keys there.contents) × IfErr result IsSoundHalt }
+        → IfOk result (λ blocks. blocks.items ≡ map.keys there.contents) × IfErr result IsReadHalt }
 {
     match list_blocks(alloc, source, from) {
         Ok(blocks) => Ok(blocks),
@@ -125,8 +128,9 @@ pub(crate) fn list_target<Q: Platform>(
     ensures blame { (from tape output ledger : ℕ) → Blames (counts from (Q.faults to.old) tape output ledger)
         (counts from (Q.faults to.new) tape output ledger) result }
     ensures wrong { IfErr result (HaltsTo Q.tells (Q.history to.new).present) }
+    ensures image { Q.tells → (Q.history to.new).present ≡ (Q.history to.old).present }
     ensures lists { Q.tells → (there : Device) (array : OpenSession) → IsAt (Q.history to.old).present (Some target.now) (mounted there array)
-        → IfOk result (λ blocks. blocks.items ≡ map.keys there.contents) × IfErr result IsSoundHalt }
+        → IfOk result (λ blocks. blocks.items ≡ map.keys there.contents) × IfErr result IsReadHalt }
 {
     match list_blocks(alloc, target, to) {
         Ok(blocks) => Ok(blocks),

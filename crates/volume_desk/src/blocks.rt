@@ -5,9 +5,11 @@ ghost use Rattle.device_course.specs.Held.{Held};
 ghost use Rattle.session_calls.specs.Along.{Drawn, drawn_by};
 ghost use Rattle.session_calls.specs.Damage.{IsMounted, MeetsDamage};
 ghost use Rattle.volume_table.specs.Tables.{IsTable};
+ghost use Rattle.volume_lines.specs.Lines as lines;
 ghost use Rattle.volume_lines.specs.Replies.{CanWrite, FitsBlock, IsWords, said};
 ghost use Rattle.volume_terms.specs.Turn.{OnBlock, Reads, Trims, Writes};
 ghost use Rattle.session_calls.specs.Calling.{Calls};
+ghost use Rattle.volume_desk.specs.Causes.{StopsBy};
 ghost use Rattle.volume_desk.specs.Turns.{IsBlockAt, IsHeld, NoBlock, TurnsTo};
 
 use device_session::Session;
@@ -52,7 +54,7 @@ pub(crate) fn read<P: Platform>(
     ensures turns { P.tells → (entry : Held) → IsHeld (P.history platform.old).present (P.head platform.old) session.old table.now entry
         → TurnsTo (P.history platform.new).present (P.head platform.new) table.now session.new entry
         (λ reply next. OnBlock table.now entry name.now block Reads reply next) buffer.new result }
-    ensures damage { P.tells → IsMounted (P.history platform.old).present session.old → IfErr result (MeetsDamage (P.history platform.new).present) }
+    ensures stops { IfErr result (StopsBy (P.tells × IsMounted (P.history platform.old).present session.old) (P.history platform.new).present (lines.Read name.now block)) }
 {
     match block_of(table, name, block) {
         Err(reply) => Ok(reply),
@@ -112,7 +114,7 @@ pub(crate) fn trim<P: Platform>(
     ensures turns { P.tells → (entry : Held) (buffer : List ℕ) → IsHeld (P.history platform.old).present (P.head platform.old) session.old table.now entry
         → TurnsTo (P.history platform.new).present (P.head platform.new) table.now session.new entry
         (λ reply next. OnBlock table.now entry name.now block Trims reply next) buffer result }
-    ensures damage { P.tells → IsMounted (P.history platform.old).present session.old → IfErr result (MeetsDamage (P.history platform.new).present) }
+    ensures stops { IfErr result (StopsBy (P.tells × IsMounted (P.history platform.old).present session.old) (P.history platform.new).present (lines.Trim name.now block)) }
 {
     match block_of(table, name, block) {
         Err(reply) => Ok(reply),

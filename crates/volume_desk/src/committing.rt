@@ -13,6 +13,7 @@ ghost use Rattle.volume_lines.specs.Lines as lines;
 ghost use Rattle.volume_lines.specs.Replies.{IsWords};
 ghost use Rattle.session_calls.specs.Calling.{Calls};
 ghost use Rattle.session_calls.specs.Carrying.{Carries, IsReady};
+ghost use Rattle.volume_desk.specs.Causes.{StopsBy};
 ghost use Rattle.volume_desk.specs.Turns.{IsHeld, ServesAs, TakesOut, commit_reply, destroy_reply, goes_on};
 
 use crate::changing::change;
@@ -41,7 +42,7 @@ pub(crate) fn commit<P: Platform, T: Tape, L: Sink>(
         → IsHeld (P.history platform.old).present (P.head platform.old) session table entry
         → ServesAs (around P.Platform T.Tape L.Sink platform.old tape.old ledger.old)
         (around P.Platform T.Tape L.Sink platform.new tape.new ledger.new) table table buffer entry lines.Commit result }
-    ensures sound { IfErr result (MeetsDamage (P.history platform.new).present) }
+    ensures stops { IfErr result (StopsBy P.tells (P.history platform.new).present lines.Commit) }
 {
     match commit_session(session, platform, tape, ledger) {
         Ok(done) => Ok(Answered {
@@ -82,7 +83,7 @@ pub(crate) fn destroy<P: Platform, T: Tape, L: Sink>(
         → IsHeld (P.history platform.old).present (P.head platform.old) first table.old entry
         → ServesAs (around P.Platform T.Tape L.Sink platform.old tape.old ledger.old)
         (around P.Platform T.Tape L.Sink platform.new tape.new ledger.new) table.old table.new buffer entry (lines.Destroy name.now) result }
-    ensures damage { P.tells → IfErr result (MeetsDamage (P.history platform.new).present) }
+    ensures stops { IfErr result (StopsBy P.tells (P.history platform.new).present (lines.Destroy name.now)) }
 {
     let mut session = first;
     let refused = match take_out(table, &mut session, platform, tape, name) {

@@ -6,7 +6,7 @@ ghost use Rattle.device_session.specs.Open.{IsOpen, blocks_of};
 ghost use Rattle.device_course.specs.Held.{Held};
 ghost use Rattle.session_calls.specs.Along.{drawn_by};
 ghost use Rattle.session_calls.specs.Blame.{IsBlamed};
-ghost use Rattle.session_calls.specs.Damage.{IsMounted, MeetsDamage};
+ghost use Rattle.session_calls.specs.Damage.{IsMounted};
 ghost use Rattle.volume_table.specs.Tables.{IsTable};
 ghost use Rattle.volume_lines.specs.Grammar.{Spells};
 ghost use Rattle.volume_lines.specs.Lines.{FitsBlock as FitsLine, asked};
@@ -14,6 +14,7 @@ ghost use Rattle.volume_lines.specs.Replies.{CanWrite, FitsBlock, said};
 ghost use Rattle.volume_terms.specs.Turn.{Serves};
 ghost use Rattle.session_calls.specs.Calling.{Calls};
 ghost use Rattle.session_calls.specs.Carrying.{Carries, IsReady};
+ghost use Rattle.volume_desk.specs.Causes.{StopsBy};
 ghost use Rattle.volume_desk.specs.Turns.{IsHeld, IsOfBlocks, ServesAs, TurnsTo, goes_on};
 
 use crate::blocks::{read, trim, write};
@@ -69,7 +70,7 @@ pub fn serve_line<P: Platform, T: Tape, L: Sink>(
         (around P.Platform T.Tape L.Sink platform.new tape.new ledger.new) desk.old.table desk.new.table desk.new.buffer entry
         (asked line.now desk.old.buffer) result }
     // On any pages: what it stops at.
-    ensures damage { P.tells → IfErr result (MeetsDamage (P.history platform.new).present) }
+    ensures stops { IfErr result (StopsBy P.tells (P.history platform.new).present (asked line.now desk.old.buffer)) }
 {
     match line {
         Line::Commit => return commit(first, platform, tape, ledger),
@@ -105,7 +106,8 @@ fn serve_blocks<P: Platform, T: Tape>(
     ensures turns { P.tells → (entry : Held) → IsHeld (P.history platform.old).present (P.head platform.old) session.old desk.old.table entry
         → TurnsTo (P.history platform.new).present (P.head platform.new) desk.new.table session.new entry
         (λ reply next. Serves (P.capacity platform.old) desk.old.table entry (asked line.now desk.old.buffer) reply next) desk.new.buffer result }
-    ensures damage { P.tells → IsMounted (P.history platform.old).present session.old → IfErr result (MeetsDamage (P.history platform.new).present) }
+    ensures stops { IfErr result (StopsBy (P.tells × IsMounted (P.history platform.old).present session.old) (P.history platform.new).present
+        (asked line.now desk.old.buffer)) }
 {
     match line {
         Line::Create { name, count } => {

@@ -5,15 +5,9 @@ ghost use Rattle.script_lang.specs.Grammar.{IsNumber, Spells};
 ghost use Rattle.text_lines.specs.Lines.{HasNone};
 ghost use Rattle.volume_table.specs.Names.{IsName};
 
-use script_lang::{Command, parse, parse_number};
+use script_lang::{parse_number, parse_write_operands};
 use sdbt_base::BLOCK;
 use volume_table::Name;
-
-/// The first word of a write, and the space behind it.
-const WRITE: &[u8; 6] = b"write ";
-
-/// The greatest length of a line.
-const LONGEST: usize = 8300;
 
 /// Whether a line is this text.
 pub(crate) fn is_text(line: &[u8], text: &[u8]) -> bool
@@ -55,7 +49,7 @@ pub(crate) fn parse_named_write(
         → Spells (codes "write " ++ rest) (commands.Write block content) → ⊥) }
 {
     let (name, at) = name_before(text)?;
-    let write = parse_write_behind(text_from(text, at), buffer)?;
+    let write = parse_write_operands(text_from(text, at), buffer)?;
     Some((name, write))
 }
 
@@ -75,39 +69,4 @@ fn split_word(text: &[u8]) -> Option<(&[u8], &[u8])>
     let space = text.iter().position(|byte| *byte == b' ')?;
     let (word, rest) = text.split_at(space);
     Some((word, &rest[1..]))
-}
-
-/// The block and the bytes of a write, of which this stands behind the first word and its space. The bytes come to the front of
-/// the buffer, and their number is answered.
-fn parse_write_behind(rest: &[u8], buffer: &mut [u8; BLOCK]) -> Option<(u64, usize)>
-    ensures found { IfSome result (λ it. Spells (codes "write " ++ rest.now) (commands.Write it.0 (take it.1 buffer.new)) × (it.1 ≤ 4096)) }
-    ensures none { IfNone result ((block : ℕ) (content : List ℕ) → Spells (codes "write " ++ rest.now) (commands.Write block content) → ⊥) }
-{
-    if rest.len() > LONGEST - WRITE.len() {
-        return None;
-    }
-    let mut line = [0; LONGEST];
-    put_write(rest, &mut line);
-    as_write(parse(&line[..WRITE.len() + rest.len()], buffer)?)
-}
-
-/// Puts the first word of a write, a space, and what stands behind it at the front of a line.
-fn put_write(rest: &[u8], line: &mut [u8])
-    requires { 6 + length rest.now ≤ length line.old }
-    ensures { take (6 + length rest.now) line.new ≡ codes "write " ++ rest.now }
-{
-    let end = WRITE.len() + rest.len();
-    line[..WRITE.len()].copy_from_slice(WRITE);
-    line[WRITE.len()..end].copy_from_slice(rest);
-}
-
-/// The block and the number of bytes of a command that is a write.
-fn as_write(command: Command) -> Option<(u64, usize)>
-    ensures found { IfSome result (λ it. command ≡ Command.Write it.0 it.1) }
-    ensures none { IfNone result ((block count : ℕ) → command ≢ Command.Write block count) }
-{
-    match command {
-        Command::Write { block, count } => Some((block, count)),
-        _ => None,
-    }
 }

@@ -7,12 +7,12 @@ use Rattle.sdbt_base.specs.Arrays.{Device, closed}
 use Rattle.sdbt_base.specs.Told.{Got, GotPart}
 use Rattle.sdbt_base.proofs.ToldLaws.{Got-nothing, Got-then}
 use Rattle.platform.specs.Image.{Image}
-use Rattle.platform.specs.History.{Extends, History, image_at, moment}
+use Rattle.platform.specs.History.{Extends, History, moment}
 use Rattle.platform.proofs.Moments.{image_at-now}
 use Rattle.device_course.specs.States.{IsLater, Outside}
 use Rattle.device_course.proofs.MadeLaws.{made_again, made_start, made_then, shut}
 use Rattle.device_session.specs.Sessions.{Session}
-use Rattle.line_run.specs.Puts.{HasPut}
+use Rattle.line_run.specs.Puts.{HasPut, IsBehind, no_line}
 use Rattle.line_run.specs.Stops.{Ending, IsOfLine}
 use Rattle.line_run.specs.declared.stop.Stop.{Stop}
 use Rattle.line_run.specs.declared.stop.Stop.TheVariants as stops
@@ -31,9 +31,10 @@ use Rattle.volume_lines.specs.Replies.{Reply, Bad, line_of}
 use Rattle.volume_terms.specs.Turn.{Turn}
 use Rattle.volume_terms.specs.Volumes.{IsTabled}
 use Rattle.device_course.specs.Course.{MadeBetween}
+use Rattle.volume_desk.specs.Causes.{MayStop}
 use Rattle.volume_desk.specs.Turns.{IsHeld, Served, Shows, Stopped, StopsAt}
 use Rattle.volume_serving.specs.World.{World, IsOn}
-use Rattle.volume_serving.specs.Handled.{ending_of, goes_on, AreMany, AreShown, EndsOn, Handled, IfNext, OnLines, Replied}
+use Rattle.volume_serving.specs.Handled.{ending_of, goes_on, AreMany, AreShown, EndsOn, Handled, IfNext, IsStopOf, OnLines, Replied}
 
 -- ---- nothing
 
@@ -59,7 +60,7 @@ pub handled_nothing : (tells : Type 0) (w : World) (written : Option (List ℕ))
 handled_nothing tells w written fits = record {
   put = [];
   got = Got-nothing written;
-  replied = record { replies = []; part = []; put_is = refl; behind = refl; many = refl; later = later_none w.outside fits; led = λ told entry on. on_nothing w entry on };
+  replied = record { replies = []; part = []; put_is = refl; behind = refl; many = refl; stopped = tt; later = later_none w.outside fits; led = λ told entry on. on_nothing w entry on };
 }
 
 -- ---- lines behind others
@@ -98,6 +99,13 @@ ends_behind new capacity last lines more replies others part ahead (Err (stops.D
 ends_behind new capacity last lines more replies others part ahead (Err (stops.Device device.Memory)) same ends = ends
 ends_behind new capacity last lines more replies others part ahead (Err (stops.Device device.BadRoot)) same ends = absurd ends
 ends_behind new capacity last lines more replies others part ahead (Err (stops.Device (device.BadRecord addr))) same ends = absurd ends
+
+stopped_behind : (lines more : List (List ℕ)) (replies others : List Reply) (ending : Ending) → length replies ≡ length lines → IsStopOf more others ending → IsStopOf (lines ++ more) (replies ++ others) ending
+stopped_behind lines more replies others (Ok done) same stopped = tt
+stopped_behind lines more replies others (Err stops.Source) same stopped = tt
+stopped_behind lines more replies others (Err stops.Limit) same stopped = tt
+stopped_behind lines more replies others (Err stops.Sink) same stopped = tt
+stopped_behind lines more replies others (Err (stops.Device stop)) same stopped = next_behind lines more replies others (λ text. (it : Line) × Spells text it × MayStop it stop) same stopped
 
 -- from an earlier moment on
 pub shown_from : (new : History) (low from : ℕ) (replies : List Reply) (states : List Held) → low ≤ from → AreShown new from replies states → AreShown new low replies states
@@ -189,6 +197,7 @@ replied_then tells old mid new ending lines more put others one two =
       behind = two.behind;
       many = subst (λ (n : ℕ). AreMany n (length (lines ++ more)) ending) (sym (length-append one.replies two.replies))
           (subst (λ (n : ℕ). AreMany (length one.replies + length two.replies) n ending) (sym (length-append lines more)) (many_then (length one.replies) (length two.replies) (length lines) (length more) ending one.many two.many));
+      stopped = stopped_behind lines more one.replies two.replies ending one.many two.stopped;
       later = later_then old.outside mid.outside new.outside one.later two.later;
       led = λ told entry on. on_then old mid new entry lines more one.replies two.replies two.part ending one.later.capacity one.many
           (subst (λ (p : List ℕ). OnLines old mid entry lines one.replies p (Ok tt)) one.behind (one.led told entry on)) (λ last there. two.led told last there);
@@ -209,6 +218,12 @@ many_longer replies lines more stops.Source line many = absurd line
 many_longer replies lines more stops.Limit line many = absurd line
 many_longer replies lines more stops.Sink line many = omega (arith, many)
 many_longer replies lines more (stops.Device stop) line many = omega (arith, many)
+
+stopped_longer : (lines more : List (List ℕ)) (replies : List Reply) (stop : Stop) → IsOfLine stop → IsStopOf lines replies (Err stop) → IsStopOf (lines ++ more) replies (Err stop)
+stopped_longer lines more replies stops.Source line stopped = tt
+stopped_longer lines more replies stops.Limit line stopped = tt
+stopped_longer lines more replies stops.Sink line stopped = tt
+stopped_longer lines more replies (stops.Device stop) line stopped = next_longer lines more replies (λ text. (it : Line) × Spells text it × MayStop it stop) stopped
 
 ends_longer : (new : World) (capacity : ℕ) (last : Held) (lines more : List (List ℕ)) (replies : List Reply) (part : List ℕ) (ahead : List Held) (stop : Stop) → IsOfLine stop
     → EndsOn new capacity last lines replies part ahead (Err stop) → EndsOn new capacity last (lines ++ more) replies part ahead (Err stop)
@@ -243,6 +258,7 @@ handled_longer tells old new stop lines more a b line p =
         put_is = r.put_is;
         behind = r.behind;
         many = subst (λ (n : ℕ). AreMany (length r.replies) n (Err stop)) (sym (length-append lines more)) (many_longer (length r.replies) (length lines) (length more) stop line r.many);
+        stopped = stopped_longer lines more r.replies stop line r.stopped;
         later = r.later;
         led = λ told entry on. on_longer old new entry lines more r.replies r.part stop line (r.led told entry on);
       };
@@ -306,6 +322,7 @@ line_put tells old new now text reply a b going later turns got = record {
     put_is = sym (append-nil (line_of reply ++ []) ∙ append-nil (line_of reply));
     behind = refl;
     many = refl;
+    stopped = tt;
     later = later;
     led = λ told entry on.
         let t = turns told entry on in
@@ -331,6 +348,7 @@ line_cut tells old new now image head table_now text reply a b later turns (n, g
     put_is = refl;
     behind = inl (reply, (n, refl));
     many = omega arith;
+    stopped = tt;
     later = later;
     led = λ told entry on.
         let t = turns told entry on in
@@ -355,10 +373,10 @@ stop_ends new capacity table entry text it ahead device.BadRoot spelled tabled i
 stop_ends new capacity table entry text it ahead (device.BadRecord addr) spelled tabled is = absurd is
 
 -- the device stopped at it
-pub line_stop : (tells : Type 0) (old new : World) (session : Session) (text : List ℕ) (it : Line) (stop : DeviceStop) (a : Option (List ℕ)) → old.session ≡ Some session → Spells text it → IsLater old.outside new.outside
+pub line_stop : (tells : Type 0) (old new : World) (session : Session) (text : List ℕ) (it : Line) (stop : DeviceStop) (a : Option (List ℕ)) → old.session ≡ Some session → Spells text it → MayStop it stop → IsLater old.outside new.outside
     → (tells → (entry : Held) → IsHeld old.outside.history.present old.outside.head session old.table entry → Stopped old.outside new.outside old.table entry it stop)
     → Handled tells old new (Err (stops.Device stop)) (text ∷ []) a a
-line_stop tells old new session text it stop a going spelled later stopped = record {
+line_stop tells old new session text it stop a going spelled may later stopped = record {
   put = [];
   got = Got-nothing a;
   replied = record {
@@ -367,6 +385,7 @@ line_stop tells old new session text it stop a going spelled later stopped = rec
     put_is = refl;
     behind = refl;
     many = omega arith;
+    stopped = (it, spelled, may);
     later = later;
     led = λ told entry on.
         let same : on.session ≡ session = let e : Some on.session ≡ Some session = sym on.going ∙ going in cc in
@@ -402,34 +421,29 @@ on_cut old new entry lines replies part on = (
   record { ahead = on.ahead; led = on.led; ends = on.ends; shown = on.shown },
 )
 
+-- a run that handled its lines, and ended so behind them
+handled_ended : (tells : Type 0) (old new : World) (ending : Ending) (lines : List (List ℕ)) (a b : Option (List ℕ)) (p : Handled tells old new (Ok tt) lines a b) → IsBehind line_of no_line p.replied.part ending
+    → AreMany (length p.replied.replies) (length lines) ending → IsStopOf lines p.replied.replies ending
+    → ((entry : Held) → OnLines old new entry lines p.replied.replies p.replied.part (Ok tt) → OnLines old new entry lines p.replied.replies p.replied.part ending) → Handled tells old new ending lines a b
+handled_ended tells old new ending lines a b p behind many stopped on = let r = p.replied in record {
+  put = p.put;
+  got = p.got;
+  replied = record {
+    replies = r.replies;
+    part = r.part;
+    put_is = r.put_is;
+    behind = behind;
+    many = many;
+    stopped = stopped;
+    later = r.later;
+    led = λ told entry there. on entry (r.led told entry there);
+  };
+}
+
 pub handled_cut : (tells : Type 0) (old new : World) (lines : List (List ℕ)) (a b : Option (List ℕ)) → Handled tells old new (Ok tt) lines a b → Handled tells old new (Err stops.Source) lines a b × Handled tells old new (Err stops.Limit) lines a b
 handled_cut tells old new lines a b p = let r = p.replied in (
-  record {
-    put = p.put;
-    got = p.got;
-    replied = record {
-      replies = r.replies;
-      part = r.part;
-      put_is = r.put_is;
-      behind = r.behind;
-      many = r.many;
-      later = r.later;
-      led = λ told entry on. (on_cut old new entry lines r.replies r.part (r.led told entry on)).0;
-    };
-  },
-  record {
-    put = p.put;
-    got = p.got;
-    replied = record {
-      replies = r.replies;
-      part = r.part;
-      put_is = r.put_is;
-      behind = r.behind;
-      many = r.many;
-      later = r.later;
-      led = λ told entry on. (on_cut old new entry lines r.replies r.part (r.led told entry on)).1;
-    };
-  },
+  handled_ended tells old new (Err stops.Source) lines a b p r.behind r.many tt (λ entry on. (on_cut old new entry lines r.replies r.part on).0),
+  handled_ended tells old new (Err stops.Limit) lines a b p r.behind r.many tt (λ entry on. (on_cut old new entry lines r.replies r.part on).1),
 )
 
 -- ---- how many replies there are
@@ -442,7 +456,7 @@ count_then tells old mid new ending lines more a b c p q = omega (arith, length-
 
 pub count_cut : (tells : Type 0) (old new : World) (lines : List (List ℕ)) (a b : Option (List ℕ)) (p : Handled tells old new (Ok tt) lines a b)
     → (length p.replied.replies ≤ length (handled_cut tells old new lines a b p).0.replied.replies) × (length p.replied.replies ≤ length (handled_cut tells old new lines a b p).1.replied.replies)
-unfolding handled_cut
+unfolding handled_cut handled_ended
 count_cut tells old new lines a b p = (omega arith, omega arith)
 
 -- what is said of lines adds up

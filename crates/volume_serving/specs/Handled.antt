@@ -11,9 +11,12 @@ use Rattle.device_session.specs.Sessions.{Session}
 use Rattle.device_course.specs.Held.{Held, device_of}
 use Rattle.device_course.specs.Leading.{Led, last_of}
 use Rattle.session_calls.specs.declared.stops.DeviceStop.TheVariants as device
+use Rattle.volume_lines.specs.Grammar.{Spells}
+use Rattle.volume_lines.specs.Lines.{Line}
 use Rattle.volume_lines.specs.Replies.{Reply, line_of}
 use Rattle.volume_terms.specs.Turn.{Turn}
 use Rattle.device_course.specs.Course.{MadeBetween}
+use Rattle.volume_desk.specs.Causes.{MayStop}
 use Rattle.volume_desk.specs.Turns.{Shows}
 use Rattle.volume_serving.specs.World.{World, IsOn}
 
@@ -54,6 +57,14 @@ EndsOn new capacity last lines replies part ahead (Err (stops.Device device.Memo
 EndsOn new capacity last lines replies part ahead (Err (stops.Device device.BadRoot)) = ⊥
 EndsOn new capacity last lines replies part ahead (Err (stops.Device (device.BadRecord addr))) = ⊥
 
+-- the line in hand, where the device stopped the run, is one that may stop so
+abbrev pub IsStopOf : List (List ℕ) → List Reply → Ending → Type 0
+IsStopOf lines replies (Err (stops.Device stop)) = IfNext replies lines (λ text. (it : Line) × Spells text it × MayStop it stop)
+IsStopOf lines replies (Ok done) = Unit {0}
+IsStopOf lines replies (Err stops.Source) = Unit {0}
+IsStopOf lines replies (Err stops.Limit) = Unit {0}
+IsStopOf lines replies (Err stops.Sink) = Unit {0}
+
 -- behind each reply there is a moment, in their order and from this one on, at which the image stands for the device of the reply's state; and behind a volume that was destroyed the
 -- root record is of all the pages that there are then
 abbrev pub AreShown : History → ℕ → List Reply → List Held → Type 0
@@ -76,6 +87,7 @@ pub record Replied (tells : Type 0) (old new : World) (ending : Ending) (lines :
   pub put_is : put ≡ flat_map line_of replies ++ part
   pub behind : IsBehind line_of no_line part ending
   pub many : AreMany (length replies) (length lines) ending
+  pub stopped : IsStopOf lines replies ending
   pub later : IsLater old.outside new.outside
   pub led : tells → (entry : Held) → IsOn old entry → OnLines old new entry lines replies part ending
 

@@ -122,6 +122,7 @@ answers_since Earlier From first second third ending left left_now written writt
   got = answers.got;
   behind = answers.behind;
   many = answers.many;
+  stopped = answers.stopped;
   prompt = answers.prompt;
   session = answers.session;
   table = answers.table;
@@ -276,6 +277,7 @@ answers_behind tells old mid new first now after table table_now ending left lef
       got = subst (λ (bytes : List ℕ). Got written bytes written_now) replied.put_is ran.handled.got;
       behind = replied.behind;
       many = replied.many;
+      stopped = replied.stopped;
       prompt = ran.prompt;
       session = after;
       table = table_now;

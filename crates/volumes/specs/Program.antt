@@ -1,6 +1,6 @@
 -- What the server promises of a run.
 use Rattle.std.specs.Prelude.{◌≡◌, ◌≢◌, ◌≤◌, ◌<◌, ◌+◌, ◌*◌, ◌⊎◌, ◌↔◌, ◌^◌, ℕ, List, [], All, length, flat_map, Option, None, Some, Result}
-use Rattle.sdbt_base.specs.Counts.{NoneRose, counts}
+use Rattle.sdbt_base.specs.Counts.{NoneRose}
 use Rattle.sdbt_base.specs.Told.{Gave, Got, IsAtEnd}
 use Rattle.text_lines.specs.Lines.{lines_of}
 use Rattle.device_terms.specs.Served.{IsServedImage}

@@ -1,6 +1,5 @@
 -- A run, from the mount on.
 use Rattle.std.specs.Prelude.{◌≡◌, ◌⊎◌, ℕ, List, [], ◌++◌, Option, None, Result, Ok, Err, IfErr, flat_map, length}
-use Rattle.sdbt_base.specs.Arrays.{Device}
 use Rattle.sdbt_base.specs.Told.{Gave, Got}
 use Rattle.platform.specs.Image.{Image}
 use Rattle.platform.specs.History.{CellStays, History}
@@ -18,7 +17,7 @@ use Rattle.volume_lines.specs.Replies.{Reply, line_of}
 use Rattle.volume_terms.specs.Own.{HasOwn}
 use Rattle.volume_terms.specs.Volumes.{IsTabled}
 use Rattle.device_course.specs.Course.{MadeBetween}
-use Rattle.volume_serving.specs.Handled.{AreMany, OnLines}
+use Rattle.volume_serving.specs.Handled.{AreMany, IsStopOf, OnLines}
 use Rattle.volumes.specs.Destroyed.{AreDestroyed}
 use Rattle.volumes.specs.Halts.{EndsAs}
 use Rattle.volumes.specs.Starting.{EndsEarly, HaltsAtDamage, IsRefusal, IsStart}
@@ -78,6 +77,7 @@ pub record Answers (From : Held → Type 0) (old new : Outside) (ending : Ending
   pub got : Got written (flat_map line_of replies ++ part) written_now
   pub behind : IsBehind line_of no_line part ending
   pub many : AreMany (length replies) (length lines) ending
+  pub stopped : IsStopOf lines replies ending
   pub prompt : IsPrompt taken (length replies)
   pub session : Option Session
   pub table : List Volume

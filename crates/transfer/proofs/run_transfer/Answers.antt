@@ -4,6 +4,7 @@ use Rattle.std.proofs.lemmas.Bool.{eqb-true}
 use Rattle.transfer.specs.Counts.{counts}
 use Rattle.transfer.specs.Program.{IsBlamedAt, IsStatus}
 use Rattle.transfer.proofs.FromLaws.{clears_nothing, from_alone}
+use Rattle.transfer.proofs.MoveLaws.{moves_done, moves_ended}
 use Rattle.transfer.proofs.StatusLaws.{blamed, blamed_done, blamed_two, never_two, never_zero, no_words, some_words, status_is, status_two, status_zero}
 use Rattle.transfer.proofs.ToLaws.{spans_not, to_alone}
 use Rattle.transfer.proofs.run_transfer.Goals as goal
@@ -37,8 +38,8 @@ returns-in-Ok-clause-other_words g c two = absurd (omega (arith, two))
 
 pub returns-in-Ok-clause-ran : goal.returns-in-Ok-clause-ran
 returns-in-Ok-clause-ran g c none =
-    let ran = c.in-Ok.ensures.ran in
-    record { moved = ran.0; ending = Ok tt; said = ran.1; status_is = refl; wrong = ran.2; looked = ran.3 }
+    let went = c.in-Ok.ensures.went in
+    record { moved = went.moved; ending = Ok tt; said = went.said; status_is = refl; wrong = went.wrong; looked = went.looked; there = went.there; mapped = went.mapped }
 
 pub returns-in-Ok-clause-from_alone : goal.returns-in-Ok-clause-from_alone
 returns-in-Ok-clause-from_alone g c = from_alone _ _ _ _ _ (λ zero. refl) (g.met.P.Platform.has_room c.run.new.from) c.in-Ok.ensures.from
@@ -61,11 +62,29 @@ returns-in-Err-clause-other_words g c two = absurd (never_two c.in-Err.halt (sym
 
 pub returns-in-Err-clause-ran : goal.returns-in-Err-clause-ran
 returns-in-Err-clause-ran g c none =
-    let ran = c.in-Err.ensures.ran in
-    record { moved = ran.0; ending = Err c.in-Err.halt; said = ran.1; status_is = c.status.ensures; wrong = ran.2; looked = ran.3 }
+    let went = c.in-Err.ensures.went in
+    record { moved = went.moved; ending = Err c.in-Err.halt; said = went.said; status_is = c.status.ensures; wrong = went.wrong; looked = went.looked; there = went.there; mapped = went.mapped }
 
 pub returns-in-Err-clause-from_alone : goal.returns-in-Err-clause-from_alone
 returns-in-Err-clause-from_alone g c = from_alone _ _ _ _ _ (λ zero. absurd (never_zero c.in-Err.halt (sym c.status.ensures ∙ zero))) (g.met.P.Platform.has_room c.run.new.from) c.in-Err.ensures.from
 
 pub returns-in-Err-clause-to_alone : goal.returns-in-Err-clause-to_alone
 returns-in-Err-clause-to_alone g c = to_alone _ _ _ _ _ (λ zero. absurd (never_zero c.in-Err.halt (sym c.status.ensures ∙ zero))) c.in-Err.ensures.to
+
+pub returns-then-not-is_empty-clause-moved : goal.returns-then-not-is_empty-clause-moved
+returns-then-not-is_empty-clause-moved g c none = absurd (some_words string_bytes c.args.words.now (sym c.if-not-is_empty.ensures) none)
+
+pub returns-in-Ok-clause-moved : goal.returns-in-Ok-clause-moved
+returns-in-Ok-clause-moved g c none from_told to_told device there stands served stands_to served_to =
+    let went = c.in-Ok.ensures.went in
+    moves_done _ _ from_told to_told _ _ _ _ _ _ _ _ device there went.moved stands served stands_to served_to (g.met.P.Platform.has_room c.run.new.from)
+    (g.met.P.Platform.counts_pages from_told c.run.new.from ∙ (c.in-Ok.ensures.from.head ∙ sym (g.met.P.Platform.counts_pages from_told c.args.from.now))) c.in-Ok.ensures.from c.in-Ok.ensures.to went.said went.mapped
+    (went.leads from_told to_told device there stands served stands_to served_to)
+
+pub returns-in-Err-clause-moved : goal.returns-in-Err-clause-moved
+returns-in-Err-clause-moved g c none from_told to_told device there stands served stands_to served_to =
+    let went = c.in-Err.ensures.went in
+    rw c.status.ensures
+    (moves_ended _ _ from_told to_told _ _ _ _ _ _ _ _ device there went.moved c.in-Err.halt stands served stands_to served_to (g.met.P.Platform.has_room c.run.new.from)
+    (g.met.P.Platform.counts_pages from_told c.run.new.from ∙ (c.in-Err.ensures.from.head ∙ sym (g.met.P.Platform.counts_pages from_told c.args.from.now))) c.in-Err.ensures.from c.in-Err.ensures.to went.said
+    (went.leads from_told to_told device there stands served stands_to served_to))

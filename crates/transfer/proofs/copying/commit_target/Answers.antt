@@ -2,8 +2,8 @@ use Rattle.std.proofs.Common.{refl}
 use Rattle.transfer.specs.Counts.{counts}
 use Rattle.session_calls.proofs.CarryLaws.{carries_committed, carries_end, carries_going, carries_stopped}
 use Rattle.transfer.proofs.BlameLaws.{of_ledger, to_quiet, to_stopped}
-use Rattle.transfer.proofs.CommitLaws.{commit_done, commit_stopped}
-use Rattle.transfer.proofs.HaltLaws.{commit_to, number_blamed, number_opening}
+use Rattle.transfer.proofs.CommitLaws.{commit_done, commit_short, commit_stopped}
+use Rattle.transfer.proofs.HaltLaws.{commit_to, number_blamed, number_commit}
 use Rattle.transfer.proofs.copying.commit_target.Goals as goal
 
 pub returns-in-Ok-clause-carries : goal.returns-in-Ok-clause-carries
@@ -35,7 +35,7 @@ returns-in-Err-clause-blame g c from output =
     to_stopped _ _ before now c.in-Err.stop (of_ledger _ _ _ _ output _ _) refl c.in-Err.ensures.goes.blame.fell c.in-Err.ensures.goes.blame.cause
 
 pub returns-in-Ok-clause-wrong : goal.returns-in-Ok-clause-wrong
-returns-in-Ok-clause-wrong g c = number_opening c.in-Ok.done.reply c.number_of.result c.number_of.ensures
+returns-in-Ok-clause-wrong g c = number_commit c.in-Ok.done.reply c.number_of.result c.number_of.ensures
 
 pub returns-in-Err-clause-wrong : goal.returns-in-Err-clause-wrong
 returns-in-Err-clause-wrong g c = commit_to g.Q.Platform g.T.Tape _ _ _ _ c.in-Err.stop c.in-Err.ensures.answers.left
@@ -47,3 +47,9 @@ returns-in-Ok-clause-leads g c told there other at =
 pub returns-in-Err-clause-leads : goal.returns-in-Err-clause-leads
 returns-in-Err-clause-leads g c told there other at =
     commit_stopped (g.Q.Platform.history c.args.to.now) (g.Q.Platform.history c.commit_session.new.platform) c.args.target there other c.in-Err.stop at (c.in-Err.ensures.goes.keeps.serves told at.served) (c.in-Err.ensures.leads told there other at)
+
+pub returns-in-Ok-clause-full : goal.returns-in-Ok-clause-full
+returns-in-Ok-clause-full g c is = commit_short g.Q.Platform _ _ _ _ _ _ c.args.target c.in-Ok.done.session c.in-Ok.done.reply c.number_of.result c.in-Ok.ensures.answers c.number_of.ensures is
+
+pub returns-in-Err-clause-full : goal.returns-in-Err-clause-full
+returns-in-Err-clause-full g c is = absurd cc

@@ -4,10 +4,11 @@ use Rattle.device_session.specs.Open.{blocks_of}
 use Rattle.session_calls.specs.Along.{Along, drawn_by}
 use Rattle.session_calls.proofs.AlongLaws.{along_start, along_then}
 use Rattle.session_calls.proofs.CallLaws.{along_more, no_draw}
+use Rattle.transfer.proofs.HaltLaws.{halted}
 use Rattle.transfer.specs.Counts.{Counts}
 use Rattle.std.proofs.Common.{◌∙◌, List, Some, get_or, sym, take}
 use Rattle.std.proofs.lemmas.List.{take_all, take_more}
-use Rattle.sdbt_base.specs.Arrays.{Device, Session as OpenSession, mounted}
+use Rattle.sdbt_base.specs.Arrays.{Session as OpenSession, mounted}
 use Rattle.device_course.specs.States.{IsAt}
 use Rattle.transfer.specs.Copies.{copied, copy_block}
 use Rattle.transfer.proofs.CopyLaws.{copied-more}
@@ -22,6 +23,7 @@ loop-block-init g c = record {
   to_quiet = refl;
   leads = λ from_told to_told device there array other at at_other. (at, at_other);
   tape_quiet = refl;
+  size = refl;
 }
 
 pub copy_block-requires-clause-source : goal.copy_block-requires-clause-source
@@ -46,7 +48,7 @@ pub loop-block-preserved : goal.loop-block-preserved
 loop-block-preserved g c =
     let before = c.loop-block.invariant in
     let T = g.T.Tape in
-    let same = (c.in-Ok.ensures.blame 0 0).quiet in
+    let same = (c.in_ok-copy_block.ensures.blame 0 0).quiet in
     record {
       source = λ any. along_then g.P.Platform 0 0 _ _ _ any any any _ _ _ (before.source any) (c.copy_block.ensures.from any);
       target = along_then g.Q.Platform c.loop-block.block-index 1 _ _ _ (drawn_by T c.args.tape.now) (drawn_by T c.loop-block.tape) (drawn_by T c.copy_block.new.tape) _ _ _ before.target c.copy_block.ensures.to;
@@ -58,25 +60,26 @@ loop-block-preserved g c =
           let index : ℕ = c.loop-block.block-index in
           let block : ℕ = get_or blocks index 0 in
           let mid : OpenSession = copied array.contents (take index blocks) other in
-          let led = c.in-Ok.ensures.leads from_told to_told device there array mid so_far.0 so_far.1 in
+          let led = c.in_ok-copy_block.ensures.leads from_told to_told device there array mid so_far.0 so_far.1 in
           let more : copied array.contents (take (index + 1) blocks) other ≡ copy_block array.contents mid block = ap (λ (bs : List ℕ). copied array.contents bs other) (take_more blocks index 0 c.loop-block-test.true) ∙ copied-more array.contents (take index blocks) block other in
           (led.0, subst (λ (o : OpenSession). IsAt (g.Q.Platform.history c.copy_block.new.to).present (Some c.copy_block.new.target) (mounted there o)) (sym more) led.1);
       tape_quiet = ap (λ (n : Counts). n.tape) same ∙ before.tape_quiet;
+      size = c.copy_block.ensures.size;
     }
 
-pub returns-in-Err-clause-from : goal.returns-in-Err-clause-from
-returns-in-Err-clause-from g c any = along_then g.P.Platform 0 0 _ _ _ any any any _ _ _ (c.loop-block.invariant.source any) (c.copy_block.ensures.from any)
+pub returns-in_err-copy_block-clause-from : goal.returns-in_err-copy_block-clause-from
+returns-in_err-copy_block-clause-from g c any = along_then g.P.Platform 0 0 _ _ _ any any any _ _ _ (c.loop-block.invariant.source any) (c.copy_block.ensures.from any)
 
-pub returns-in-Err-clause-to : goal.returns-in-Err-clause-to
-returns-in-Err-clause-to g c =
+pub returns-in_err-copy_block-clause-to : goal.returns-in_err-copy_block-clause-to
+returns-in_err-copy_block-clause-to g c =
     let T = g.T.Tape in
     along_more g.Q.Platform (c.loop-block.block-index + 1) (length c.args.blocks.now) _ _ (drawn_by T c.args.tape.now) (drawn_by T c.copy_block.new.tape) _ _ (omega (arith, c.loop-block-test.true))
     (along_then g.Q.Platform c.loop-block.block-index 1 _ _ _ (drawn_by T c.args.tape.now) (drawn_by T c.loop-block.tape) (drawn_by T c.copy_block.new.tape) _ _ _ c.loop-block.invariant.target c.copy_block.ensures.to)
 
-pub returns-in-Err-clause-blame : goal.returns-in-Err-clause-blame
-returns-in-Err-clause-blame g c output ledger =
-    blames_then _ _ _ _ (same_counts _ _ _ _ _ _ _ _ _ _ c.loop-block.invariant.from_quiet c.loop-block.invariant.to_quiet c.loop-block.invariant.tape_quiet refl refl)
-    (c.in-Err.ensures.blame output ledger)
+pub returns-in_err-copy_block-clause-blame : goal.returns-in_err-copy_block-clause-blame
+returns-in_err-copy_block-clause-blame g c output ledger =
+    rw (halted c.from_residual.result c.in_err-copy_block.field-0.0 c.from_residual.ensures.1) (blames_then _ _ _ _ (same_counts _ _ _ _ _ _ _ _ _ _ c.loop-block.invariant.from_quiet c.loop-block.invariant.to_quiet c.loop-block.invariant.tape_quiet refl refl)
+    (c.in_err-copy_block.ensures.blame output ledger))
 
 pub returns-clause-from : goal.returns-clause-from
 returns-clause-from g c any = c.loop-block.invariant.source any
@@ -89,13 +92,17 @@ returns-clause-to g c =
 pub returns-clause-blame : goal.returns-clause-blame
 returns-clause-blame g c output ledger = blames_done _ _ _ (same_counts _ _ _ _ _ _ _ _ _ _ c.loop-block.invariant.from_quiet c.loop-block.invariant.to_quiet c.loop-block.invariant.tape_quiet refl refl)
 
-pub returns-in-Err-clause-leads : goal.returns-in-Err-clause-leads
-returns-in-Err-clause-leads g c from_told to_told device there array other at at_other =
+pub returns-in_err-copy_block-clause-leads : goal.returns-in_err-copy_block-clause-leads
+returns-in_err-copy_block-clause-leads g c from_told to_told device there array other at at_other =
     let so_far = c.loop-block.invariant.leads from_told to_told device there array other at at_other in
-    c.in-Err.ensures.leads from_told to_told device there array (copied array.contents (take c.loop-block.block-index c.args.blocks.now) other) so_far.0 so_far.1
+    rw (halted c.from_residual.result c.in_err-copy_block.field-0.0 c.from_residual.ensures.1) (c.in_err-copy_block.ensures.leads from_told to_told device there array (copied array.contents (take c.loop-block.block-index c.args.blocks.now) other) so_far.0 so_far.1)
 
 pub returns-clause-leads : goal.returns-clause-leads
 returns-clause-leads g c from_told to_told device there array other at at_other =
     let so_far = c.loop-block.invariant.leads from_told to_told device there array other at at_other in
     let blocks : List ℕ = c.args.blocks.now in
     (so_far.0, subst (λ (bs : List ℕ). IsAt (g.Q.Platform.history c.loop-block.to).present (Some c.loop-block.target) (mounted there (copied array.contents bs other))) (take_all c.loop-block.block-index blocks (omega arith)) so_far.1)
+
+pub returns-in_err-copy_block-clause-full : goal.returns-in_err-copy_block-clause-full
+returns-in_err-copy_block-clause-full g c is =
+    (omega (arith, c.loop-block-test.true), c.in_err-copy_block.ensures.full (sym (halted c.from_residual.result c.in_err-copy_block.field-0.0 c.from_residual.ensures.1) ∙ is))

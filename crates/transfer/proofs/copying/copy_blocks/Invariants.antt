@@ -1,4 +1,4 @@
-use Rattle.std.proofs.Common.{◌≡◌, Some, take}
+use Rattle.std.proofs.Common.{◌≡◌, Some, length, take}
 use Rattle.sdbt_base.specs.Arrays.{Device, Session as OpenSession, mounted}
 use Rattle.device_course.specs.States.{IsAt}
 use Rattle.transfer.specs.Copies.{copied}
@@ -16,4 +16,5 @@ invariant-loop-block g l = record {
       → IsAt (g.P.Platform.history l.from).present (Some l.source) (mounted device array)
       × IsAt (g.Q.Platform.history l.to).present (Some l.target) (mounted there (copied array.contents (take l.block-index l.blocks) other));
   tape_quiet : g.T.Tape.faults l.tape ≡ g.T.Tape.faults l.fn.tape;
+  size : length l.content ≡ 4096;
 }

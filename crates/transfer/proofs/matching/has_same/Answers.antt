@@ -3,6 +3,7 @@ use Rattle.std.proofs.lemmas.List.Elements.{All-get_or}
 use Rattle.device_session.specs.Open.{blocks_of}
 use Rattle.session_calls.proofs.AlongLaws.{along_start, along_then}
 use Rattle.session_calls.proofs.CallLaws.{no_draw}
+use Rattle.transfer.proofs.HaltLaws.{halted}
 use Rattle.transfer.specs.Counts.{Counts}
 use Rattle.std.proofs.Common.{List, subst, sym}
 use Rattle.std.specs.Prelude.{All}
@@ -13,6 +14,35 @@ use Rattle.transfer.proofs.MovingLaws.{same_at, same_more}
 use Rattle.transfer.proofs.BlameLaws.{blames_done, blames_then, same_counts}
 use Rattle.transfer.proofs.matching.has_same.Goals as goal
 
+pub returns-then-not-branch-clause-both : goal.returns-then-not-branch-clause-both
+returns-then-not-branch-clause-both g c = record {
+  from = λ any. along_then g.P.Platform 0 0 _ _ _ any any any _ _ _ (c.loop-block.invariant.source any) (c.has_same_block.ensures.both.from any);
+  to = λ any. along_then g.Q.Platform 0 0 _ _ _ any any any _ _ _ (c.loop-block.invariant.target any) (c.has_same_block.ensures.both.to any);
+  blame = λ tape output ledger. blames_then _ _ _ _ (same_counts _ _ _ _ _ _ _ _ _ _ c.loop-block.invariant.from_quiet c.loop-block.invariant.to_quiet refl refl refl)
+      (blames_done _ _ _ (c.in_ok-has_same_block.ensures.both.blame tape output ledger).quiet);
+  wrong = tt;
+  behind = tt;
+}
+
+pub returns-in_err-has_same_block-clause-both : goal.returns-in_err-has_same_block-clause-both
+returns-in_err-has_same_block-clause-both g c = rw (halted c.from_residual.result c.in_err-has_same_block.field-0.0 c.from_residual.ensures.1) (record {
+  from = λ any. along_then g.P.Platform 0 0 _ _ _ any any any _ _ _ (c.loop-block.invariant.source any) (c.has_same_block.ensures.both.from any);
+  to = λ any. along_then g.Q.Platform 0 0 _ _ _ any any any _ _ _ (c.loop-block.invariant.target any) (c.has_same_block.ensures.both.to any);
+  blame = λ tape output ledger. blames_then _ _ _ _ (same_counts _ _ _ _ _ _ _ _ _ _ c.loop-block.invariant.from_quiet c.loop-block.invariant.to_quiet refl refl refl)
+      (c.in_err-has_same_block.ensures.both.blame tape output ledger);
+  wrong = c.in_err-has_same_block.ensures.both.wrong;
+  behind = c.in_err-has_same_block.ensures.both.behind;
+})
+
+pub returns-clause-both : goal.returns-clause-both
+returns-clause-both g c = record {
+  from = λ any. c.loop-block.invariant.source any;
+  to = λ any. c.loop-block.invariant.target any;
+  blame = λ tape output ledger. blames_done _ _ _ (same_counts _ _ _ _ _ _ _ _ _ _ c.loop-block.invariant.from_quiet c.loop-block.invariant.to_quiet refl refl refl);
+  wrong = tt;
+  behind = tt;
+}
+
 pub loop-block-init : goal.loop-block-init
 loop-block-init g c = record {
   source = λ any. along_start g.P.Platform c.args.from.now any c.args.source.now c.requires.source.is_open;
@@ -20,6 +50,8 @@ loop-block-init g c = record {
   from_quiet = refl;
   leads = λ from_told to_told device there array other at at_other. (at, at_other, All-nil (λ (block : ℕ). content_of array.contents block ≡ content_of other.contents block));
   to_quiet = refl;
+  size = refl;
+  other_size = refl;
 }
 
 pub has_same_block-requires-clause-source : goal.has_same_block-requires-clause-source
@@ -43,59 +75,30 @@ has_same_block-requires-clause-alike g c = omega (arith, c.requires.alike, (c.lo
 pub loop-block-preserved : goal.loop-block-preserved
 loop-block-preserved g c =
     let before = c.loop-block.invariant in
-    let same = (c.in-Ok-true.ensures.blame 0 0 0).quiet in
+    let same = (c.in_ok-has_same_block.ensures.both.blame 0 0 0).quiet in
     record {
-      source = λ any. along_then g.P.Platform 0 0 _ _ _ any any any _ _ _ (before.source any) (c.has_same_block.ensures.from any);
-      target = λ any. along_then g.Q.Platform 0 0 _ _ _ any any any _ _ _ (before.target any) (c.has_same_block.ensures.to any);
+      source = λ any. along_then g.P.Platform 0 0 _ _ _ any any any _ _ _ (before.source any) (c.has_same_block.ensures.both.from any);
+      target = λ any. along_then g.Q.Platform 0 0 _ _ _ any any any _ _ _ (before.target any) (c.has_same_block.ensures.both.to any);
       from_quiet = ap (λ (n : Counts). n.from) same ∙ before.from_quiet;
       leads = λ from_told to_told device there array other at at_other.
           let so_far = before.leads from_told to_told device there array other at at_other in
-          let led = c.in-Ok-true.ensures.leads from_told to_told device there array other so_far.0 so_far.1 in
-          (led.0, led.1, same_more array other c.args.blocks.now c.loop-block.block-index c.loop-block-test.true so_far.2 (led.2.0 c.in-Ok-true.field-0-test));
+          let led = c.in_ok-has_same_block.ensures.leads from_told to_told device there array other so_far.0 so_far.1 in
+          (led.0, led.1, same_more array other c.args.blocks.now c.loop-block.block-index c.loop-block-test.true so_far.2 (led.2.0 c.if-not-branch.false));
       to_quiet = ap (λ (n : Counts). n.to) same ∙ before.to_quiet;
+      size = c.has_same_block.ensures.size;
+      other_size = c.has_same_block.ensures.other_size;
     }
 
-pub returns-in-Ok-false-clause-from : goal.returns-in-Ok-false-clause-from
-returns-in-Ok-false-clause-from g c any = along_then g.P.Platform 0 0 _ _ _ any any any _ _ _ (c.loop-block.invariant.source any) (c.has_same_block.ensures.from any)
-
-pub returns-in-Ok-false-clause-to : goal.returns-in-Ok-false-clause-to
-returns-in-Ok-false-clause-to g c any = along_then g.Q.Platform 0 0 _ _ _ any any any _ _ _ (c.loop-block.invariant.target any) (c.has_same_block.ensures.to any)
-
-pub returns-in-Ok-false-clause-blame : goal.returns-in-Ok-false-clause-blame
-returns-in-Ok-false-clause-blame g c tape output ledger =
-    blames_then _ _ _ _ (same_counts _ _ _ _ _ _ _ _ _ _ c.loop-block.invariant.from_quiet c.loop-block.invariant.to_quiet refl refl refl)
-    (blames_done _ _ _ (c.in-Ok-false.ensures.blame tape output ledger).quiet)
-
-pub returns-in-Err-clause-from : goal.returns-in-Err-clause-from
-returns-in-Err-clause-from g c any = along_then g.P.Platform 0 0 _ _ _ any any any _ _ _ (c.loop-block.invariant.source any) (c.has_same_block.ensures.from any)
-
-pub returns-in-Err-clause-to : goal.returns-in-Err-clause-to
-returns-in-Err-clause-to g c any = along_then g.Q.Platform 0 0 _ _ _ any any any _ _ _ (c.loop-block.invariant.target any) (c.has_same_block.ensures.to any)
-
-pub returns-in-Err-clause-blame : goal.returns-in-Err-clause-blame
-returns-in-Err-clause-blame g c tape output ledger =
-    blames_then _ _ _ _ (same_counts _ _ _ _ _ _ _ _ _ _ c.loop-block.invariant.from_quiet c.loop-block.invariant.to_quiet refl refl refl)
-    (c.in-Err.ensures.blame tape output ledger)
-
-pub returns-clause-from : goal.returns-clause-from
-returns-clause-from g c any = c.loop-block.invariant.source any
-
-pub returns-clause-to : goal.returns-clause-to
-returns-clause-to g c any = c.loop-block.invariant.target any
-
-pub returns-clause-blame : goal.returns-clause-blame
-returns-clause-blame g c tape output ledger = blames_done _ _ _ (same_counts _ _ _ _ _ _ _ _ _ _ c.loop-block.invariant.from_quiet c.loop-block.invariant.to_quiet refl refl refl)
-
-pub returns-in-Ok-false-clause-leads : goal.returns-in-Ok-false-clause-leads
-returns-in-Ok-false-clause-leads g c from_told to_told device there array other at at_other =
+pub returns-then-not-branch-clause-leads : goal.returns-then-not-branch-clause-leads
+returns-then-not-branch-clause-leads g c from_told to_told device there array other at at_other =
     let so_far = c.loop-block.invariant.leads from_told to_told device there array other at at_other in
-    let led = c.in-Ok-false.ensures.leads from_told to_told device there array other so_far.0 so_far.1 in
-    (led.0, led.1, (λ never. absurd cc, λ all. sym c.in-Ok-false.field-0-test ∙ led.2.1 (same_at array other c.args.blocks.now c.loop-block.block-index c.loop-block-test.true all)))
+    let led = c.in_ok-has_same_block.ensures.leads from_told to_told device there array other so_far.0 so_far.1 in
+    (led.0, led.1, (λ never. absurd cc, λ all. sym c.if-not-branch.true ∙ led.2.1 (same_at array other c.args.blocks.now c.loop-block.block-index c.loop-block-test.true all)))
 
-pub returns-in-Err-clause-leads : goal.returns-in-Err-clause-leads
-returns-in-Err-clause-leads g c from_told to_told device there array other at at_other =
+pub returns-in_err-has_same_block-clause-leads : goal.returns-in_err-has_same_block-clause-leads
+returns-in_err-has_same_block-clause-leads g c from_told to_told device there array other at at_other =
     let so_far = c.loop-block.invariant.leads from_told to_told device there array other at at_other in
-    c.in-Err.ensures.leads from_told to_told device there array other so_far.0 so_far.1
+    rw (halted c.from_residual.result c.in_err-has_same_block.field-0.0 c.from_residual.ensures.1) (c.in_err-has_same_block.ensures.leads from_told to_told device there array other so_far.0 so_far.1)
 
 pub returns-clause-leads : goal.returns-clause-leads
 returns-clause-leads g c from_told to_told device there array other at at_other =

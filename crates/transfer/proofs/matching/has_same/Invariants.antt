@@ -1,4 +1,4 @@
-use Rattle.std.proofs.Common.{◌≡◌, Some, take}
+use Rattle.std.proofs.Common.{◌≡◌, Some, length, take}
 use Rattle.std.specs.Prelude.{All}
 use Rattle.sdbt_base.specs.Arrays.{Device, Session as OpenSession, content_of, mounted}
 use Rattle.device_course.specs.States.{IsAt}
@@ -16,4 +16,6 @@ invariant-loop-block g l = record {
       × IsAt (g.Q.Platform.history l.to).present (Some l.target) (mounted there other)
       × All (λ block. content_of array.contents block ≡ content_of other.contents block) (take l.block-index l.blocks);
   to_quiet : g.Q.Platform.faults l.to ≡ g.Q.Platform.faults l.fn.to;
+  size : length l.content ≡ 4096;
+  other_size : length l.other ≡ 4096;
 }

@@ -1,4 +1,6 @@
 use Rattle.std.proofs.Common.{◌∙◌, Ok, Err, inl, refl, sym, ap, subst, arith}
+use Rattle.platform.proofs.Moments.{During-now}
+use Rattle.device_terms.specs.Served.{IsServedImage}
 use Rattle.device_core.specs.declared.refusals.FormatRefusal.{FormatRefusal}
 use Rattle.transfer.specs.Counts.{counts}
 use Rattle.transfer.specs.Halts.{Blames}
@@ -7,88 +9,116 @@ use Rattle.transfer.specs.declared.halts.Halt.{Halt}
 use Rattle.transfer.proofs.BlameLaws.{blames_done, blames_then, of_ledger, of_platform, to_quiet, to_stopped}
 use Rattle.transfer.proofs.FormatLaws.{format_blamed, format_halt}
 use Rattle.transfer.proofs.HaltLaws.{mount_to}
-use Rattle.transfer.proofs.ToLaws.{format_keeps, formatted_of, opens_formatted, opens_found, spans_formatted, spans_look, spans_unformatted}
+use Rattle.transfer.proofs.LookedLaws.{made_served}
+use Rattle.transfer.proofs.OpenLaws.{format_not_root, made_found, formatted_found, formatted_stopped, is_made, unformatted}
+use Rattle.transfer.proofs.ToLaws.{found_none, formatted_made, format_keeps, formatted_of, opens_formatted, opens_found, spans_formatted, spans_look, spans_unformatted}
 use Rattle.transfer.proofs.opening.make_target.Goals as goal
 
-pub returns-in-Ok-Some-clause-opened : goal.returns-in-Ok-Some-clause-opened
-returns-in-Ok-Some-clause-opened g c =
-    let format = c.format.ensures in
-    opens_formatted _ _ _ _ _ _ c.in-Ok-Some.session
-    (formatted_of {X = Unit {0}} FormatRefusal _ c.args.blocks c.args.order _ _ _ tt format.grows.0.capacity format.grows.0.rises format.discloses (λ told full. (format.kept told (inl full)).1) c.requires.empty c.in-Ok.ensures.certifies
-    (λ told. (c.in-Ok.ensures.made told).0) (λ told. (c.in-Ok.ensures.made told).1) format.time)
-    (opens_found g.Q.Platform _ _ c.format.new.platform c.mount_session.new.platform _ _ c.in-Ok-Some.session c.mount_session.result (c.in-Ok-Some.is ∙ ap Ok c.in-Ok-Some.field-0-is) refl refl refl refl refl refl c.mount_session.ensures.looks
-    c.mount_session.ensures.finds (c.mount_session.ensures.keeps _ _) c.mount_session.ensures.leads)
+pub returns-in-Ok-Some-clause-target : goal.returns-in-Ok-Some-clause-target
+returns-in-Ok-Some-clause-target g c = record {
+  opened = let format = c.format.ensures in
+      opens_formatted _ _ _ _ _ _ c.in-Ok-Some.session
+      (formatted_of {X = Unit {0}} FormatRefusal _ c.args.blocks c.args.order _ _ _ tt format.grows.0.capacity format.grows.0.rises format.discloses (λ told full. (format.kept told (inl full)).1) c.requires.empty c.in-Ok.ensures.certifies
+      (λ told. (c.in-Ok.ensures.made told).0) (λ told. (c.in-Ok.ensures.made told).1) format.time)
+      (opens_found g.Q.Platform _ _ c.format.new.platform c.mount_session.new.platform _ _ c.in-Ok-Some.session c.mount_session.result (c.in-Ok-Some.is ∙ ap Ok c.in-Ok-Some.field-0-is) refl refl refl refl refl refl c.mount_session.ensures.looks
+      c.mount_session.ensures.finds (c.mount_session.ensures.keeps _ _) c.mount_session.ensures.leads);
+  stopped = tt;
+  is_new = λ told is opened stands. is_made _ _ _ opened (c.mount_session.ensures.looks.image told) (c.in-Ok.ensures.made told).0 stands;
+  none = tt;
+  adds = let looks = c.mount_session.ensures.looks in
+      (omega (arith, looks.head, c.in-Ok.ensures.cause.2), looks.capacity ∙ c.format.ensures.grows.0.capacity);
+  blame = λ from output. let Q = g.Q.Platform in
+      let T = g.T.Tape in
+      let L = g.L.Sink in
+      let before = counts from (Q.faults c.args.to.now) (T.faults c.args.tape.now) output (L.faults c.args.ledger.now) in
+      let mid = counts from (Q.faults c.format.new.platform) (T.faults c.format.new.tape) output (L.faults c.format.new.ledger) in
+      let now = counts from (Q.faults c.mount_session.new.platform) (T.faults c.format.new.tape) output (L.faults c.format.new.ledger) in
+      blames_then before mid now _ (to_quiet _ _ before mid (of_ledger _ _ _ _ output _ _) refl c.in-Ok.ensures.cause.3) (blames_done mid now _ (to_quiet _ _ mid now (of_platform _ _ _ output _) refl c.in-Ok-Some.ensures.blame.quiet));
+  stops = tt;
+}
 
-pub returns-in-Ok-None-clause-stopped : goal.returns-in-Ok-None-clause-stopped
-returns-in-Ok-None-clause-stopped g c =
-    let format = c.format.ensures in
-    let looks = c.mount_session.ensures.looks in
-    spans_formatted _ _ _ _ _ _ _
-    (formatted_of {X = Unit {0}} FormatRefusal _ c.args.blocks c.args.order _ _ _ tt format.grows.0.capacity format.grows.0.rises format.discloses (λ told full. (format.kept told (inl full)).1) c.requires.empty c.in-Ok.ensures.certifies
-    (λ told. (c.in-Ok.ensures.made told).0) (λ told. (c.in-Ok.ensures.made told).1) format.time)
-    (spans_look g.Q.Platform _ _ _ refl refl looks.head looks.capacity (g.met.Q.Platform.has_room c.mount_session.new.platform) looks.image looks.time)
+pub returns-in-Ok-None-clause-target : goal.returns-in-Ok-None-clause-target
+returns-in-Ok-None-clause-target g c = record {
+  opened = tt;
+  stopped = let format = c.format.ensures in
+      let looks = c.mount_session.ensures.looks in
+      spans_formatted _ _ _ _ _ _ _
+      (formatted_of {X = Unit {0}} FormatRefusal _ c.args.blocks c.args.order _ _ _ tt format.grows.0.capacity format.grows.0.rises format.discloses (λ told full. (format.kept told (inl full)).1) c.requires.empty c.in-Ok.ensures.certifies
+      (λ told. (c.in-Ok.ensures.made told).0) (λ told. (c.in-Ok.ensures.made told).1) format.time)
+      (spans_look g.Q.Platform _ _ _ refl refl looks.head looks.capacity (g.met.Q.Platform.has_room c.mount_session.new.platform) looks.image looks.time);
+  is_new = tt;
+  none = λ told there stands served. let made = (formatted_made c.args.blocks c.args.order (g.Q.Platform.history c.args.to.now) (g.Q.Platform.history c.format.new.platform) there (c.requires.empty told) stands (c.in-Ok.ensures.made told).0 (c.in-Ok.ensures.made told).1 (c.format.ensures.time told there stands)).1 in
+      absurd (formatted_found (g.Q.Platform.history c.mount_session.new.platform).present _ c.mount_session.result (c.in-Ok-None.is ∙ ap Ok c.in-Ok-None.field-0-is) (c.mount_session.ensures.leads told _ made.exits));
+  adds = tt;
+  blame = λ from output. let Q = g.Q.Platform in
+      let T = g.T.Tape in
+      let L = g.L.Sink in
+      let before = counts from (Q.faults c.args.to.now) (T.faults c.args.tape.now) output (L.faults c.args.ledger.now) in
+      let mid = counts from (Q.faults c.format.new.platform) (T.faults c.format.new.tape) output (L.faults c.format.new.ledger) in
+      let now = counts from (Q.faults c.mount_session.new.platform) (T.faults c.format.new.tape) output (L.faults c.format.new.ledger) in
+      let looked = c.in-Ok-None.ensures.blame in
+      blames_then before mid now _ (to_quiet _ _ before mid (of_ledger _ _ _ _ output _ _) refl c.in-Ok.ensures.cause.3) (to_stopped _ _ mid now _ (of_platform _ _ _ output _) refl looked.fell looked.quiet);
+  stops = tt;
+}
 
-pub returns-in-Err-mount_session-clause-stopped : goal.returns-in-Err-mount_session-clause-stopped
-returns-in-Err-mount_session-clause-stopped g c =
-    let format = c.format.ensures in
-    let looks = c.mount_session.ensures.looks in
-    spans_formatted _ _ _ _ _ _ _
-    (formatted_of {X = Unit {0}} FormatRefusal _ c.args.blocks c.args.order _ _ _ tt format.grows.0.capacity format.grows.0.rises format.discloses (λ told full. (format.kept told (inl full)).1) c.requires.empty c.in-Ok.ensures.certifies
-    (λ told. (c.in-Ok.ensures.made told).0) (λ told. (c.in-Ok.ensures.made told).1) format.time)
-    (spans_look g.Q.Platform _ _ _ refl refl looks.head looks.capacity (g.met.Q.Platform.has_room c.mount_session.new.platform) looks.image looks.time)
+pub returns-in-Err-mount_session-clause-target : goal.returns-in-Err-mount_session-clause-target
+returns-in-Err-mount_session-clause-target g c = record {
+  opened = tt;
+  stopped = let format = c.format.ensures in
+      let looks = c.mount_session.ensures.looks in
+      spans_formatted _ _ _ _ _ _ _
+      (formatted_of {X = Unit {0}} FormatRefusal _ c.args.blocks c.args.order _ _ _ tt format.grows.0.capacity format.grows.0.rises format.discloses (λ told full. (format.kept told (inl full)).1) c.requires.empty c.in-Ok.ensures.certifies
+      (λ told. (c.in-Ok.ensures.made told).0) (λ told. (c.in-Ok.ensures.made told).1) format.time)
+      (spans_look g.Q.Platform _ _ _ refl refl looks.head looks.capacity (g.met.Q.Platform.has_room c.mount_session.new.platform) looks.image looks.time);
+  is_new = tt;
+  none = λ told there stands served. formatted_stopped g.Q.Platform _ _ _ c.args.blocks c.args.order _ c.in-Err-mount_session.stop there
+      (formatted_made c.args.blocks c.args.order (g.Q.Platform.history c.args.to.now) (g.Q.Platform.history c.format.new.platform) there (c.requires.empty told) stands (c.in-Ok.ensures.made told).0 (c.in-Ok.ensures.made told).1 (c.format.ensures.time told there stands)).1
+      c.mount_session.ensures.looks c.in-Err-mount_session.ensures.leads told;
+  adds = tt;
+  blame = λ from output. let Q = g.Q.Platform in
+      let T = g.T.Tape in
+      let L = g.L.Sink in
+      let before = counts from (Q.faults c.args.to.now) (T.faults c.args.tape.now) output (L.faults c.args.ledger.now) in
+      let mid = counts from (Q.faults c.format.new.platform) (T.faults c.format.new.tape) output (L.faults c.format.new.ledger) in
+      let now = counts from (Q.faults c.mount_session.new.platform) (T.faults c.format.new.tape) output (L.faults c.format.new.ledger) in
+      let looked = c.in-Err-mount_session.ensures.blame in
+      blames_then before mid now _ (to_quiet _ _ before mid (of_ledger _ _ _ _ output _ _) refl c.in-Ok.ensures.cause.3) (to_stopped _ _ mid now _ (of_platform _ _ _ output _) refl looked.fell looked.cause);
+  stops = mount_to _ _ _ c.in-Err-mount_session.stop c.in-Err-mount_session.ensures.stops;
+}
 
-pub returns-in-Err-clause-stopped : goal.returns-in-Err-clause-stopped
-returns-in-Err-clause-stopped g c =
-    let format = c.format.ensures in
-    spans_unformatted _ c.args.blocks c.args.order _ _ (record { capacity = format.grows.0.capacity; rises = format.grows.0.rises; within = g.met.Q.Platform.has_room c.format.new.platform })
-    (format_keeps {X = Unit {0}} {Y = FormatRefusal} _ _ _ _ _ _ _ _ (Err c.in-Err.refusal) _ _ format.discloses (λ told full. (format.kept told (inl full)).1) (λ told ok. absurd cc) c.in-Err.ensures.certifies (λ never. absurd never) (λ told keys. tt))
-    format.time
+pub returns-in-Err-clause-target : goal.returns-in-Err-clause-target
+returns-in-Err-clause-target g c = record {
+  opened = tt;
+  stopped = let format = c.format.ensures in
+      spans_unformatted _ c.args.blocks c.args.order _ _ (record { capacity = format.grows.0.capacity; rises = format.grows.0.rises; within = g.met.Q.Platform.has_room c.format.new.platform })
+      (format_keeps {X = Unit {0}} {Y = FormatRefusal} _ _ _ _ _ _ _ _ (Err c.in-Err.refusal) _ _ format.discloses (λ told full. (format.kept told (inl full)).1) (λ told ok. absurd cc) c.in-Err.ensures.certifies (λ never. absurd never) (λ told keys. tt))
+      format.time;
+  is_new = tt;
+  none = λ told there stands served. rw c.halt_of.ensures (unformatted g.Q.Platform g.T.Tape _ _ _ _ _ _ c.in-Err.refusal c.args.blocks c.args.order there c.in-Err.ensures.cause told (c.requires.empty told) stands
+      (During-now (g.Q.Platform.history c.args.to.now) (g.Q.Platform.history c.format.new.platform) IsServedImage (c.format.ensures.discloses.serves told served)) (c.format.ensures.time told there stands));
+  adds = tt;
+  blame = λ from output. let Q = g.Q.Platform in
+      let T = g.T.Tape in
+      let L = g.L.Sink in
+      let before = counts from (Q.faults c.args.to.now) (T.faults c.args.tape.now) output (L.faults c.args.ledger.now) in
+      let now = counts from (Q.faults c.format.new.platform) (T.faults c.format.new.tape) output (L.faults c.format.new.ledger) in
+      let grows = c.format.ensures.grows in
+      subst (λ (h : Halt). Blames before now (Err h)) (sym c.halt_of.ensures)
+      (format_blamed Q T _ _ _ _ _ _ before now c.in-Err.refusal (of_ledger _ _ _ _ output _ _) refl (record { platform = grows.0.faults; tape = grows.1; input = omega arith; output = omega arith; ledger = grows.2 }) c.in-Err.ensures.cause);
+  stops = subst IsOfOpening (sym c.halt_of.ensures) (format_halt c.in-Err.refusal);
+}
 
-pub returns-in-Ok-Some-clause-blame : goal.returns-in-Ok-Some-clause-blame
-returns-in-Ok-Some-clause-blame g c from output =
-    let Q = g.Q.Platform in
-    let T = g.T.Tape in
-    let L = g.L.Sink in
-    let before = counts from (Q.faults c.args.to.now) (T.faults c.args.tape.now) output (L.faults c.args.ledger.now) in
-    let mid = counts from (Q.faults c.format.new.platform) (T.faults c.format.new.tape) output (L.faults c.format.new.ledger) in
-    let now = counts from (Q.faults c.mount_session.new.platform) (T.faults c.format.new.tape) output (L.faults c.format.new.ledger) in
-    blames_then before mid now _ (to_quiet _ _ before mid (of_ledger _ _ _ _ output _ _) refl c.in-Ok.ensures.cause.3) (blames_done mid now _ (to_quiet _ _ mid now (of_platform _ _ _ output _) refl c.in-Ok-Some.ensures.blame.quiet))
+pub returns-in-Ok-Some-clause-there : goal.returns-in-Ok-Some-clause-there
+returns-in-Ok-Some-clause-there g c told is = cc
 
-pub returns-in-Ok-None-clause-blame : goal.returns-in-Ok-None-clause-blame
-returns-in-Ok-None-clause-blame g c from output =
-    let Q = g.Q.Platform in
-    let T = g.T.Tape in
-    let L = g.L.Sink in
-    let before = counts from (Q.faults c.args.to.now) (T.faults c.args.tape.now) output (L.faults c.args.ledger.now) in
-    let mid = counts from (Q.faults c.format.new.platform) (T.faults c.format.new.tape) output (L.faults c.format.new.ledger) in
-    let now = counts from (Q.faults c.mount_session.new.platform) (T.faults c.format.new.tape) output (L.faults c.format.new.ledger) in
-    let looked = c.in-Ok-None.ensures.blame in
-    blames_then before mid now _ (to_quiet _ _ before mid (of_ledger _ _ _ _ output _ _) refl c.in-Ok.ensures.cause.3) (to_stopped _ _ mid now _ (of_platform _ _ _ output _) refl looked.fell looked.quiet)
+pub returns-in-Ok-None-clause-there : goal.returns-in-Ok-None-clause-there
+returns-in-Ok-None-clause-there g c told is =
+    made_found (g.Q.Platform.history c.format.new.platform).present _ (c.in-Ok.ensures.made told).0 (found_none g.Q.Platform c.format.new.platform c.mount_session.new.platform c.mount_session.result (c.in-Ok-None.is ∙ ap Ok c.in-Ok-None.field-0-is) c.mount_session.ensures.finds told)
 
-pub returns-in-Err-mount_session-clause-blame : goal.returns-in-Err-mount_session-clause-blame
-returns-in-Err-mount_session-clause-blame g c from output =
-    let Q = g.Q.Platform in
-    let T = g.T.Tape in
-    let L = g.L.Sink in
-    let before = counts from (Q.faults c.args.to.now) (T.faults c.args.tape.now) output (L.faults c.args.ledger.now) in
-    let mid = counts from (Q.faults c.format.new.platform) (T.faults c.format.new.tape) output (L.faults c.format.new.ledger) in
-    let now = counts from (Q.faults c.mount_session.new.platform) (T.faults c.format.new.tape) output (L.faults c.format.new.ledger) in
-    let looked = c.in-Err-mount_session.ensures.blame in
-    blames_then before mid now _ (to_quiet _ _ before mid (of_ledger _ _ _ _ output _ _) refl c.in-Ok.ensures.cause.3) (to_stopped _ _ mid now _ (of_platform _ _ _ output _) refl looked.fell looked.cause)
+pub returns-in-Err-mount_session-clause-there : goal.returns-in-Err-mount_session-clause-there
+returns-in-Err-mount_session-clause-there g c told is =
+    made_served _ (g.Q.Platform.history c.format.new.platform).present (g.Q.Platform.head c.format.new.platform) c.in-Err-mount_session.stop told (g.met.Q.Platform.counts_pages told c.format.new.platform) (c.in-Ok.ensures.made told).1 c.in-Err-mount_session.ensures.stops
+    cc
 
-pub returns-in-Err-clause-blame : goal.returns-in-Err-clause-blame
-returns-in-Err-clause-blame g c from output =
-    let Q = g.Q.Platform in
-    let T = g.T.Tape in
-    let L = g.L.Sink in
-    let before = counts from (Q.faults c.args.to.now) (T.faults c.args.tape.now) output (L.faults c.args.ledger.now) in
-    let now = counts from (Q.faults c.format.new.platform) (T.faults c.format.new.tape) output (L.faults c.format.new.ledger) in
-    let grows = c.format.ensures.grows in
-    subst (λ (h : Halt). Blames before now (Err h)) (sym c.halt_of.ensures)
-    (format_blamed Q T _ _ _ _ _ _ before now c.in-Err.refusal (of_ledger _ _ _ _ output _ _) refl (record { platform = grows.0.faults; tape = grows.1; input = omega arith; output = omega arith; ledger = grows.2 }) c.in-Err.ensures.cause)
-
-pub returns-in-Err-clause-stops : goal.returns-in-Err-clause-stops
-returns-in-Err-clause-stops g c = subst IsOfOpening (sym c.halt_of.ensures) (format_halt c.in-Err.refusal)
-
-pub returns-in-Err-mount_session-clause-stops : goal.returns-in-Err-mount_session-clause-stops
-returns-in-Err-mount_session-clause-stops g c = mount_to _ _ _ c.in-Err-mount_session.stop c.in-Err-mount_session.ensures.stops
+pub returns-in-Err-clause-there : goal.returns-in-Err-clause-there
+returns-in-Err-clause-there g c told is = format_not_root c.in-Err.refusal c.halt_of.result c.halt_of.ensures cc

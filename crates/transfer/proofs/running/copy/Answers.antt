@@ -1,60 +1,69 @@
-use Rattle.std.proofs.Common.{length}
 use Rattle.session_calls.proofs.CarryLaws.{carries_along, carries_end, carries_then}
-use Rattle.std.proofs.Common.{ℕ, List, Some, subst}
+use Rattle.std.proofs.Common.{◌≡◌, ◌-◌, ℕ, List, Some, Err, ap, subst, length, arith}
 use Rattle.std.specs.FinMap as maps
-use Rattle.sdbt_base.specs.Arrays.{Device, Session as OpenSession, mounted, session_on}
+use Rattle.sdbt_base.specs.Arrays.{Session as OpenSession, mounted, session_on}
+use Rattle.device_session.specs.Open.{needed_by}
+use Rattle.device_session.proofs.CountLaws.{needs_none}
 use Rattle.device_course.specs.States.{IsAt}
 use Rattle.device_course.proofs.MadeLaws.{made_kept}
 use Rattle.transfer.specs.Copies.{copied}
-use Rattle.transfer.proofs.FillLaws.{fills_committed, fills_halted, fills_since}
+use Rattle.transfer.specs.Moving.{IsShort}
+use Rattle.transfer.proofs.FillLaws.{reaches_blank, reaches_committed, reaches_since, short_not_copy}
 use Rattle.transfer.proofs.BlameLaws.{blames_as, blames_then}
-use Rattle.transfer.proofs.HaltLaws.{behind_opening_all, meets_opening_all}
+use Rattle.transfer.proofs.HaltLaws.{behind_commit_all, halted, meets_commit_all}
 use Rattle.transfer.proofs.running.copy.Goals as goal
 
-pub returns-in-Ok-clause-from : goal.returns-in-Ok-clause-from
-returns-in-Ok-clause-from g c any = c.copy_blocks.ensures.from any
+pub returns-in_err-copy_blocks-clause-both : goal.returns-in_err-copy_blocks-clause-both
+returns-in_err-copy_blocks-clause-both g c = rw (halted c.from_residual.result c.in_err-copy_blocks.field-0.0 c.from_residual.ensures.1) (record {
+  from = λ any. c.copy_blocks.ensures.from any;
+  to = carries_end _ _ _ _ _ _ _ (λ going. tt)
+      (carries_along g.Q.Platform g.T.Tape g.L.Sink (length c.args.blocks.now) c.args.to.now c.copy_blocks.new.to c.args.tape.now c.copy_blocks.new.tape c.args.ledger.now _ _ c.requires.target c.copy_blocks.ensures.to);
+  blame = λ output. blames_as _ _ c.in_err-copy_blocks.field-0.0 (c.in_err-copy_blocks.ensures.blame output (g.L.Sink.faults c.args.ledger.now));
+  wrong = c.in_err-copy_blocks.ensures.wrong;
+  behind = c.in_err-copy_blocks.ensures.behind;
+})
 
-pub returns-in-Err-clause-from : goal.returns-in-Err-clause-from
-returns-in-Err-clause-from g c any = c.copy_blocks.ensures.from any
+pub returns-clause-both : goal.returns-clause-both
+returns-clause-both g c = record {
+  from = λ any. c.copy_blocks.ensures.from any;
+  to = carries_then _ _ _ _ c.args.first c.copy_blocks.new.target _ _ _ tt
+      (carries_along g.Q.Platform g.T.Tape g.L.Sink (length c.args.blocks.now) c.args.to.now c.copy_blocks.new.to c.args.tape.now c.copy_blocks.new.tape c.args.ledger.now _ _ c.requires.target c.copy_blocks.ensures.to)
+      c.commit_target.ensures.carries;
+  blame = λ output. blames_then _ _ _ _ (c.in_ok-copy_blocks.ensures.blame output (g.L.Sink.faults c.args.ledger.now)).quiet (c.commit_target.ensures.blame (g.P.Platform.faults c.copy_blocks.new.from) output);
+  wrong = meets_commit_all _ _ _ _ c.commit_target.result c.commit_target.ensures.wrong;
+  behind = behind_commit_all c.commit_target.result c.commit_target.ensures.wrong;
+}
 
 pub commit_target-requires : goal.commit_target-requires
 commit_target-requires g c = record { target = record { is_open = c.copy_blocks.ensures.to.is_open; mounted = λ told. c.copy_blocks.ensures.to.mounted told (c.requires.target.mounted told) } }
 
-pub returns-in-Ok-clause-to : goal.returns-in-Ok-clause-to
-returns-in-Ok-clause-to g c =
-    carries_then _ _ _ _ c.args.first c.copy_blocks.new.target _ _ _ tt
-    (carries_along g.Q.Platform g.T.Tape g.L.Sink (length c.args.blocks.now) c.args.to.now c.copy_blocks.new.to c.args.tape.now c.copy_blocks.new.tape c.args.ledger.now _ _ c.requires.target c.copy_blocks.ensures.to)
-    c.commit_target.ensures.carries
+pub returns-in_err-copy_blocks-clause-leads : goal.returns-in_err-copy_blocks-clause-leads
+returns-in_err-copy_blocks-clause-leads g c from_told to_told device there at at_there keys blank =
+    rw (halted c.from_residual.result c.in_err-copy_blocks.field-0.0 c.from_residual.ensures.1) (reaches_blank (g.Q.Platform.history c.args.to.now) (g.Q.Platform.history c.copy_blocks.new.to) device there _ c.in_err-copy_blocks.field-0.0 (λ is.
+    let full = c.in_err-copy_blocks.ensures.full (ap Err is) in
+    let along = c.copy_blocks.ensures.to in
+    let many : length c.args.blocks.now ≡ length (maps.keys device.contents) = ap length keys in
+    let short : IsShort device 0 (g.Q.Platform.capacity c.args.to.now - g.Q.Platform.head c.args.to.now) = omega (arith, full.0, full.1, along.adds, along.capacity, many) in
+    (short, short_not_copy device there _ blank short))
+    blank (c.in_err-copy_blocks.ensures.leads from_told to_told device there (session_on device) (session_on there) at at_there)
+    (made_kept (g.Q.Platform.history c.args.to.now) (g.Q.Platform.history c.copy_blocks.new.to) there at_there.there.device at_there.served (c.copy_blocks.ensures.to.cell to_told)))
 
-pub returns-in-Err-clause-to : goal.returns-in-Err-clause-to
-returns-in-Err-clause-to g c =
-    carries_end _ _ _ _ _ _ _ (λ going. tt)
-    (carries_along g.Q.Platform g.T.Tape g.L.Sink (length c.args.blocks.now) c.args.to.now c.copy_blocks.new.to c.args.tape.now c.copy_blocks.new.tape c.args.ledger.now _ _ c.requires.target c.copy_blocks.ensures.to)
-
-pub returns-in-Ok-clause-blame : goal.returns-in-Ok-clause-blame
-returns-in-Ok-clause-blame g c output =
-    blames_then _ _ _ _ (c.in-Ok.ensures.blame output (g.L.Sink.faults c.args.ledger.now)).quiet (c.commit_target.ensures.blame (g.P.Platform.faults c.copy_blocks.new.from) output)
-
-pub returns-in-Err-clause-blame : goal.returns-in-Err-clause-blame
-returns-in-Err-clause-blame g c output = blames_as _ _ c.in-Err.halt (c.in-Err.ensures.blame output (g.L.Sink.faults c.args.ledger.now))
-
-pub returns-in-Ok-clause-wrong : goal.returns-in-Ok-clause-wrong
-returns-in-Ok-clause-wrong g c = meets_opening_all _ _ _ _ c.commit_target.result c.commit_target.ensures.wrong
-
-pub returns-in-Err-clause-leads : goal.returns-in-Err-clause-leads
-returns-in-Err-clause-leads g c from_told to_told device there at at_there keys blank =
-    fills_halted (g.Q.Platform.history c.args.to.now) (g.Q.Platform.history c.copy_blocks.new.to) device there c.in-Err.halt (c.in-Err.ensures.leads from_told to_told device there (session_on device) (session_on there) at at_there)
-    (made_kept (g.Q.Platform.history c.args.to.now) (g.Q.Platform.history c.copy_blocks.new.to) there at_there.there.device at_there.served (c.copy_blocks.ensures.to.cell to_told))
-
-pub returns-in-Ok-clause-leads : goal.returns-in-Ok-clause-leads
-returns-in-Ok-clause-leads g c from_told to_told device there at at_there keys blank =
-    let led = c.in-Ok.ensures.leads from_told to_told device there (session_on device) (session_on there) at at_there in
+pub returns-clause-leads : goal.returns-clause-leads
+returns-clause-leads g c from_told to_told device there at at_there keys blank =
+    let led = c.in_ok-copy_blocks.ensures.leads from_told to_told device there (session_on device) (session_on there) at at_there in
     let array : List ℕ → OpenSession = λ bs. copied device.contents bs (session_on there) in
     let here = subst (λ (bs : List ℕ). IsAt (g.Q.Platform.history c.copy_blocks.new.to).present (Some c.copy_blocks.new.target) (mounted there (array bs))) keys led.1 in
-    fills_since (g.Q.Platform.history c.args.to.now) (g.Q.Platform.history c.copy_blocks.new.to) (g.Q.Platform.history c.commit_target.new.to) device there c.commit_target.result
+    let along = c.copy_blocks.ensures.to in
+    let none : needed_by c.args.first ≡ 0 = needs_none c.args.first (g.Q.Platform.head c.args.to.now) c.requires.target.is_open at_there.there.session.1 in
+    let many : length c.args.blocks.now ≡ length (maps.keys device.contents) = ap length keys in
+    reaches_since (g.Q.Platform.history c.args.to.now) (g.Q.Platform.history c.copy_blocks.new.to) (g.Q.Platform.history c.commit_target.new.to) device there _ _ c.commit_target.result (λ short. short)
     (made_kept (g.Q.Platform.history c.args.to.now) (g.Q.Platform.history c.copy_blocks.new.to) there at_there.there.device at_there.served (c.copy_blocks.ensures.to.cell to_told))
-    (fills_committed (g.Q.Platform.history c.copy_blocks.new.to) (g.Q.Platform.history c.commit_target.new.to) device there c.commit_target.result blank
+    (reaches_committed (g.Q.Platform.history c.copy_blocks.new.to) (g.Q.Platform.history c.commit_target.new.to) device there _ c.commit_target.result (λ is.
+    let full = c.commit_target.ensures.full is in
+    let short : IsShort device 0 (g.Q.Platform.capacity c.args.to.now - g.Q.Platform.head c.args.to.now) = omega (arith, full, along.needs, along.adds, along.rises, along.capacity, none, many) in
+    (short, short_not_copy device there _ blank short))
+    blank
     (c.commit_target.ensures.leads to_told there (array (maps.keys device.contents)) here))
 
-pub returns-in-Ok-clause-behind : goal.returns-in-Ok-clause-behind
-returns-in-Ok-clause-behind g c = behind_opening_all c.commit_target.result c.commit_target.ensures.wrong
+pub copy_blocks-requires : goal.copy_blocks-requires
+copy_blocks-requires g c = record { source = c.requires.source; target = record { is_open = c.requires.target.is_open; mounted = c.requires.target.mounted }; within = c.requires.within; alike = c.requires.alike }

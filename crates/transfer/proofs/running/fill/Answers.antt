@@ -1,28 +1,59 @@
+use Rattle.std.proofs.Common.{◌∙◌, ap, arith}
+use Rattle.root_codec.specs.declared.root.Root.{Root}
 use Rattle.session_calls.proofs.AlongLaws.{along_start}
 use Rattle.transfer.proofs.BlameLaws.{blames_as, blames_then}
-use Rattle.transfer.proofs.HaltLaws.{behind_opening, meets_opening}
+use Rattle.transfer.proofs.FillLaws.{new_blank, reaches_opened, reaches_unopened}
+use Rattle.transfer.proofs.HaltLaws.{behind_both_all, behind_opening, halted, meets_opening}
+use Rattle.transfer.proofs.LookedLaws.{there_as, there_behind}
 use Rattle.transfer.proofs.ToLaws.{spans_more, spans_opened}
 use Rattle.transfer.proofs.running.fill.Goals as goal
 
-pub returns-in-Ok-clause-to : goal.returns-in-Ok-clause-to
-returns-in-Ok-clause-to g c =
-    spans_opened _ _ _ _ _ _ c.in-Ok.target.session _ (g.met.Q.Platform.has_room c.fill_target.new.to) c.in-Ok.ensures.opened c.fill_target.ensures.to
+pub returns-clause-to : goal.returns-clause-to
+returns-clause-to g c =
+    spans_opened _ _ _ _ _ _ c.in_ok-target.target.session _ (g.met.Q.Platform.has_room c.fill_target.new.to) c.in_ok-target.ensures.target.opened c.fill_target.ensures.both.to
 
-pub returns-in-Ok-clause-blame : goal.returns-in-Ok-clause-blame
-returns-in-Ok-clause-blame g c output =
-    blames_then _ _ _ _ (c.in-Ok.ensures.blame (g.P.Platform.faults c.args.from.now) output).quiet (c.fill_target.ensures.blame output)
+pub returns-clause-blame : goal.returns-clause-blame
+returns-clause-blame g c output =
+    blames_then _ _ _ _ (c.in_ok-target.ensures.target.blame (g.P.Platform.faults c.args.from.now) output).quiet (c.fill_target.ensures.both.blame output)
 
-pub returns-in-Err-clause-from : goal.returns-in-Err-clause-from
-returns-in-Err-clause-from g c any = along_start g.P.Platform c.args.from.now any c.args.source.now c.requires.ready.is_open
+pub returns-in_err-target-clause-from : goal.returns-in_err-target-clause-from
+returns-in_err-target-clause-from g c any = along_start g.P.Platform c.args.from.now any c.args.source.now c.requires.ready.is_open
 
-pub returns-in-Err-clause-to : goal.returns-in-Err-clause-to
-returns-in-Err-clause-to g c = spans_more _ _ _ ⊥ _ (λ never. absurd cc) c.in-Err.ensures.stopped
+pub returns-in_err-target-clause-to : goal.returns-in_err-target-clause-to
+returns-in_err-target-clause-to g c = rw (halted c.from_residual.result c.in_err-target.field-0.0 c.from_residual.ensures.1) (spans_more _ _ _ ⊥ _ (λ never. absurd cc) c.in_err-target.ensures.target.stopped)
 
-pub returns-in-Err-clause-blame : goal.returns-in-Err-clause-blame
-returns-in-Err-clause-blame g c output = blames_as _ _ c.in-Err.halt (c.in-Err.ensures.blame (g.P.Platform.faults c.args.from.now) output)
+pub returns-in_err-target-clause-blame : goal.returns-in_err-target-clause-blame
+returns-in_err-target-clause-blame g c output = rw (halted c.from_residual.result c.in_err-target.field-0.0 c.from_residual.ensures.1) (blames_as _ _ c.in_err-target.field-0.0 (c.in_err-target.ensures.target.blame (g.P.Platform.faults c.args.from.now) output))
 
-pub returns-in-Err-clause-wrong : goal.returns-in-Err-clause-wrong
-returns-in-Err-clause-wrong g c = meets_opening _ _ _ _ c.in-Err.halt c.in-Err.ensures.stops
+pub returns-in_err-target-clause-wrong : goal.returns-in_err-target-clause-wrong
+returns-in_err-target-clause-wrong g c = rw (halted c.from_residual.result c.in_err-target.field-0.0 c.from_residual.ensures.1) (meets_opening _ _ _ _ c.in_err-target.field-0.0 c.in_err-target.ensures.target.stops)
 
-pub returns-in-Err-clause-behind : goal.returns-in-Err-clause-behind
-returns-in-Err-clause-behind g c = behind_opening c.in-Err.halt c.in-Err.ensures.stops
+pub returns-in_err-target-clause-behind : goal.returns-in_err-target-clause-behind
+returns-in_err-target-clause-behind g c = rw (halted c.from_residual.result c.in_err-target.field-0.0 c.from_residual.ensures.1) (behind_opening c.in_err-target.field-0.0 c.in_err-target.ensures.target.stops)
+
+pub returns-clause-leads : goal.returns-clause-leads
+returns-clause-leads g c from_told to_told device there at stands served =
+    let blank = new_blank (g.P.Platform.history c.args.from.now).present c.args.source.now device _ _ _ at c.blocks-blocks.ensures (ap (λ (r : Root). r.order) c.root.ensures) in
+    let opened = c.in_ok-target.ensures.target.opened.made to_told there stands served in
+    reaches_opened (g.Q.Platform.history c.args.to.now) (g.Q.Platform.history c.open_target.new.to) (g.Q.Platform.history c.fill_target.new.to) c.in_ok-target.target.session _ _ device opened.1 there _ _ opened.0 c.fill_target.result (λ short. omega (arith, short, c.in_ok-target.ensures.target.adds.0, c.in_ok-target.ensures.target.adds.1)) blank opened.2 opened.4
+    (c.fill_target.ensures.leads from_told to_told device opened.1 at opened.4.exits (λ is. c.in_ok-target.ensures.target.is_new to_told is opened.1 opened.4.exits.there.device ∙ blank))
+
+pub returns-in_err-target-clause-leads : goal.returns-in_err-target-clause-leads
+returns-in_err-target-clause-leads g c from_told to_told device there at stands served =
+    rw (halted c.from_residual.result c.in_err-target.field-0.0 c.from_residual.ensures.1) (reaches_unopened (g.Q.Platform.history c.args.to.now) (g.Q.Platform.history c.open_target.new.to) _ _ _ device there c.in_err-target.field-0.0 (new_blank (g.P.Platform.history c.args.from.now).present c.args.source.now device _ _ _ at c.blocks-blocks.ensures (ap (λ (r : Root). r.order) c.root.ensures))
+    (c.in_err-target.ensures.target.none to_told there stands served))
+
+pub returns-clause-behind : goal.returns-clause-behind
+returns-clause-behind g c = behind_both_all c.fill_target.result c.fill_target.ensures.both.behind
+
+pub returns-clause-there : goal.returns-clause-there
+returns-clause-there g c = there_behind _ _ _ c.fill_target.result c.in_ok-target.ensures.there c.fill_target.ensures.both.behind
+
+pub returns-in_err-target-clause-there : goal.returns-in_err-target-clause-there
+returns-in_err-target-clause-there g c = rw (halted c.from_residual.result c.in_err-target.field-0.0 c.from_residual.ensures.1) (there_as _ _ c.in_err-target.field-0.0 c.in_err-target.ensures.there)
+
+pub returns-clause-from : goal.returns-clause-from
+returns-clause-from g c any = c.fill_target.ensures.both.from any
+
+pub returns-clause-wrong : goal.returns-clause-wrong
+returns-clause-wrong g c = c.fill_target.ensures.both.wrong

@@ -1,72 +1,102 @@
-use Rattle.std.proofs.Common.{◌<◌, ◌∙◌, ℕ, sym, subst}
+use Rattle.std.proofs.Common.{◌≡◌, ◌<◌, ◌∙◌, ℕ, true, false, sym, subst, arith}
+use Rattle.device_course.proofs.MadeLaws.{made_kept}
 use Rattle.std.specs.Prelude.{All}
 use Rattle.session_calls.specs.Along.{drawn_by}
 use Rattle.session_calls.proofs.AlongLaws.{along_then}
 use Rattle.session_calls.proofs.CallLaws.{no_draw}
 use Rattle.session_calls.proofs.CarryLaws.{carries_along, carries_end, carries_then}
+use Rattle.transfer.proofs.HaltLaws.{halted}
 use Rattle.transfer.proofs.BlameLaws.{blames_as, blames_done, blames_halt, blames_then}
+use Rattle.transfer.proofs.FillLaws.{fresh_blank, number_at, reaches_halted, reaches_other, reaches_since, reaches_still, stale_other}
 use Rattle.transfer.proofs.running.fill_found.Goals as goal
 
-pub returns-in-Err-clause-from : goal.returns-in-Err-clause-from
-returns-in-Err-clause-from g c any = c.has_all.ensures.from any
+pub returns-in_err-has-clause-both : goal.returns-in_err-has-clause-both
+returns-in_err-has-clause-both g c = rw (halted c.from_residual.result c.in_err-has.field-0.0 c.from_residual.ensures.1) (record {
+  from = λ any. c.has_all.ensures.both.from any;
+  to = carries_end _ _ _ _ _ _ _ (λ going. tt)
+      (carries_along g.Q.Platform g.T.Tape g.L.Sink 0 c.args.to.now c.has_all.new.to c.args.tape.now c.args.tape.now c.args.ledger.now _ _ c.requires.target (c.has_all.ensures.both.to (drawn_by g.T.Tape c.args.tape.now)));
+  blame = λ output. blames_as _ _ c.in_err-has.field-0.0 (c.in_err-has.ensures.both.blame (g.T.Tape.faults c.args.tape.now) output (g.L.Sink.faults c.args.ledger.now));
+  wrong = c.in_err-has.ensures.both.wrong;
+  behind = c.in_err-has.ensures.both.behind;
+})
 
-pub returns-in-Err-clause-to : goal.returns-in-Err-clause-to
-returns-in-Err-clause-to g c =
-    carries_end _ _ _ _ _ _ _ (λ going. tt)
-    (carries_along g.Q.Platform g.T.Tape g.L.Sink 0 c.args.to.now c.has_all.new.to c.args.tape.now c.args.tape.now c.args.ledger.now _ _ c.requires.target (c.has_all.ensures.to (drawn_by g.T.Tape c.args.tape.now)))
+pub returns-then-has-clause-both : goal.returns-then-has-clause-both
+returns-then-has-clause-both g c = record {
+  from = λ any. c.has_all.ensures.both.from any;
+  to = carries_end _ _ _ _ _ _ _ (λ going. tt)
+      (carries_along g.Q.Platform g.T.Tape g.L.Sink 0 c.args.to.now c.has_all.new.to c.args.tape.now c.args.tape.now c.args.ledger.now _ _ c.requires.target (c.has_all.ensures.both.to (drawn_by g.T.Tape c.args.tape.now)));
+  blame = λ output. blames_done _ _ _ (c.in_ok-has.ensures.both.blame (g.T.Tape.faults c.args.tape.now) output (g.L.Sink.faults c.args.ledger.now)).quiet;
+  wrong = tt;
+  behind = tt;
+}
 
-pub returns-in-Err-clause-blame : goal.returns-in-Err-clause-blame
-returns-in-Err-clause-blame g c output = blames_as _ _ c.in-Err.halt (c.in-Err.ensures.blame (g.T.Tape.faults c.args.tape.now) output (g.L.Sink.faults c.args.ledger.now))
+pub returns-then-fresh-clause-both : goal.returns-then-fresh-clause-both
+returns-then-fresh-clause-both g c = record {
+  from = λ any. along_then g.P.Platform 0 0 _ _ _ any any any _ _ _ (c.has_all.ensures.both.from any) (c.copy.ensures.both.from any);
+  to = carries_then _ _ _ _ c.args.found c.has_all.new.target _ _ _ tt
+      (carries_along g.Q.Platform g.T.Tape g.L.Sink 0 c.args.to.now c.has_all.new.to c.args.tape.now c.args.tape.now c.args.ledger.now _ _ c.requires.target (c.has_all.ensures.both.to (drawn_by g.T.Tape c.args.tape.now)))
+      c.copy.ensures.both.to;
+  blame = λ output. blames_then _ _ _ _ (c.in_ok-has.ensures.both.blame (g.T.Tape.faults c.args.tape.now) output (g.L.Sink.faults c.args.ledger.now)).quiet (c.copy.ensures.both.blame output);
+  wrong = c.copy.ensures.both.wrong;
+  behind = c.copy.ensures.both.behind;
+}
 
-pub returns-then-has-clause-from : goal.returns-then-has-clause-from
-returns-then-has-clause-from g c any = c.has_all.ensures.from any
+pub returns-else-fresh-clause-both : goal.returns-else-fresh-clause-both
+returns-else-fresh-clause-both g c = record {
+  from = λ any. c.has_all.ensures.both.from any;
+  to = carries_end _ _ _ _ _ _ _ (λ going. tt)
+      (carries_along g.Q.Platform g.T.Tape g.L.Sink 0 c.args.to.now c.has_all.new.to c.args.tape.now c.args.tape.now c.args.ledger.now _ _ c.requires.target (c.has_all.ensures.both.to (drawn_by g.T.Tape c.args.tape.now)));
+  blame = λ output. let same = (c.in_ok-has.ensures.both.blame (g.T.Tape.faults c.args.tape.now) output (g.L.Sink.faults c.args.ledger.now)).quiet in
+      blames_halt _ _ _ same same;
+  wrong = tt;
+  behind = tt;
+}
 
-pub returns-then-has-clause-to : goal.returns-then-has-clause-to
-returns-then-has-clause-to g c =
-    carries_end _ _ _ _ _ _ _ (λ going. tt)
-    (carries_along g.Q.Platform g.T.Tape g.L.Sink 0 c.args.to.now c.has_all.new.to c.args.tape.now c.args.tape.now c.args.ledger.now _ _ c.requires.target (c.has_all.ensures.to (drawn_by g.T.Tape c.args.tape.now)))
+pub has_all-requires : goal.has_all-requires
+has_all-requires g c = record {
+  source = c.requires.source;
+  target = record { is_open = c.requires.target.is_open; mounted = c.requires.target.mounted };
+  within = c.requires.within;
+  alike = c.requires.alike;
+}
 
-pub returns-then-has-clause-blame : goal.returns-then-has-clause-blame
-returns-then-has-clause-blame g c output = blames_done _ _ _ (c.in-Ok.ensures.blame (g.T.Tape.faults c.args.tape.now) output (g.L.Sink.faults c.args.ledger.now)).quiet
+pub copy-requires : goal.copy-requires
+copy-requires g c =
+    let source = c.has_all.ensures.both.from no_draw in
+    let target = c.has_all.ensures.both.to no_draw in record {
+      source = record { is_open = source.is_open; mounted = λ told. source.mounted told (c.requires.source.mounted told) };
+      target = record { is_open = target.is_open; mounted = λ told. target.mounted told (c.requires.target.mounted told) };
+      within = subst (λ (n : ℕ). All (λ (block : ℕ). block < n) c.args.blocks.now) (sym source.blocks) c.requires.within;
+      alike = target.blocks ∙ (c.requires.alike ∙ sym source.blocks);
+    }
 
-pub copy-requires-clause-source : goal.copy-requires-clause-source
-copy-requires-clause-source g c =
-    let along = c.has_all.ensures.from no_draw in
-    record { is_open = along.is_open; mounted = λ told. along.mounted told (c.requires.source.mounted told) }
+pub returns-in_err-has-clause-leads : goal.returns-in_err-has-clause-leads
+returns-in_err-has-clause-leads g c from_told to_told device there at at_there keys alike =
+    rw (halted c.from_residual.result c.in_err-has.field-0.0 c.from_residual.ensures.1) (reaches_halted (g.Q.Platform.history c.args.to.now) (g.Q.Platform.history c.has_all.new.to) device there _ c.in_err-has.field-0.0 (c.in_err-has.ensures.leads from_told to_told device there at at_there keys)
+    (made_kept (g.Q.Platform.history c.args.to.now) (g.Q.Platform.history c.has_all.new.to) there at_there.there.device at_there.served ((c.has_all.ensures.both.to no_draw).cell to_told)))
 
-pub copy-requires-clause-target : goal.copy-requires-clause-target
-copy-requires-clause-target g c =
-    let along = c.has_all.ensures.to no_draw in
-    record { is_open = along.is_open; mounted = λ told. along.mounted told (c.requires.target.mounted told) }
+pub returns-then-has-clause-leads : goal.returns-then-has-clause-leads
+returns-then-has-clause-leads g c from_told to_told device there at at_there keys alike =
+    let led = c.in_ok-has.ensures.leads from_told to_told device there at at_there keys in
+    reaches_still (g.Q.Platform.history c.args.to.now) (g.Q.Platform.history c.has_all.new.to) device there _ c.number-number.result (record { blocks = alike.blocks; order = alike.order; contents = led.2.0 c.if-has.true })
+    (c.number-number.ensures ∙ number_at (g.Q.Platform.history c.args.to.now).present c.args.found there _ at_there)
+    (made_kept (g.Q.Platform.history c.args.to.now) (g.Q.Platform.history c.has_all.new.to) there at_there.there.device at_there.served ((c.has_all.ensures.both.to no_draw).cell to_told))
 
-pub copy-requires-clause-within : goal.copy-requires-clause-within
-copy-requires-clause-within g c = subst (λ (n : ℕ). All (λ (block : ℕ). block < n) c.args.blocks.now) (sym (c.has_all.ensures.from no_draw).blocks) c.requires.within
+pub returns-then-fresh-clause-leads : goal.returns-then-fresh-clause-leads
+returns-then-fresh-clause-leads g c from_told to_told device there at at_there keys alike =
+    let led = c.in_ok-has.ensures.leads from_told to_told device there at at_there keys in
+    let blank = fresh_blank (g.Q.Platform.history c.args.to.now).present c.args.found device there at_there alike (c.is_fresh-fresh.ensures.0 c.if-fresh.true) in
+    reaches_since (g.Q.Platform.history c.args.to.now) (g.Q.Platform.history c.has_all.new.to) (g.Q.Platform.history c.copy.new.to) device there _ _ c.copy.result (λ short. let along = c.has_all.ensures.both.to no_draw in omega (arith, short, along.adds, along.rises, along.capacity))
+    (made_kept (g.Q.Platform.history c.args.to.now) (g.Q.Platform.history c.has_all.new.to) there at_there.there.device at_there.served ((c.has_all.ensures.both.to no_draw).cell to_told))
+    (c.copy.ensures.leads from_told to_told device there led.0 led.1 keys blank)
 
-pub copy-requires-clause-alike : goal.copy-requires-clause-alike
-copy-requires-clause-alike g c = (c.has_all.ensures.to no_draw).blocks ∙ (c.requires.alike ∙ sym (c.has_all.ensures.from no_draw).blocks)
-
-pub returns-then-fresh-clause-from : goal.returns-then-fresh-clause-from
-returns-then-fresh-clause-from g c any = along_then g.P.Platform 0 0 _ _ _ any any any _ _ _ (c.has_all.ensures.from any) (c.copy.ensures.from any)
-
-pub returns-then-fresh-clause-to : goal.returns-then-fresh-clause-to
-returns-then-fresh-clause-to g c =
-    carries_then _ _ _ _ c.args.found c.has_all.new.target _ _ _ tt
-    (carries_along g.Q.Platform g.T.Tape g.L.Sink 0 c.args.to.now c.has_all.new.to c.args.tape.now c.args.tape.now c.args.ledger.now _ _ c.requires.target (c.has_all.ensures.to (drawn_by g.T.Tape c.args.tape.now)))
-    c.copy.ensures.to
-
-pub returns-then-fresh-clause-blame : goal.returns-then-fresh-clause-blame
-returns-then-fresh-clause-blame g c output =
-    blames_then _ _ _ _ (c.in-Ok.ensures.blame (g.T.Tape.faults c.args.tape.now) output (g.L.Sink.faults c.args.ledger.now)).quiet (c.copy.ensures.blame output)
-
-pub returns-else-fresh-clause-from : goal.returns-else-fresh-clause-from
-returns-else-fresh-clause-from g c any = c.has_all.ensures.from any
-
-pub returns-else-fresh-clause-to : goal.returns-else-fresh-clause-to
-returns-else-fresh-clause-to g c =
-    carries_end _ _ _ _ _ _ _ (λ going. tt)
-    (carries_along g.Q.Platform g.T.Tape g.L.Sink 0 c.args.to.now c.has_all.new.to c.args.tape.now c.args.tape.now c.args.ledger.now _ _ c.requires.target (c.has_all.ensures.to (drawn_by g.T.Tape c.args.tape.now)))
-
-pub returns-else-fresh-clause-blame : goal.returns-else-fresh-clause-blame
-returns-else-fresh-clause-blame g c output =
-    let same = (c.in-Ok.ensures.blame (g.T.Tape.faults c.args.tape.now) output (g.L.Sink.faults c.args.ledger.now)).quiet in
-    blames_halt _ _ _ same same
+pub returns-else-fresh-clause-leads : goal.returns-else-fresh-clause-leads
+returns-else-fresh-clause-leads g c from_told to_told device there at at_there keys alike =
+    let led = c.in_ok-has.ensures.leads from_told to_told device there at at_there keys in
+    reaches_other (g.Q.Platform.history c.args.to.now) (g.Q.Platform.history c.has_all.new.to) device there _
+    (stale_other (g.Q.Platform.history c.args.to.now).present c.args.found device there at_there (λ same.
+    let never : true ≡ false = sym (led.2.1 same) ∙ c.if-has.false in
+    cc) (λ fresh.
+    let never : true ≡ false = sym (c.is_fresh-fresh.ensures.1 fresh) ∙ c.if-fresh.false in
+    cc))
+    (made_kept (g.Q.Platform.history c.args.to.now) (g.Q.Platform.history c.has_all.new.to) there at_there.there.device at_there.served ((c.has_all.ensures.both.to no_draw).cell to_told))

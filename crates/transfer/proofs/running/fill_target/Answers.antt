@@ -1,56 +1,93 @@
-use Rattle.std.proofs.Common.{refl}
+use Rattle.std.proofs.Common.{◌≡◌, ◌∙◌, Some, false, true, refl, sym, subst, ◌<◌, ℕ, List}
+use Rattle.std.specs.Prelude.{All}
+use Rattle.device_session.specs.Open.{blocks_of}
+use Rattle.sdbt_base.specs.Arrays.{mounted, session_on}
+use Rattle.platform.specs.Image.{Image}
+use Rattle.device_terms.proofs.MomentLaws.{still}
+use Rattle.device_course.specs.States.{IsAt}
+use Rattle.device_course.proofs.MadeLaws.{made_kept}
 use Rattle.session_calls.proofs.AlongLaws.{along_start, along_then}
 use Rattle.session_calls.proofs.CallLaws.{no_draw}
 use Rattle.session_calls.proofs.CarryLaws.{carries_end, carries_start}
 use Rattle.transfer.proofs.BlameLaws.{blames_as, blames_halt, blames_then}
-use Rattle.transfer.proofs.HaltLaws.{behind_from, meets_from}
+use Rattle.transfer.proofs.HaltLaws.{behind_from, halted, meets_from}
+use Rattle.transfer.proofs.FillLaws.{alike_of, reaches_halted, reaches_other, unlike_other}
 use Rattle.transfer.proofs.running.fill_target.Goals as goal
 
-pub returns-then-not-is_alike-clause-from : goal.returns-then-not-is_alike-clause-from
-returns-then-not-is_alike-clause-from g c any = along_start g.P.Platform c.args.from.now any c.args.source.now c.requires.source.is_open
+pub returns-then-not-is_alike-clause-both : goal.returns-then-not-is_alike-clause-both
+returns-then-not-is_alike-clause-both g c = record {
+  from = λ any. along_start g.P.Platform c.args.from.now any c.args.source.now c.requires.source.is_open;
+  to = carries_end _ _ _ _ _ _ _ (λ going. tt) (carries_start _ _ c.args.target c.requires.target);
+  blame = λ output. blames_halt _ _ _ refl refl;
+  wrong = tt;
+  behind = tt;
+}
 
-pub returns-then-not-is_alike-clause-to : goal.returns-then-not-is_alike-clause-to
-returns-then-not-is_alike-clause-to g c = carries_end _ _ _ _ _ _ _ (λ going. tt) (carries_start _ _ c.args.target c.requires.target)
+pub returns-in_err-blocks-clause-both : goal.returns-in_err-blocks-clause-both
+returns-in_err-blocks-clause-both g c = rw (halted c.from_residual.result c.in_err-blocks.field-0.0 c.from_residual.ensures.1) (record {
+  from = λ any. c.list_source.ensures.along any;
+  to = carries_end _ _ _ _ _ _ _ (λ going. tt) (carries_start _ _ c.args.target c.requires.target);
+  blame = λ output. blames_as _ _ c.in_err-blocks.field-0.0 (c.in_err-blocks.ensures.blame (g.Q.Platform.faults c.args.to.now) (g.T.Tape.faults c.args.tape.now) output (g.L.Sink.faults c.args.ledger.now));
+  wrong = meets_from _ _ _ _ c.in_err-blocks.field-0.0 c.in_err-blocks.ensures.wrong;
+  behind = behind_from _ _ c.in_err-blocks.field-0.0 c.in_err-blocks.ensures.wrong;
+})
 
-pub returns-then-not-is_alike-clause-blame : goal.returns-then-not-is_alike-clause-blame
-returns-then-not-is_alike-clause-blame g c output = blames_halt _ _ _ refl refl
+pub returns-then-is_new-clause-both : goal.returns-then-is_new-clause-both
+returns-then-is_new-clause-both g c = record {
+  from = λ any. along_then g.P.Platform 0 0 _ _ _ any any any _ _ _ (c.list_source.ensures.along any) (c.copy.ensures.both.from any);
+  to = c.copy.ensures.both.to;
+  blame = λ output. blames_then _ _ _ _ (c.in_ok-blocks.ensures.blame (g.Q.Platform.faults c.args.to.now) (g.T.Tape.faults c.args.tape.now) output (g.L.Sink.faults c.args.ledger.now)).quiet (c.copy.ensures.both.blame output);
+  wrong = c.copy.ensures.both.wrong;
+  behind = c.copy.ensures.both.behind;
+}
 
-pub returns-in-Err-clause-from : goal.returns-in-Err-clause-from
-returns-in-Err-clause-from g c any = c.list_source.ensures.along any
+pub returns-clause-both : goal.returns-clause-both
+returns-clause-both g c = record {
+  from = λ any. along_then g.P.Platform 0 0 _ _ _ any any any _ _ _ (c.list_source.ensures.along any) (c.fill_found.ensures.both.from any);
+  to = c.fill_found.ensures.both.to;
+  blame = λ output. blames_then _ _ _ _ (c.in_ok-blocks.ensures.blame (g.Q.Platform.faults c.args.to.now) (g.T.Tape.faults c.args.tape.now) output (g.L.Sink.faults c.args.ledger.now)).quiet (c.fill_found.ensures.both.blame output);
+  wrong = c.fill_found.ensures.both.wrong;
+  behind = c.fill_found.ensures.both.behind;
+}
 
-pub returns-in-Err-clause-to : goal.returns-in-Err-clause-to
-returns-in-Err-clause-to g c = carries_end _ _ _ _ _ _ _ (λ going. tt) (carries_start _ _ c.args.target c.requires.target)
+pub copy-requires : goal.copy-requires
+copy-requires g c =
+    let along = c.list_source.ensures.along no_draw in record {
+      source = record { is_open = along.is_open; mounted = λ told. along.mounted told (c.requires.source.mounted told) };
+      target = c.requires.target;
+      within = subst (λ (bs : List ℕ). All (λ (block : ℕ). block < blocks_of c.args.source.now) bs) (sym c.deref.ensures.value) c.in_ok-blocks.ensures.within;
+      alike = sym (c.if-not-is_alike.ensures.0 refl).0;
+    }
 
-pub returns-in-Err-clause-blame : goal.returns-in-Err-clause-blame
-returns-in-Err-clause-blame g c output =
-    blames_as _ _ c.in-Err.halt (c.in-Err.ensures.blame (g.Q.Platform.faults c.args.to.now) (g.T.Tape.faults c.args.tape.now) output (g.L.Sink.faults c.args.ledger.now))
+pub fill_found-requires : goal.fill_found-requires
+fill_found-requires g c =
+    let along = c.list_source.ensures.along no_draw in record {
+      source = record { is_open = along.is_open; mounted = λ told. along.mounted told (c.requires.source.mounted told) };
+      target = c.requires.target;
+      within = subst (λ (bs : List ℕ). All (λ (block : ℕ). block < blocks_of c.args.source.now) bs) (sym c.deref-else-is_new.ensures.value) c.in_ok-blocks.ensures.within;
+      alike = sym (c.if-not-is_alike.ensures.0 refl).0;
+    }
 
-pub returns-in-Err-clause-wrong : goal.returns-in-Err-clause-wrong
-returns-in-Err-clause-wrong g c = meets_from _ _ _ _ c.in-Err.halt c.in-Err.ensures.wrong
+pub returns-then-not-is_alike-clause-leads : goal.returns-then-not-is_alike-clause-leads
+returns-then-not-is_alike-clause-leads g c from_told to_told device there at at_there new =
+    reaches_other (g.Q.Platform.history c.args.to.now) (g.Q.Platform.history c.args.to.now) device there _
+    (unlike_other (g.P.Platform.history c.args.from.now).present (g.Q.Platform.history c.args.to.now).present c.args.source.now c.args.target device there _ _ at at_there (λ are.
+    let never : false ≡ true = c.if-not-is_alike.ensures.1 are in
+    cc))
+    (made_kept (g.Q.Platform.history c.args.to.now) (g.Q.Platform.history c.args.to.now) there at_there.there.device at_there.served (still (g.Q.Platform.history c.args.to.now)))
 
-pub copy-requires-clause-source : goal.copy-requires-clause-source
-copy-requires-clause-source g c =
-    let along = c.list_source.ensures.along no_draw in
-    record { is_open = along.is_open; mounted = λ told. along.mounted told (c.requires.source.mounted told) }
+pub returns-in_err-blocks-clause-leads : goal.returns-in_err-blocks-clause-leads
+returns-in_err-blocks-clause-leads g c from_told to_told device there at at_there new =
+    rw (halted c.from_residual.result c.in_err-blocks.field-0.0 c.from_residual.ensures.1) (reaches_halted (g.Q.Platform.history c.args.to.now) (g.Q.Platform.history c.args.to.now) device there _ c.in_err-blocks.field-0.0 (c.in_err-blocks.ensures.lists from_told device (session_on device) at).1
+    (made_kept (g.Q.Platform.history c.args.to.now) (g.Q.Platform.history c.args.to.now) there at_there.there.device at_there.served (still (g.Q.Platform.history c.args.to.now))))
 
-pub fill_found-requires-clause-source : goal.fill_found-requires-clause-source
-fill_found-requires-clause-source g c =
-    let along = c.list_source.ensures.along no_draw in
-    record { is_open = along.is_open; mounted = λ told. along.mounted told (c.requires.source.mounted told) }
+pub returns-then-is_new-clause-leads : goal.returns-then-is_new-clause-leads
+returns-then-is_new-clause-leads g c from_told to_told device there at at_there new =
+    let mid = subst (λ (i : Image). IsAt i (Some c.args.source.now) (mounted device (session_on device))) (sym (c.list_source.ensures.image from_told)) at in
+    c.copy.ensures.leads from_told to_told device there mid at_there (c.deref.ensures.value ∙ (c.in_ok-blocks.ensures.lists from_told device (session_on device) at).0) (new c.if-is_new.true)
 
-pub returns-then-is_new-clause-from : goal.returns-then-is_new-clause-from
-returns-then-is_new-clause-from g c any = along_then g.P.Platform 0 0 _ _ _ any any any _ _ _ (c.list_source.ensures.along any) (c.copy.ensures.from any)
-
-pub returns-then-is_new-clause-blame : goal.returns-then-is_new-clause-blame
-returns-then-is_new-clause-blame g c output =
-    blames_then _ _ _ _ (c.in-Ok.ensures.blame (g.Q.Platform.faults c.args.to.now) (g.T.Tape.faults c.args.tape.now) output (g.L.Sink.faults c.args.ledger.now)).quiet (c.copy.ensures.blame output)
-
-pub returns-clause-from : goal.returns-clause-from
-returns-clause-from g c any = along_then g.P.Platform 0 0 _ _ _ any any any _ _ _ (c.list_source.ensures.along any) (c.fill_found.ensures.from any)
-
-pub returns-clause-blame : goal.returns-clause-blame
-returns-clause-blame g c output =
-    blames_then _ _ _ _ (c.in-Ok.ensures.blame (g.Q.Platform.faults c.args.to.now) (g.T.Tape.faults c.args.tape.now) output (g.L.Sink.faults c.args.ledger.now)).quiet (c.fill_found.ensures.blame output)
-
-pub returns-in-Err-clause-behind : goal.returns-in-Err-clause-behind
-returns-in-Err-clause-behind g c = behind_from _ _ c.in-Err.halt c.in-Err.ensures.wrong
+pub returns-clause-leads : goal.returns-clause-leads
+returns-clause-leads g c from_told to_told device there at at_there new =
+    let mid = subst (λ (i : Image). IsAt i (Some c.args.source.now) (mounted device (session_on device))) (sym (c.list_source.ensures.image from_told)) at in
+    c.fill_found.ensures.leads from_told to_told device there mid at_there (c.deref-else-is_new.ensures.value ∙ (c.in_ok-blocks.ensures.lists from_told device (session_on device) at).0)
+    (alike_of (g.P.Platform.history c.args.from.now).present (g.Q.Platform.history c.args.to.now).present c.args.source.now c.args.target device there _ _ at at_there (c.if-not-is_alike.ensures.0 refl))

@@ -1,44 +1,67 @@
+use Rattle.std.proofs.Common.{◌≡◌, ◌∙◌, Some, sym, ap, subst}
+use Rattle.std.specs.FinMap as maps
+use Rattle.std.proofs.lemmas.Slice.Eq.{bytes_eq-Decides}
+use Rattle.sdbt_base.specs.Arrays.{Blocks, mounted, session_on}
+use Rattle.platform.specs.Image.{Image}
+use Rattle.device_course.specs.States.{IsAt}
 use Rattle.session_calls.proofs.AlongLaws.{along_start, along_then}
 use Rattle.session_calls.proofs.CallLaws.{no_draw}
 use Rattle.transfer.proofs.BlameLaws.{blames_as, blames_done, blames_then}
-use Rattle.transfer.proofs.HaltLaws.{behind_to, meets_to}
+use Rattle.transfer.proofs.FillLaws.{matches_as, same_contents}
+use Rattle.transfer.proofs.HaltLaws.{behind_to, halted, meets_to}
 use Rattle.transfer.proofs.running.has_all.Goals as goal
 
-pub returns-in-Err-clause-from : goal.returns-in-Err-clause-from
-returns-in-Err-clause-from g c any = along_start g.P.Platform c.args.from.now any c.args.source.now c.requires.source.is_open
+pub returns-in_err-others-clause-both : goal.returns-in_err-others-clause-both
+returns-in_err-others-clause-both g c = rw (halted c.from_residual.result c.in_err-others.field-0.0 c.from_residual.ensures.1) (record {
+  from = λ any. along_start g.P.Platform c.args.from.now any c.args.source.now c.requires.source.is_open;
+  to = λ any. c.list_target.ensures.along any;
+  blame = λ tape output ledger. blames_as _ _ c.in_err-others.field-0.0 (c.in_err-others.ensures.blame (g.P.Platform.faults c.args.from.now) tape output ledger);
+  wrong = meets_to _ _ _ _ c.in_err-others.field-0.0 c.in_err-others.ensures.wrong;
+  behind = behind_to _ _ c.in_err-others.field-0.0 c.in_err-others.ensures.wrong;
+})
 
-pub returns-in-Err-clause-to : goal.returns-in-Err-clause-to
-returns-in-Err-clause-to g c any = c.list_target.ensures.along any
+pub returns-then-eq-clause-both : goal.returns-then-eq-clause-both
+returns-then-eq-clause-both g c = record {
+  from = λ any. c.has_same.ensures.both.from any;
+  to = λ any. along_then g.Q.Platform 0 0 _ _ _ any any any _ _ _ (c.list_target.ensures.along any) (c.has_same.ensures.both.to any);
+  blame = λ tape output ledger. blames_then _ _ _ _ (c.in_ok-others.ensures.blame (g.P.Platform.faults c.args.from.now) tape output ledger).quiet (c.has_same.ensures.both.blame tape output ledger);
+  wrong = c.has_same.ensures.both.wrong;
+  behind = c.has_same.ensures.both.behind;
+}
 
-pub returns-in-Err-clause-blame : goal.returns-in-Err-clause-blame
-returns-in-Err-clause-blame g c tape output ledger = blames_as _ _ c.in-Err.halt (c.in-Err.ensures.blame (g.P.Platform.faults c.args.from.now) tape output ledger)
+pub returns-clause-both : goal.returns-clause-both
+returns-clause-both g c = record {
+  from = λ any. along_start g.P.Platform c.args.from.now any c.args.source.now c.requires.source.is_open;
+  to = λ any. c.list_target.ensures.along any;
+  blame = λ tape output ledger. blames_done _ _ _ (c.in_ok-others.ensures.blame (g.P.Platform.faults c.args.from.now) tape output ledger).quiet;
+  wrong = tt;
+  behind = tt;
+}
 
-pub returns-in-Err-clause-wrong : goal.returns-in-Err-clause-wrong
-returns-in-Err-clause-wrong g c = meets_to _ _ _ _ c.in-Err.halt c.in-Err.ensures.wrong
+pub has_same-requires : goal.has_same-requires
+has_same-requires g c =
+    let along = c.list_target.ensures.along no_draw in record {
+      source = c.requires.source;
+      target = record { is_open = along.is_open; mounted = λ told. along.mounted told (c.requires.target.mounted told) };
+      within = c.requires.within;
+      alike = c.requires.alike;
+    }
 
-pub has_same-requires-clause-target : goal.has_same-requires-clause-target
-has_same-requires-clause-target g c =
-    let along = c.list_target.ensures.along no_draw in
-    record { is_open = along.is_open; mounted = λ told. along.mounted told (c.requires.target.mounted told) }
+pub returns-in_err-others-clause-leads : goal.returns-in_err-others-clause-leads
+returns-in_err-others-clause-leads g c from_told to_told device there at at_there keys = rw (halted c.from_residual.result c.in_err-others.field-0.0 c.from_residual.ensures.1) ((c.in_err-others.ensures.lists to_told there (session_on there) at_there).1)
 
-pub returns-then-eq-clause-from : goal.returns-then-eq-clause-from
-returns-then-eq-clause-from g c any = c.has_same.ensures.from any
+pub returns-then-eq-clause-leads : goal.returns-then-eq-clause-leads
+returns-then-eq-clause-leads g c from_told to_told device there at at_there keys =
+    let here = subst (λ (i : Image). IsAt i (Some c.args.target.now) (mounted there (session_on there))) (sym (c.list_target.ensures.image to_told)) at_there in
+    let others : maps.keys there.contents ≡ c.args.blocks.now = sym (c.in_ok-others.ensures.lists to_told there (session_on there) at_there).0 ∙ (sym c.as_slice.ensures.value ∙ (bytes_eq-Decides _ _).0 (sym (c.if-eq.ensures))) in
+    matches_as _ _ _ _ device there (session_on device) (session_on there) _ _ c.has_same.result (same_contents device there c.args.blocks.now keys others)
+    (c.has_same.ensures.leads from_told to_told device there (session_on device) (session_on there) at here)
 
-pub returns-then-eq-clause-to : goal.returns-then-eq-clause-to
-returns-then-eq-clause-to g c any = along_then g.Q.Platform 0 0 _ _ _ any any any _ _ _ (c.list_target.ensures.along any) (c.has_same.ensures.to any)
-
-pub returns-then-eq-clause-blame : goal.returns-then-eq-clause-blame
-returns-then-eq-clause-blame g c tape output ledger =
-    blames_then _ _ _ _ (c.in-Ok.ensures.blame (g.P.Platform.faults c.args.from.now) tape output ledger).quiet (c.has_same.ensures.blame tape output ledger)
-
-pub returns-clause-from : goal.returns-clause-from
-returns-clause-from g c any = along_start g.P.Platform c.args.from.now any c.args.source.now c.requires.source.is_open
-
-pub returns-clause-to : goal.returns-clause-to
-returns-clause-to g c any = c.list_target.ensures.along any
-
-pub returns-clause-blame : goal.returns-clause-blame
-returns-clause-blame g c tape output ledger = blames_done _ _ _ (c.in-Ok.ensures.blame (g.P.Platform.faults c.args.from.now) tape output ledger).quiet
-
-pub returns-in-Err-clause-behind : goal.returns-in-Err-clause-behind
-returns-in-Err-clause-behind g c = behind_to _ _ c.in-Err.halt c.in-Err.ensures.wrong
+pub returns-clause-leads : goal.returns-clause-leads
+returns-clause-leads g c from_told to_told device there at at_there keys =
+    let here = subst (λ (i : Image). IsAt i (Some c.args.target.now) (mounted there (session_on there))) (sym (c.list_target.ensures.image to_told)) at_there in
+    let listed = (c.in_ok-others.ensures.lists to_told there (session_on there) at_there).0 in (
+      at,
+      here,
+      (λ never. absurd cc, λ same. c.if-eq.ensures ∙ (bytes_eq-Decides _ _).1 (c.as_slice.ensures.value ∙ (listed ∙ (ap (λ (m : Blocks). maps.keys m) same ∙ sym keys)))),
+    )

@@ -1,9 +1,14 @@
 use Rattle.std.proofs.Common.{◌∙◌, Ok, refl, ap}
+use Rattle.sdbt_base.specs.Arrays.{closed}
+use Rattle.std.proofs.Common.{Some}
+use Rattle.device_course.proofs.MadeLaws.{made_kept, shut}
 use Rattle.transfer.specs.Counts.{counts}
 use Rattle.transfer.proofs.BlameLaws.{blames_halt, blames_then, from_quiet, from_stopped, of_platform}
 use Rattle.transfer.proofs.FromLaws.{clears_look, clears_mounted, ready_found}
-use Rattle.transfer.proofs.LookedLaws.{looked_found, looked_none, looked_stop}
+use Rattle.transfer.proofs.LookedLaws.{looked_found, looked_none, looked_stop, mapped_found, there_before, there_no_device}
 use Rattle.transfer.proofs.HaltLaws.{mount_from}
+use Rattle.transfer.proofs.MoveLaws.{at_mounted, moves_behind, moves_stopped}
+use Rattle.transfer.proofs.OpenLaws.{formatted_found, mount_sound}
 use Rattle.transfer.proofs.ToLaws.{spans_not}
 use Rattle.transfer.proofs.running.move_device.Goals as goal
 
@@ -62,3 +67,34 @@ returns-in-Ok-None-clause-looked g c = looked_none g.P.Platform c.args.from.now 
 
 pub returns-in-Err-clause-looked : goal.returns-in-Err-clause-looked
 returns-in-Err-clause-looked g c = looked_stop _ _ _ c.in-Err.stop (λ told. g.met.P.Platform.counts_pages told c.args.from.now) c.in-Err.ensures.stops
+
+pub returns-in-Ok-Some-clause-leads : goal.returns-in-Ok-Some-clause-leads
+returns-in-Ok-Some-clause-leads g c from_told to_told device there stands served stands_to served_to =
+    moves_behind _ _ _ _ _ device there _ c.move_session.result
+    (made_kept (g.P.Platform.history c.args.from.now) (g.P.Platform.history c.mount_session.new.platform) device stands served (c.mount_session.ensures.looks.time from_told))
+    (c.move_session.ensures.leads from_told to_told device there
+    (at_mounted (g.P.Platform.history c.mount_session.new.platform).present c.in-Ok-Some.source device c.mount_session.result (c.in-Ok-Some.is ∙ ap Ok c.in-Ok-Some.field-0-is)
+    (c.mount_session.ensures.leads from_told (closed (Some device)) (shut (g.P.Platform.history c.args.from.now).present (Some device) stands served)))
+    stands_to served_to)
+
+pub returns-in-Ok-None-clause-leads : goal.returns-in-Ok-None-clause-leads
+returns-in-Ok-None-clause-leads g c from_told to_told device there stands served stands_to served_to =
+    absurd (formatted_found (g.P.Platform.history c.mount_session.new.platform).present device c.mount_session.result (c.in-Ok-None.is ∙ ap Ok c.in-Ok-None.field-0-is)
+    (c.mount_session.ensures.leads from_told (closed (Some device)) (shut (g.P.Platform.history c.args.from.now).present (Some device) stands served)))
+
+pub returns-in-Err-clause-leads : goal.returns-in-Err-clause-leads
+returns-in-Err-clause-leads g c from_told to_told device there stands served stands_to served_to =
+    moves_stopped _ _ (g.Q.Platform.history c.args.to.now) device there _ c.in-Err.stop
+    (made_kept (g.P.Platform.history c.args.from.now) (g.P.Platform.history c.mount_session.new.platform) device stands served (c.mount_session.ensures.looks.time from_told))
+    (mount_sound (g.P.Platform.history c.mount_session.new.platform).present (closed (Some device)) c.in-Err.stop (c.in-Err.ensures.leads from_told (closed (Some device)) (shut (g.P.Platform.history c.args.from.now).present (Some device) stands served)))
+    stands_to served_to
+
+pub returns-in-Ok-Some-clause-mapped : goal.returns-in-Ok-Some-clause-mapped
+returns-in-Ok-Some-clause-mapped g c =
+    mapped_found g.P.Platform c.args.from.now c.mount_session.new.platform c.in-Ok-Some.source c.mount_session.result c.move_session.result (c.in-Ok-Some.is ∙ ap Ok c.in-Ok-Some.field-0-is) c.mount_session.ensures.finds c.move_session.ensures.mapped
+
+pub returns-in-Ok-None-clause-there : goal.returns-in-Ok-None-clause-there
+returns-in-Ok-None-clause-there g c = there_no_device _ _
+
+pub returns-in-Err-clause-there : goal.returns-in-Err-clause-there
+returns-in-Err-clause-there g c = there_before _ _ c.in-Err.stop

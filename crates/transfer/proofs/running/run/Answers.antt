@@ -31,8 +31,24 @@ returns-in-Err-clause-blame g c =
     let now = counts (g.P.Platform.faults c.move_device.new.from) (g.Q.Platform.faults c.move_device.new.to) (g.T.Tape.faults c.move_device.new.tape) (g.O.Sink.faults c.put_last_line.new.output) (g.L.Sink.faults c.move_device.new.ledger) in
     blames_told before mid now c.in-Err.halt c.put_last_line.result c.put_last_line.ensures.count refl (c.in-Err.ensures.blame (g.O.Sink.faults c.args.output.now)) c.put_last_line.ensures.blame
 
-pub returns-in-Ok-clause-ran : goal.returns-in-Ok-clause-ran
-returns-in-Ok-clause-ran g c = (Ok c.in-Ok.moved, c.put_moved.ensures.put, tt, c.in-Ok.ensures.looked)
+pub returns-in-Ok-clause-went : goal.returns-in-Ok-clause-went
+returns-in-Ok-clause-went g c = record {
+  moved = Ok c.in-Ok.moved;
+  said = c.put_moved.ensures.put;
+  wrong = tt;
+  looked = c.in-Ok.ensures.looked;
+  there = c.in-Ok.ensures.there;
+  mapped = c.in-Ok.ensures.mapped;
+  leads = c.in-Ok.ensures.leads;
+}
 
-pub returns-in-Err-clause-ran : goal.returns-in-Err-clause-ran
-returns-in-Err-clause-ran g c = (Err c.in-Err.halt, (c.put_last_line.result, refl, c.put_last_line.ensures.told), c.in-Err.ensures.wrong, c.in-Err.ensures.looked)
+pub returns-in-Err-clause-went : goal.returns-in-Err-clause-went
+returns-in-Err-clause-went g c = record {
+  moved = Err c.in-Err.halt;
+  said = (c.put_last_line.result, refl, c.put_last_line.ensures.told);
+  wrong = c.in-Err.ensures.wrong;
+  looked = c.in-Err.ensures.looked;
+  there = c.in-Err.ensures.there;
+  mapped = tt;
+  leads = c.in-Err.ensures.leads;
+}

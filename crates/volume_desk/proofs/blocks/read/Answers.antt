@@ -4,7 +4,7 @@ use Rattle.script_lang.specs.Arrays.{trimmed}
 use Rattle.volume_lines.specs.Replies.{Reply}
 use Rattle.volume_terms.specs.Turn.{OnBlock, Reads}
 use Rattle.session_calls.proofs.CallLaws.{calls_done, calls_none, calls_of, calls_stopped, no_draw}
-use Rattle.session_calls.proofs.DamageLaws.{read_meets}
+use Rattle.volume_desk.proofs.CauseLaws.{read_stops}
 use Rattle.volume_desk.proofs.DeskLaws.{changed_none, no_block, read_sound}
 use Rattle.volume_desk.proofs.TurnLaws.{held_still}
 use Rattle.volume_desk.proofs.blocks.read.Goals as goal
@@ -41,5 +41,6 @@ pub returns-in-Err-read_block-clause-turns : goal.returns-in-Err-read_block-clau
 returns-in-Err-read_block-clause-turns g c told entry held =
     read_sound (g.P.Platform.history c.read_block.new.platform).present c.read_block.new.session entry.device entry.session c.in-Ok.at c.read_block.new.out c.in-Err-read_block.stop (c.in-Err-read_block.ensures.leads told entry.device entry.session held.at)
 
-pub returns-in-Err-read_block-clause-damage : goal.returns-in-Err-read_block-clause-damage
-returns-in-Err-read_block-clause-damage g c told mounted = read_meets _ (g.P.Platform.history c.args.platform.now).present (g.P.Platform.history c.read_block.new.platform).present c.args.session.now c.in-Ok.at c.read_block.new.out (Err c.in-Err-read_block.stop) c.in-Err-read_block.ensures.any (told, mounted)
+pub returns-in-Err-read_block-clause-stops : goal.returns-in-Err-read_block-clause-stops
+returns-in-Err-read_block-clause-stops g c =
+    read_stops _ (g.P.Platform.history c.args.platform.now).present (g.P.Platform.history c.read_block.new.platform).present c.args.session.now c.in-Ok.at c.read_block.new.out c.args.name.now c.args.block c.in-Err-read_block.stop c.in-Err-read_block.ensures.any

@@ -2,7 +2,7 @@ use Rattle.std.proofs.Common.{ℕ, Ok, Err, ap, refl, arith}
 use Rattle.volume_terms.specs.Turn.{Trims}
 use Rattle.volume_terms.proofs.KeepingLaws.{trimmed_at}
 use Rattle.session_calls.proofs.CallLaws.{calls_done, calls_none, calls_of, calls_stopped, no_draw}
-use Rattle.session_calls.proofs.DamageLaws.{trim_meets}
+use Rattle.volume_desk.proofs.CauseLaws.{trim_stops}
 use Rattle.volume_desk.proofs.DeskLaws.{changed_none, held_trimmed, no_block, trim_sound}
 use Rattle.volume_desk.proofs.blocks.trim.Goals as goal
 
@@ -37,5 +37,6 @@ pub returns-in-Err-trim_block-clause-turns : goal.returns-in-Err-trim_block-clau
 returns-in-Err-trim_block-clause-turns g c told entry buffer held =
     trim_sound (g.P.Platform.history c.trim_block.new.platform).present c.trim_block.new.session entry.device entry.session c.in-Ok.at c.in-Err-trim_block.stop (c.in-Err-trim_block.ensures.leads told entry.device entry.session held.at)
 
-pub returns-in-Err-trim_block-clause-damage : goal.returns-in-Err-trim_block-clause-damage
-returns-in-Err-trim_block-clause-damage g c told mounted = trim_meets _ (g.P.Platform.history c.args.platform.now).present (g.P.Platform.history c.trim_block.new.platform).present c.args.session.now c.in-Ok.at (Err c.in-Err-trim_block.stop) c.in-Err-trim_block.ensures.any (told, mounted)
+pub returns-in-Err-trim_block-clause-stops : goal.returns-in-Err-trim_block-clause-stops
+returns-in-Err-trim_block-clause-stops g c =
+    trim_stops _ (g.P.Platform.history c.args.platform.now).present (g.P.Platform.history c.trim_block.new.platform).present c.args.session.now c.in-Ok.at c.args.name.now c.args.block c.in-Err-trim_block.stop c.in-Err-trim_block.ensures.any

@@ -7,6 +7,7 @@ use Rattle.volume_lines.specs.Lines.{Commit}
 use Rattle.volume_lines.specs.Replies.{Committed}
 use Rattle.volume_desk.specs.Turns.{StopsAt}
 use Rattle.session_calls.proofs.CarryLaws.{carries_committed, carries_going, carries_stopped}
+use Rattle.volume_desk.proofs.CauseLaws.{commit_stops}
 use Rattle.volume_desk.proofs.TurnLaws.{array_held, commit_served, committed_to}
 use Rattle.volume_desk.proofs.committing.commit.Goals as goal
 
@@ -31,3 +32,6 @@ returns-in-Err-clause-serves g c told entry table buffer held =
     c.requires.ready.is_open (array_held _ _ _ table entry held) c.in-Err.ensures.answers (During-now _ _ IsServedImage (c.in-Err.ensures.goes.keeps.serves told held.at.served))
     (c.in-Err.ensures.leads told entry.device entry.session held.at) in
     record { ahead = stopped.0; is = stopped.1; made = stopped.2 }
+
+pub returns-in-Err-clause-stops : goal.returns-in-Err-clause-stops
+returns-in-Err-clause-stops g c = commit_stops _ _ Commit c.args.ledger.now c.commit_session.new.ledger c.in-Err.stop tt tt tt c.in-Err.ensures.goes.unput

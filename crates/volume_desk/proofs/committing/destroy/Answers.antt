@@ -7,6 +7,7 @@ use Rattle.volume_lines.specs.Lines.{Destroy}
 use Rattle.volume_terms.specs.Volumes.{changed}
 use Rattle.session_calls.proofs.CarryLaws.{carries_along, carries_committed, carries_end, carries_going, carries_stopped, carries_then}
 use Rattle.device_course.proofs.MadeLaws.{made_kept}
+use Rattle.volume_desk.proofs.CauseLaws.{call_stops, commit_stops}
 use Rattle.volume_desk.proofs.TurnLaws.{changed_served, committed_to, destroy_served, destroy_stopped, stopped_kept, takes_none, takes_some}
 use Rattle.volume_desk.proofs.committing.destroy.Goals as goal
 
@@ -58,3 +59,11 @@ returns-in-Err-commit_session-clause-serves g c told entry buffer held =
     let taken = takes_none _ _ _ _ _ _ entry c.args.name.now buffer c.in-Ok.refused c.in_default.is (c.in-Ok.ensures.turns told entry buffer held) in
     destroy_stopped g.P.Platform g.T.Tape g.L.Sink _ _ _ _ _ _ _ _ _ c.in-Err-commit_session.stop _ _ entry c.args.name.now along.capacity taken kept along.is_open c.in-Err-commit_session.ensures.answers
     (During-now _ _ IsServedImage (c.in-Err-commit_session.ensures.goes.keeps.serves told taken.held.at.served)) (c.in-Err-commit_session.ensures.leads told entry.device (changed entry c.take_out.new.table taken.v).session taken.held.at)
+
+pub returns-in-Err-clause-stops : goal.returns-in-Err-clause-stops
+returns-in-Err-clause-stops g c =
+    call_stops _ _ (Destroy c.args.name.now) c.in-Err.stop tt tt tt c.in-Err.ensures.calls.stops (λ told. c.in-Err.ensures.damage told (c.requires.ready.mounted told))
+
+pub returns-in-Err-commit_session-clause-stops : goal.returns-in-Err-commit_session-clause-stops
+returns-in-Err-commit_session-clause-stops g c =
+    commit_stops _ _ (Destroy c.args.name.now) c.args.ledger.now c.commit_session.new.ledger c.in-Err-commit_session.stop tt tt tt c.in-Err-commit_session.ensures.goes.unput

@@ -3,6 +3,7 @@ use Rattle.device_session.specs.Open.{blocks_of}
 use Rattle.volume_lines.specs.Lines.{asked}
 use Rattle.volume_lines.specs.declared.lines.Line.TheVariants as parsed
 use Rattle.session_calls.proofs.CarryLaws.{carries_along, carries_end, carries_going}
+use Rattle.volume_desk.proofs.CauseLaws.{stops_as}
 use Rattle.volume_desk.proofs.TurnLaws.{changed_served, serves_as, stopped_kept}
 use Rattle.volume_desk.proofs.serving.serve_line.Goals as goal
 
@@ -31,3 +32,13 @@ returns-in-Err-clause-carries g c =
 pub returns-in-Err-clause-serves : goal.returns-in-Err-clause-serves
 returns-in-Err-clause-serves g c told entry held =
     stopped_kept _ _ c.args.first _ entry (asked c.args.line.now c.args.desk.now.buffer) c.in-Err.stop held (c.serve_blocks.ensures.calls.along.cell told) (c.in-Err.ensures.turns told entry held)
+
+pub returns-in-Commit-clause-stops : goal.returns-in-Commit-clause-stops
+returns-in-Commit-clause-stops g c = stops_as _ _ c.args.line.now parsed.Commit c.args.desk.now.buffer c.commit.result c.in-Commit.is c.commit.ensures.stops
+
+pub returns-in-Destroy-clause-stops : goal.returns-in-Destroy-clause-stops
+returns-in-Destroy-clause-stops g c =
+    stops_as _ _ c.args.line.now (parsed.Destroy c.in-Destroy.name) c.args.desk.now.buffer c.destroy.result c.in-Destroy.is c.destroy.ensures.stops
+
+pub returns-in-Err-clause-stops : goal.returns-in-Err-clause-stops
+returns-in-Err-clause-stops g c = (c.in-Err.ensures.stops.0, λ told. c.in-Err.ensures.stops.1 (told, c.requires.ready.mounted told))

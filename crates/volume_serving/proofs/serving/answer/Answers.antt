@@ -30,7 +30,7 @@ returns-in-Err-clause-handled g c text kept =
     let old : World = world g.P.Platform g.T.Tape g.L.Sink (Some c.args.session) c.args.desk.now.table c.args.platform.now c.args.tape.now c.args.ledger.now in
     let new : World = world g.P.Platform g.T.Tape g.L.Sink None c.serve_line.new.desk.table c.serve_line.new.platform c.serve_line.new.tape c.serve_line.new.ledger in
     let carries = c.serve_line.ensures.carries in
-    line_stop g.P.Platform.tells old new c.args.session text (asked c.in-Some.line c.read_line.new.buffer) c.in-Err.stop (g.O.Sink.written c.args.output.now) refl (c.in-Some.ensures.found text kept)
+    line_stop g.P.Platform.tells old new c.args.session text (asked c.in-Some.line c.read_line.new.buffer) c.in-Err.stop (g.O.Sink.written c.args.output.now) refl (c.in-Some.ensures.found text kept) c.in-Err.ensures.stops.0
     (record { capacity = carries.capacity; rises = carries.rises; within = g.met.P.Platform.has_room c.serve_line.new.platform }) (λ told entry held. c.in-Err.ensures.serves told entry held)
 
 pub returns-in_default-clause-carries : goal.returns-in_default-clause-carries
@@ -41,3 +41,6 @@ serve_line-requires-clause-spelled g c = let text = some_text (option_copied c.a
 
 pub returns-in-Ok-clause-carries : goal.returns-in-Ok-clause-carries
 returns-in-Ok-clause-carries g c = carries_told _ _ _ c.args.session c.in-Ok.done.session _ c.tell-in-Ok.result refl c.tell-in-Ok.ensures.session c.in-Ok.ensures.carries
+
+pub returns-in-Err-clause-damage : goal.returns-in-Err-clause-damage
+returns-in-Err-clause-damage g c told = c.in-Err.ensures.stops.1 told

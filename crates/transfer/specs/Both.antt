@@ -1,0 +1,37 @@
+-- What a part of a move that has a session on either side begins with, and leaves of both.
+use Rattle.std.specs.Prelude.{◌≡◌, ◌<◌, ℕ, All, IfErr, IsOk, List, None, Result}
+use Rattle.sdbt_base.specs.declared.sinks.Sink.{Ghosts as SinkGhosts}
+use Rattle.sdbt_base.specs.declared.tapes.Tape.{Ghosts as TapeGhosts}
+use Rattle.platform.specs.declared.platforms.Platform.{Ghosts as PlatformGhosts}
+use Rattle.device_course.specs.States.{Outside, around}
+use Rattle.device_session.specs.Open.{blocks_of}
+use Rattle.device_session.specs.Sessions.{Session}
+use Rattle.session_calls.specs.Along.{Along, Drawn}
+use Rattle.session_calls.specs.Carrying.{Carries, IsReady}
+use Rattle.transfer.specs.Counts.{counts}
+use Rattle.transfer.specs.Halts.{Blames}
+use Rattle.transfer.specs.Running.{IsBehindBoth, MeetsWrong}
+use Rattle.transfer.specs.declared.halts.Halt.{Halt}
+
+-- both sessions are ready, over as many blocks, and each of these is one of them
+pub record AreReady (from_tells to_tells : Type 0) (from to : Outside) (one other : Session) (blocks : List ℕ) : Type 0 where
+  pub source : IsReady from_tells from one
+  pub target : IsReady to_tells to other
+  pub within : All (λ block. block < blocks_of one) blocks
+  pub alike : blocks_of other ≡ blocks_of one
+
+-- both devices are only read: each session goes on, a fault is that of one platform, and a halt names a record that doesn't fit, if any
+pub record ReadsBoth {S R X : Type 0} (P : PlatformGhosts S) (Q : PlatformGhosts R) (first first_now : S) (second second_now : R) (source source_now target target_now : Session) (result : Result X Halt) : Type 0 where
+  pub from : (any : Drawn) → Along P 0 first first_now any any source source_now
+  pub to : (any : Drawn) → Along Q 0 second second_now any any target target_now
+  pub blame : (tape output ledger : ℕ) → Blames (counts (P.faults first) (Q.faults second) tape output ledger) (counts (P.faults first_now) (Q.faults second_now) tape output ledger) result
+  pub wrong : IfErr result (MeetsWrong P.tells Q.tells (P.history first_now).present (Q.history second_now).present)
+  pub behind : IfErr result IsBehindBoth
+
+-- the first device is only read, and the second one is filled: its session ends
+pub record FillsBoth {S R W V : Type 0} (P : PlatformGhosts S) (Q : PlatformGhosts R) (T : TapeGhosts W) (L : SinkGhosts V) (first first_now : S) (second second_now : R) (tape tape_now : W) (ledger ledger_now : V) (source source_now target : Session) (result : Result ℕ Halt) : Type 0 where
+  pub from : (any : Drawn) → Along P 0 first first_now any any source source_now
+  pub to : Carries Q.tells (around Q T L second tape ledger) (around Q T L second_now tape_now ledger_now) target None (IsOk result)
+  pub blame : (output : ℕ) → Blames (counts (P.faults first) (Q.faults second) (T.faults tape) output (L.faults ledger)) (counts (P.faults first_now) (Q.faults second_now) (T.faults tape_now) output (L.faults ledger_now)) result
+  pub wrong : IfErr result (MeetsWrong P.tells Q.tells (P.history first_now).present (Q.history second_now).present)
+  pub behind : IfErr result IsBehindBoth
