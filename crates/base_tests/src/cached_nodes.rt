@@ -10,6 +10,7 @@ use std::test::Fail;
 fn node(level: u8) -> NodeBody {
     NodeBody {
         level,
+        version: 1,
         entries: ArrayVec::new(),
     }
 }
@@ -85,7 +86,7 @@ fn cache_room(rt: HostRuntime) -> Result<(), Fail> {
     // Nodes that were sealed, in the place of those that are gone.
     cache.forget_all(&[10, 6, 8]);
     assert!(rt; caches(rt.alloc(), &cache, &[u64::MAX, 7])?);
-    assert!(rt; cache.put_node(11, &key(3), 2, &[]) == Put::Stored);
+    assert!(rt; cache.put_node(11, &key(3), 2, 1, &[]) == Put::Stored);
     assert!(rt; level_at(&mut cache, 11, 3) == 2);
     assert!(rt; caches(rt.alloc(), &cache, &[11, u64::MAX, 7])?);
     Ok(())

@@ -11,6 +11,8 @@ mod memory_objects;
 #[cfg(test)]
 mod node_records;
 #[cfg(test)]
+mod page_digests;
+#[cfg(test)]
 mod reached_addresses;
 #[cfg(test)]
 mod root_records;

@@ -37,11 +37,11 @@ fn block() -> [u8; 4128] {
 
 /// A node at address 7.
 fn node_of(level: u8, entries: &[Entry]) -> Option<[u8; 4128]> {
-    if !fits_node(7, level, entries) {
+    if !fits_node(7, level, 1, entries) {
         return None;
     }
     let mut body = [0xff; 4128];
-    encode_node(7, level, entries, &mut body);
+    encode_node(7, level, 1, entries, &mut body);
     Some(body)
 }
 
@@ -59,7 +59,7 @@ fn block_at(body: &[u8; 4128], addr: u64) -> Option<u64> {
 fn node_at(body: &[u8; 4128], addr: u64) -> (Option<u8>, ArrayVec<Entry, 64>) {
     let mut entries = ArrayVec::new();
     entries.push(entry(1, 1));
-    let level = decode_node(body, addr, &mut entries);
+    let level = decode_node(body, addr, 1, &mut entries);
     (level, entries)
 }
 
@@ -168,4 +168,35 @@ fn refused_nodes(rt: HostRuntime) {
     for (at, byte) in cases {
         assert!(rt; decode_node_with(at, byte).is_none(), "{at} {byte}");
     }
+}
+
+/// Whether these are the bytes of a node of the second version with this entry at address 7.
+fn is_second(body: &[u8; 4128], entry: &Entry) -> bool {
+    match read(body, 7) {
+        Some(Body::Node { node }) => {
+            node.version == 2 && node.level == 1 && node.entries.as_slice() == [*entry].as_slice()
+        }
+        _ => false,
+    }
+}
+
+#[test]
+fn node_of_the_second_version(rt: HostRuntime) {
+    let plain = entry(5, 2);
+    let entry = Entry {
+        key: plain.key.with_digest([0x22; 32]),
+        ..plain
+    };
+    assert!(rt; !fits_node(7, 1, 2, &[plain]));
+    assert!(rt; !fits_node(7, 1, 1, &[entry]));
+    assert!(rt; fits_node(7, 1, 2, &[entry]));
+    let mut body = [0xff; 4128];
+    encode_node(7, 1, 2, &[entry], &mut body);
+    assert!(rt; body[16..20] == [3, 1, 0, 1][..]);
+    assert!(rt; body[32..80] == ENTRY[..]);
+    assert!(rt; body[80..112] == [0x22; 32][..]);
+    assert!(rt; are_zeros(&body[112..]));
+    assert!(rt; is_second(&body, &entry));
+    let (level, entries) = node_at(&body, 7);
+    assert!(rt; level == None && entries.is_empty());
 }

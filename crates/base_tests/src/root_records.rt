@@ -14,6 +14,7 @@ const RECORD: [u8; 128] = [
 
 fn root() -> Root {
     Root {
+        version: 1,
         order: 4,
         level: 1,
         blocks: 8,
@@ -48,11 +49,12 @@ fn worked_record(rt: HostRuntime) {
 #[test]
 fn refused(rt: HostRuntime) {
     // Where a byte is replaced, and by what: each makes one field wrong.
-    let cases: [(usize, u8); 22] = [
+    let cases: [(usize, u8); 23] = [
         (0, 0x73),
         (7, 0),
         (8, 1),
-        (9, 2),
+        (9, 0),
+        (9, 3),
         (11, 2),
         (11, 5),
         (11, 66),
@@ -75,4 +77,57 @@ fn refused(rt: HostRuntime) {
     for (at, byte) in cases {
         assert!(rt; decode_with(at, byte).is_none(), "{at} {byte}");
     }
+}
+
+#[test]
+fn of_the_second_version(rt: HostRuntime) {
+    let second = Root {
+        version: 2,
+        key: root().key.with_digest([0x22; 32]),
+        ..root()
+    };
+    assert!(rt; second.is_in_range());
+    let mut bytes = [0xff; 128];
+    encode_root(&second, &mut bytes);
+    assert!(rt; bytes[8..10] == [0, 2][..]);
+    assert!(rt; bytes[40..88] == RECORD[40..88]);
+    assert!(rt; bytes[88..120] == [0x22; 32][..]);
+    assert!(rt; bytes[120..] == [0; 8][..]);
+    assert!(rt; decode_root(&bytes) == Some(second));
+    // A key has a digest exactly in version 2, and an order of 50 is one of version 1.
+    assert!(rt;
+        !Root {
+            version: 2,
+            ..root()
+        }
+        .is_in_range()
+    );
+    assert!(rt;
+        !Root {
+            version: 1,
+            ..second
+        }
+        .is_in_range()
+    );
+    assert!(rt;
+        Root {
+            order: 48,
+            ..second
+        }
+        .is_in_range()
+    );
+    assert!(rt;
+        !Root {
+            order: 50,
+            ..second
+        }
+        .is_in_range()
+    );
+    assert!(rt;
+        Root {
+            order: 50,
+            ..root()
+        }
+        .is_in_range()
+    );
 }

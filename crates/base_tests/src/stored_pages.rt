@@ -3,6 +3,7 @@ ghost use Rattle.std.specs.Prelude.{◌≡◌, length};
 
 use arrayvec::ArrayVec;
 use node_codec::Entry;
+use page_digest::digest_of;
 use page_store::{
     AppendFault, Buffers, CurrentRefusal, FetchRefusal, Placed, Want, current, fetch_block,
     fetch_node,
@@ -32,6 +33,7 @@ fn key(byte: u8) -> Key
 /// The root of a device of 8 blocks and order 4: a leaf at address 0.
 fn root() -> Root {
     Root {
+        version: 1,
         order: 4,
         level: 1,
         blocks: 8,
@@ -74,18 +76,39 @@ impl Fixture {
             addr: 0,
             key: key(1),
         };
-        self.buffers.put_node(1, 1, &[entry]);
+        self.buffers.put_node(1, 1, 1, &[entry]);
         self.place()
     }
 
     /// Appends an empty leaf for address 0.
     fn place_empty_leaf(&mut self) -> Option<Result<Placed, AppendFault>> {
-        self.buffers.put_node(0, 1, &[]);
+        self.buffers.put_node(0, 1, 1, &[]);
         self.place()
+    }
+
+    /// Appends an empty leaf of the second version for address 0.
+    fn place_second_leaf(&mut self) -> Option<Result<Placed, AppendFault>> {
+        self.buffers.put_node(0, 1, 2, &[]);
+        self.place()
+    }
+
+    /// The digest of the page at an address; none where there is no such page.
+    fn digest(&self, addr: usize) -> Option<[u8; 32]> {
+        let pages = self.platform.recorded();
+        if addr < pages.len() {
+            Some(digest_of(pages.at(addr)))
+        } else {
+            None
+        }
     }
 
     /// The number of entries of the node that is fetched; none where there is no such page.
     fn node(&mut self, want: &Want, byte: u8) -> Option<Result<usize, FetchRefusal>> {
+        self.node_under(want, &key(byte))
+    }
+
+    /// The same under a key, which may name a digest.
+    fn node_under(&mut self, want: &Want, key: &Key) -> Option<Result<usize, FetchRefusal>> {
         if want.addr >= self.platform.head() || want.level == 0 {
             return None;
         }
@@ -93,7 +116,7 @@ impl Fixture {
         let fetched = fetch_node(
             &mut self.platform,
             want,
-            &key(byte),
+            key,
             &mut self.buffers,
             &mut entries,
         );
@@ -206,6 +229,25 @@ fn bad(addr: u64) -> Option<Result<usize, FetchRefusal>> {
 }
 
 #[test]
+fn fetches_a_node_of_the_version_of_its_key(rt: HostRuntime) -> Result<(), Fail> {
+    let empty = want_of(0, 1, (0, 8), (0, 4));
+    let mut fixture = Fixture::new(rt.alloc(), &[])?;
+    assert!(rt; fixture.place_second_leaf() == placed(0, 1));
+    let digest = fixture.digest(0).ok_or("no page")?;
+    assert!(rt; fixture.node_under(&empty, &key(1).with_digest(digest)) == Some(Ok(0)));
+    assert!(rt; fixture.node_under(&empty, &key(2).with_digest(digest)) == bad(0));
+    assert!(rt; fixture.node_under(&empty, &key(1).with_digest([7; 32])) == bad(0));
+    assert!(rt; fixture.node(&empty, 1) == bad(0), "no digest");
+    // A node of the first version has no digest.
+    let mut fixture = Fixture::new(rt.alloc(), &[])?;
+    assert!(rt; fixture.place_empty_leaf() == placed(0, 1));
+    let digest = fixture.digest(0).ok_or("no page")?;
+    assert!(rt; fixture.node(&empty, 1) == Some(Ok(0)));
+    assert!(rt; fixture.node_under(&empty, &key(1).with_digest(digest)) == bad(0));
+    Ok(())
+}
+
+#[test]
 fn fetches_a_block_and_nothing_else(rt: HostRuntime) -> Result<(), Fail> {
     let mut fixture = filled(rt.alloc()).ok_or("not filled")?;
     // Another block, another key, and a leaf.
@@ -250,6 +292,17 @@ fn finds_the_root_of_pages_that_are_there(rt: HostRuntime) -> Result<(), Fail> {
     fixture.place_empty_leaf().ok_or("no room")??;
     assert!(rt; fixture.current() == Ok(Some(root())));
     assert!(rt; fixture.node(&Want::of_root(&root()), 1) == Some(Ok(0)));
+    let second = Root {
+        version: 2,
+        key: key(1).with_digest([7; 32]),
+        ..root()
+    };
+    let record = record_of(&second).ok_or("no root record")?;
+    assert!(rt; fixture.swap(&record));
+    assert!(rt;
+        fixture.current() == Err(CurrentRefusal::BadRoot),
+        "not served yet"
+    );
     assert!(rt; fixture.swap(&[7; ROOT]));
     assert!(rt;
         fixture.current() == Err(CurrentRefusal::BadRoot),

@@ -18,7 +18,7 @@ use Rattle.btree_update.specs.declared.siblings.Left.{Left}
 use Rattle.btree_update.specs.declared.siblings.Left.TheVariants.{Unmapped, Enough, Short}
 use Rattle.btree_update.specs.Beside.{LeftOf, IsNodeAt, loses_for, Spares, LendsFrom, HasHelp, IsNodeHeld, HelpsOnWay, HasRecord, HelpsBelow, HelpsFrom, IsLeft, IsAfter, HoldsHelp, HoldsBeside, CanRead}
 use Rattle.btree_update.proofs.OpenLaws.{IsOnWay}
-use Rattle.btree_update.proofs.HoldLaws.{same_way, bare_of, read_lower, node_is_twig, kept_below}
+use Rattle.btree_update.proofs.HoldLaws.{same_way, bare_of, read_lower, node_is_twig, kept_below, kept_plain}
 
 pub IfOk_all : {T E : Type 0} (P : T → Type 0) (r : Result T E) → ((x : T) → P x) → IfOk r P
 IfOk_all P (Ok x) all = all x
@@ -38,6 +38,9 @@ module _ (order level high head low addr : ℕ) (key : List ℕ) (at : CanRead o
 
   pub beside_lt : addr < head
   beside_lt = kept_below head at.below high low addr key (subst (λ k. AreBelow head (stubs k high (made.Kept low addr key))) at.level_is at.within)
+
+  pub beside_plain : length key ≡ 32
+  beside_plain = kept_plain head at.below high low addr key (subst (λ k. AreBelow head (stubs k high (made.Kept low addr key))) at.level_is at.within)
 
   pub node_at : (Reads : ℕ → Stub → Twig → Type 0) (twig : Twig) → IsNodeFor (want_beside order level low high addr) twig → Reads (level - 1) (stub_at (suc (level - 1)) low high addr key) twig → IsNodeAt Reads order (level - 1) low high addr key twig
   node_at Reads twig h r =

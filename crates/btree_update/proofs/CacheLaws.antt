@@ -14,7 +14,7 @@ use Rattle.std.proofs.lemmas.List.Elements.{All-weaker, All-contains}
 use Rattle.node_codec.specs.declared.body.NodeBody.{NodeBody}
 use Rattle.node_codec.specs.Record.{NodeRecord}
 use Rattle.page_store.specs.declared.wants.Want.{Want}
-use Rattle.page_store.specs.Places.{IsRecordAt, FitsAt, NothingFits}
+use Rattle.page_store.specs.Places.{FitsAt, NothingFits}
 use Rattle.page_store.proofs.RecordLaws.{one_record}
 use Rattle.node_cache.specs.declared.slots.CachedNode.{CachedNode}
 use Rattle.node_cache.specs.Cached.{Cached, cached_node, IsCached}
@@ -33,15 +33,15 @@ stands_on pages old new stands keeps = All-weaker (λ k. Contains old.nodes k �
     by k (inr page) = page
 
 -- a node that is cached is what its page is
-pub kept_is_page : (pages : List (List ℕ)) (cache : Cached) (addr : ℕ) (key : List ℕ) (node : NodeBody) → StandsOver pages cache → IsCached cache.nodes addr key node → IsRecordAt pages addr key (NodeRecord node.level node.entries.items)
+pub kept_is_page : (pages : List (List ℕ)) (cache : Cached) (addr : ℕ) (key : List ℕ) (node : NodeBody) → StandsOver pages cache → IsCached cache.nodes addr key node → IsOfPage pages (cached_node addr key node)
 kept_is_page pages cache addr key node stands here = All-contains (IsOfPage pages) cache.nodes (cached_node addr key node) stands here
 
 -- where it is not wanted nothing fits
-pub nothing_else : (pages : List (List ℕ)) (want : Want) (key : List ℕ) (node : NodeBody) → want.addr < 2 ^ 64 → IsRecordAt pages want.addr key (NodeRecord node.level node.entries.items) → ¬ (NodeFits want node) → NothingFits pages want key
+pub nothing_else : (pages : List (List ℕ)) (want : Want) (key : List ℕ) (node : NodeBody) → want.addr < 2 ^ 64 → IsOfPage pages (cached_node want.addr key node) → ¬ (NodeFits want key node) → NothingFits pages want key
 nothing_else pages want key node small page misfit = λ value fits.
-    let same : value ≡ NodeRecord node.level node.entries.items = one_record pages want.addr key value (NodeRecord node.level node.entries.items) small fits.0 page in
+    let same : value ≡ NodeRecord node.level node.entries.items = one_record pages want.addr key value (NodeRecord node.level node.entries.items) small fits.0 page.is in
     let fits' = subst (FitsAt pages want key) same fits in
-    misfit record { in_range = fits'.0.in_range.0; wanted = fits'.1 }
+    misfit record { version = page.version; in_range = fits'.0.in_range.0; wanted = fits'.1 }
 
 -- what is read is among fewer places
 pub caches_fewer : {S : Type 0} (P : Ghosts S) (Such Those : List (List ℕ) → List Place → Type 0) (platform : S) (old new : Cached) → ((pages : List (List ℕ)) (places : List Place) → Such pages places → Those pages places) → CachesAmong P Those platform old new

@@ -92,7 +92,7 @@ entries_below zero high head (e ∷ es) h = (h.0, entries_below zero high head e
 entries_below (suc level) high head (e ∷ es) h = (h.0, entries_below (suc level) high head es h.1)
 
 want_below : (want : Want) (twig : Twig) (h : IsNodeFor want twig) → AllByRecursion (λ (e : Entry). (e.addr < want.addr) × (length e.key ≡ 32)) h.entries
-want_below want twig h = recursion_from_All (λ (e : Entry). (e.addr < want.addr) × (length e.key ≡ 32)) h.entries (λ k d inside. (h.in_range.below k d inside, h.in_range.plain k d inside))
+want_below want twig h = recursion_from_All (λ (e : Entry). (e.addr < want.addr) × (length e.key ≡ 32)) h.entries (λ k d inside. (h.in_range.below k d inside, h.in_range.sized k d inside))
 
 pub read_below : (level high head : ℕ) (want : Want) (twig : Twig) → IsNodeFor want twig → want.addr < head → AreBelow head (stubs_below level high twig)
 read_below level high head want twig h lt =
@@ -124,6 +124,11 @@ pub kept_below : (head level high low addr : ℕ) (key : List ℕ) → AreBelow 
 unfolding stubs
 kept_below head level high low addr key h = (subst (λ x. AreBelow head (stubs_in (stubs level) (suc level) high x)) (made.outs-Kept low addr key) h).0.0
 
+-- and its key, which has no digest
+pub kept_plain : (head level high low addr : ℕ) (key : List ℕ) → AreBelow head (stubs (suc level) high (made.Kept low addr key)) → length key ≡ 32
+unfolding stubs
+kept_plain head level high low addr key h = (subst (λ x. AreBelow head (stubs_in (stubs level) (suc level) high x)) (made.outs-Kept low addr key) h).0.1
+
 above : (level : ℕ) → 1 ≤ level → level ≡ suc (level - 1)
 above level one = omega (arith, one)
 
@@ -147,6 +152,9 @@ held_grown Reads order least block level high low twig held way = subst (λ x. H
 -- a child on the medium
 pub way_lt : (order least level block high head low addr : ℕ) (key : List ℕ) → CanHold order least level block high head (made.Kept low addr key) → addr < head
 way_lt order least level block high head low addr key at = kept_below head (level - 1) high low addr key (subst (λ k. AreBelow head (stubs k high (made.Kept low addr key))) (above level at.one) at.within)
+
+pub way_plain : (order least level block high head low addr : ℕ) (key : List ℕ) → CanHold order least level block high head (made.Kept low addr key) → length key ≡ 32
+way_plain order least level block high head low addr key at = kept_plain head (level - 1) high low addr key (subst (λ k. AreBelow head (stubs k high (made.Kept low addr key))) (above level at.one) at.within)
 
 module _ (order least level block high head low addr : ℕ) (key : List ℕ) (twig : Twig) (at : CanHold order least level block high head (made.Kept low addr key)) (h : IsNodeFor (want_at order level low high addr least) twig) where
   way_shaped : IsTwig order (level - 1) least order low high twig

@@ -71,7 +71,7 @@ begins_kept (suc level) low high es le some h first = first_is low high es (some
 
 -- the node that a wanted record is
 pub read_is_twig : (order level least : ℕ) (want : Want) (es : List Entry) (twig : Twig) → (1 ≤ level → 1 ≤ least) → want.least ≡ least → want.most ≡ order → want.low ≤ want.high →
-    FitsNode want.addr (suc level) es → IsNodeWanted want (suc level) es → level_of twig ≡ suc level → order < vec_capacity (out-Twig twig).children → children_of twig ≡ all_kept es →
+    FitsNode 1 want.addr (suc level) es → IsNodeWanted want (suc level) es → level_of twig ≡ suc level → order < vec_capacity (out-Twig twig).children → children_of twig ≡ all_kept es →
     IsTwig order level least order want.low want.high twig
 read_is_twig order level few want es twig some least most le fits wanted is room all =
     let n : length (all_kept es) ≡ length es = length-map es kept_of in

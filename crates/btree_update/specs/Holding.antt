@@ -13,10 +13,10 @@ use Rattle.btree_update.specs.Reading.{all_kept}
 use Rattle.btree_update.specs.Held.{AreBelow, HasLeast}
 use Rattle.btree_update.specs.Roots.{IsRoot}
 
--- a node in memory that is in range and wanted at a place, with room for one child more than a node may have
+-- a node in memory, of version 1, that is in range and wanted at a place, with room for one child more than a node may have
 pub record IsNodeFor (want : Want) (twig : Twig) : Type 0 where
   pub entries : List Entry
-  pub in_range : FitsNode want.addr want.level entries
+  pub in_range : FitsNode 1 want.addr want.level entries
   pub wanted : IsNodeWanted want want.level entries
   pub level_is : level_of twig ≡ want.level
   pub children : children_of twig ≡ all_kept entries

@@ -59,9 +59,10 @@ pub struct Grove {
 }
 
 impl Grove {
-    /// The tree of a root record, with no node in memory. It takes no memory.
+    /// The tree of a root record, which so far is of version 1, with no node in memory. It takes no memory.
     pub fn of(alloc: Global, root: &Root) -> Grove
-        requires { FitsRoot root.now }
+        requires root { FitsRoot root.now }
+        requires version { root.now.version ≡ 1 }
         ensures sound { IsSound result }
         ensures size { (result.order ≡ root.now.order) × (result.blocks ≡ root.now.blocks) × (result.head ≡ root.now.head) × (result.level ≡ root.now.level) }
         ensures top { result.top ≡ Kept 0 root.now.addr root.now.key }

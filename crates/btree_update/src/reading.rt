@@ -1,5 +1,5 @@
 ghost use Rattle.btree_update.specs.declared.refusals.ReadyRefusal.{ReadyRefusal};
-ghost use Rattle.std.specs.Prelude.{◌≡◌, ◌<◌, ◌≤◌, ◌^◌, ℕ, IfOk, IsErrOf, vec_capacity};
+ghost use Rattle.std.specs.Prelude.{◌≡◌, ◌<◌, ◌≤◌, ◌^◌, ℕ, IfOk, IsErrOf, length, vec_capacity};
 ghost use Rattle.sdbt_base.specs.Faults.{TellsOf};
 ghost use Rattle.page_store.specs.Places.{NothingFits};
 ghost use Rattle.btree_walk.specs.Looks.{Looks};
@@ -19,6 +19,7 @@ use btree_walk::{NodeReader, fits};
 use node_codec::NodeBody;
 use page_store::{Want, fetch_node};
 use platform::Platform;
+use record_versions::version_of;
 use sdbt_base::Key;
 use std::alloc::Global;
 
@@ -33,6 +34,8 @@ pub(crate) fn read_node<P: Platform>(
     requires within { want.now.addr < P.head platform.old }
     requires level { 1 ≤ want.now.level }
     requires small { want.now.addr < 2 ^ 64 }
+    // So far trees of version 1 alone are updated.
+    requires plain { length key.now ≡ 32 }
     ensures fits { IfOk result (IsNodeFor want.now) }
     ensures reads { P.tells → StandsOver (P.history platform.old).present.readable reader.old.cache →
         IfOk result (IsNodeOf (P.history platform.old).present.readable want.now key.now) }
@@ -45,19 +48,20 @@ pub(crate) fn read_node<P: Platform>(
     ensures capacity { reader.new.cache.capacity ≡ reader.old.cache.capacity }
     // What is cached stands in the place of the page, also where it doesn't fit, and nothing is read then.
     ensures cached { (node : NodeBody) → IsCached reader.old.cache.nodes want.now.addr key.now node → (platform.new ≡ platform.old)
-        × (¬ (NodeFits want.now node) → IsErrOf result (ReadyRefusal.BadRecord want.now.addr)) × IfOk result (λ twig. children_of twig ≡ all_kept node.entries.items) }
+        × (¬ (NodeFits want.now key.now node) → IsErrOf result (ReadyRefusal.BadRecord want.now.addr)) × IfOk result (λ twig. children_of twig ≡ all_kept node.entries.items) }
     // After an `Ok` the node is the one that was used last.
     ensures fills { IfOk result (λ twig. (node : NodeBody) × (children_of twig ≡ all_kept node.entries.items)
         × MakesFirst (cached_node want.now.addr key.now node) reader.old.cache reader.new.cache) }
 {
     if let Some(node) = reader.cache.get(want.addr, key) {
-        if !fits(want, node) {
+        if !fits(want, key, node) {
             return Err(ReadyRefusal::BadRecord { addr: want.addr });
         }
         return in_memory(alloc, node);
     }
     let node: &mut NodeBody = &mut reader.node;
     node.level = want.level;
+    node.version = version_of(key);
     fetch_node(platform, want, key, &mut reader.buffers, &mut node.entries)?;
     reader.cache.put(want.addr, key, node);
     in_memory(alloc, node)

@@ -45,7 +45,7 @@ among_but places addr key old new at but kept = All-weaker (WasOrAt addr key old
 sees_record : (pages : List (List ℕ)) (cache : Cached) (want : Want) (key : List ℕ) (level : ℕ) (entries : List Entry) → StandsOver pages cache → Sees cache.nodes pages want key (NodeRecord level entries) → IsRecordAt pages want.addr key (NodeRecord level entries)
 sees_record pages cache want key level entries stands (inr page) = page.0
 sees_record pages cache want key level entries stands (inl is) =
-    subst (IsRecordAt pages want.addr key) (sym is.is) (All-contains (IsOfPage pages) cache.nodes (cached_node want.addr key is.node) stands is.here)
+    subst (IsRecordAt pages want.addr key) (sym is.is) (All-contains (IsOfPage pages) cache.nodes (cached_node want.addr key is.node) stands is.here).is
 
 -- where a look-up goes on it comes to one of the places that go down
 pub goes_among : (pages : List (List ℕ)) (cache : Cached) (want next : Want) (key next_key : List ℕ) (entries : List Entry) (block : ℕ) (places : List Place) → StandsOver pages cache

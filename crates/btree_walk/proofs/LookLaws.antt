@@ -2,6 +2,7 @@
 use Rattle.std.proofs.Common.{◌≡◌, ℕ, ◌+◌, ◌-◌, ◌/◌, ◌<◌, ◌≤◌, List, refl, sym, ap, subst, ◌∙◌, arith}
 use Rattle.platform.specs.declared.platforms.Platform.{Ghosts}
 use Rattle.platform.proofs.Moments.{Steps-refl}
+use Rattle.sdbt_base.specs.Keys.{version_of}
 use Rattle.node_codec.specs.declared.body.NodeBody.{NodeBody}
 use Rattle.node_codec.specs.declared.body.Entry.{Entry}
 use Rattle.node_codec.specs.Record.{NodeRecord, FitsNode}
@@ -36,18 +37,18 @@ same_entries kept want key node entries only is =
     mine ∙ ap (λ (n : NodeBody). n.entries.items) same
 
 -- the cached node fits, where some cached node does
-pub fits_too : (kept : List CachedNode) (want : Want) (key : List ℕ) (node : NodeBody) (entries : List Entry) → IsOnlyCached kept want.addr key node → CachedFits kept want key (NodeRecord want.level entries) → NodeFits want node
-fits_too kept want key node entries only is = subst (NodeFits want) (only.only is.node is.here) is.fits
+pub fits_too : (kept : List CachedNode) (want : Want) (key : List ℕ) (node : NodeBody) (entries : List Entry) → IsOnlyCached kept want.addr key node → CachedFits kept want key (NodeRecord want.level entries) → NodeFits want key node
+fits_too kept want key node entries only is = subst (NodeFits want key) (only.only is.node is.here) is.fits
 
 div_some : (n : ℕ) → 2 ≤ n → 1 ≤ n / 2
 div_some n two = omega arith
 
 -- the node that was used is in range
-pub used_range : (want : Want) (key : List ℕ) (block : ℕ) (old new : Cached) (turn : Turn) (used : UsesNode want key block old new turn) → FitsNode want.addr want.level used.node.entries.items
-used_range want key block old new turn used = subst (λ n. FitsNode want.addr n used.node.entries.items) used.fits.wanted.same_level used.fits.in_range
+pub used_range : (want : Want) (key : List ℕ) (block : ℕ) (old new : Cached) (turn : Turn) (used : UsesNode want key block old new turn) → FitsNode (version_of key) want.addr want.level used.node.entries.items
+used_range want key block old new turn used = subst (λ n. FitsNode (version_of key) want.addr n used.node.entries.items) used.fits.wanted.same_level used.fits.in_range
 
 -- where a look-up goes on, it can go on
-pub asks_next : (want next : Want) (key : List ℕ) (entries : List Entry) (block : ℕ) → AsksFor want block → FitsNode want.addr want.level entries → GoesBelow want entries block next key → AsksFor next block
+pub asks_next : {version : ℕ} (want next : Want) (key : List ℕ) (entries : List Entry) (block : ℕ) → AsksFor want block → FitsNode version want.addr want.level entries → GoesBelow want entries block next key → AsksFor next block
 asks_next want next key entries block asks fits goes =
     subst (λ (w : Want). AsksFor w block) (sym goes.next_is) record {
       level = let inner = goes.inner in omega arith;
@@ -57,7 +58,7 @@ asks_next want next key entries block asks fits goes =
       some = λ inner. div_some want.most asks.order;
     }
 
-pub next_below : (want next : Want) (key : List ℕ) (entries : List Entry) (block : ℕ) → FitsNode want.addr want.level entries → GoesBelow want entries block next key → next.addr < want.addr
+pub next_below : {version : ℕ} (want next : Want) (key : List ℕ) (entries : List Entry) (block : ℕ) → FitsNode version want.addr want.level entries → GoesBelow want entries block next key → next.addr < want.addr
 next_below want next key entries block fits goes =
     let less = way_entry (λ (e : Entry). e.addr < want.addr) entries want.high block goes.bound goes.entry fits.below goes.way in
     subst (λ (w : Want). w.addr < want.addr) (sym goes.next_is) less

@@ -44,15 +44,15 @@ stopped_is_wrong pages order (suc level) block addr want key (inr is) =
 pub sees_page : (pages : List (List ℕ)) (cache : Cached) (want : Want) (key : List ℕ) (value : Record) → StandsOver pages cache → Sees cache.nodes pages want key value → FitsAt pages want key value
 sees_page pages cache want key value over (inr page) = page
 sees_page pages cache want key value over (inl is) =
-    subst (FitsAt pages want key) (sym is.is) (All-contains (IsOfPage pages) cache.nodes (cached_node want.addr key is.node) over is.here, is.fits.wanted)
+    subst (FitsAt pages want key) (sym is.is) ((All-contains (IsOfPage pages) cache.nodes (cached_node want.addr key is.node) over is.here).is, is.fits.wanted)
 
 pub misses_page : (pages : List (List ℕ)) (cache : Cached) (want : Want) (key : List ℕ) → want.addr < 2 ^ 64 → StandsOver pages cache → Misses cache.nodes pages want key → NothingFits pages want key
 misses_page pages cache want key small over (inr nothing) = nothing
 misses_page pages cache want key small over (inl is) = λ value fits.
     (let page = All-contains (IsOfPage pages) cache.nodes (cached_node want.addr key is.node) over is.here in
-    let same : value ≡ NodeRecord is.node.level is.node.entries.items = one_record pages want.addr key value (NodeRecord is.node.level is.node.entries.items) small fits.0 page in
+    let same : value ≡ NodeRecord is.node.level is.node.entries.items = one_record pages want.addr key value (NodeRecord is.node.level is.node.entries.items) small fits.0 page.is in
     let fits' = subst (FitsAt pages want key) same fits in
-    is.misfit record { in_range = fits'.0.in_range.0; wanted = fits'.1 })
+    is.misfit record { version = page.version; in_range = fits'.0.in_range.0; wanted = fits'.1 })
 
 pub finds_page : (pages : List (List ℕ)) (cache : Cached) (order level block : ℕ) (want : Want) (key path : List ℕ) (found : Option Entry) → StandsOver pages cache → Finds (Sees cache.nodes pages) order block found level want key path → Finds (FitsAt pages) order block found level want key path
 finds_page pages cache order level block want key path found over is =

@@ -1,6 +1,7 @@
 -- What is seen at a place, as a cache changes.
 use Rattle.std.proofs.Common.{◌≡◌, ◌⊎◌, ℕ, ◌<◌, ◌^◌, List, [], ◌∷◌, All, Contains, cond, refl, sym, subst, inl, inr, nat_eq, true, false, Some}
 use Rattle.std.proofs.lemmas.List.Elements.{All-cons, All-head, All-tail, All-take, All-contains, All-contains_itself, All-weaker}
+use Rattle.sdbt_base.specs.Keys.{version_of}
 use Rattle.node_codec.specs.declared.body.NodeBody.{NodeBody}
 use Rattle.node_codec.specs.declared.body.Entry.{Entry}
 use Rattle.node_codec.specs.Record.{Record, NodeRecord, FitsNode}
@@ -51,7 +52,7 @@ sees_before pages old new want key value keeps (inr page) = inr page
 sees_before pages old new want key value keeps (inl is) =
     elim (All-contains (StaysOr pages old) new.nodes (cached_node want.addr key is.node) keeps.nodes is.here) [
       | inl before ↦ inl record { node = is.node; here = before; fits = is.fits; is = is.is }
-      | inr page ↦ inr (subst (FitsAt pages want key) (sym is.is) (page, is.fits.wanted))
+      | inr page ↦ inr (subst (FitsAt pages want key) (sym is.is) (page.is, is.fits.wanted))
     ]
 
 pub misses_before : (pages : List (List ℕ)) (old new : Cached) (want : Want) (key : List ℕ) → want.addr < 2 ^ 64 → KeepsOnly pages old new → Misses new.nodes pages want key → Misses old.nodes pages want key
@@ -60,19 +61,19 @@ misses_before pages old new want key small keeps (inl is) =
     elim (All-contains (StaysOr pages old) new.nodes (cached_node want.addr key is.node) keeps.nodes is.here) [
       | inl before ↦ inl record { node = is.node; here = before; misfit = is.misfit }
       | inr page ↦ inr (λ value fits.
-          let same : value ≡ NodeRecord is.node.level is.node.entries.items = one_record pages want.addr key value (NodeRecord is.node.level is.node.entries.items) small fits.0 page in
+          let same : value ≡ NodeRecord is.node.level is.node.entries.items = one_record pages want.addr key value (NodeRecord is.node.level is.node.entries.items) small fits.0 page.is in
           let fits' = subst (FitsAt pages want key) same fits in
-          is.misfit record { in_range = fits'.0.in_range.0; wanted = fits'.1 })
+          is.misfit record { version = page.version; in_range = fits'.0.in_range.0; wanted = fits'.1 })
     ]
 
 -- a node that is cached and fits is in range
-pub in_range_of : (kept : List CachedNode) (want : Want) (key : List ℕ) (level : ℕ) (entries : List Entry) → CachedFits kept want key (NodeRecord level entries) → FitsNode want.addr level entries
+pub in_range_of : (kept : List CachedNode) (want : Want) (key : List ℕ) (level : ℕ) (entries : List Entry) → CachedFits kept want key (NodeRecord level entries) → FitsNode (version_of key) want.addr level entries
 in_range_of kept want key level entries is =
     let l : level ≡ is.node.level = let e = is.is in cc in
     let es : entries ≡ is.node.entries.items = let e = is.is in cc in
-    subst (λ (n : ℕ). FitsNode want.addr n entries) (sym l) (subst (λ (xs : List Entry). FitsNode want.addr is.node.level xs) (sym es) is.fits.in_range)
+    subst (λ (n : ℕ). FitsNode (version_of key) want.addr n entries) (sym l) (subst (λ (xs : List Entry). FitsNode (version_of key) want.addr is.node.level xs) (sym es) is.fits.in_range)
 
 -- a node that is seen is in range
-pub sees_range : (kept : List CachedNode) (pages : List (List ℕ)) (want : Want) (key : List ℕ) (level : ℕ) (entries : List Entry) → Sees kept pages want key (NodeRecord level entries) → FitsNode want.addr level entries
+pub sees_range : (kept : List CachedNode) (pages : List (List ℕ)) (want : Want) (key : List ℕ) (level : ℕ) (entries : List Entry) → Sees kept pages want key (NodeRecord level entries) → FitsNode (version_of key) want.addr level entries
 sees_range kept pages want key level entries (inr page) = page.0.in_range.0
 sees_range kept pages want key level entries (inl is) = in_range_of kept want key level entries is

@@ -87,7 +87,7 @@ MakesFirst node old new = (new ≡ touched old node) ⊎ (new ≡ filled old nod
 -- the cache has as its most recent node one that is wanted at the place, and that says this of a block
 pub record UsesNode (want : Want) (key : List ℕ) (block : ℕ) (old new : Cached) (turn : Turn) : Type 0 where
   pub node : NodeBody
-  pub fits : NodeFits want node
+  pub fits : NodeFits want key node
   pub is : IsTurn want node.entries.items block turn
   pub first : MakesFirst (cached_node want.addr key node) old new
 

@@ -1,5 +1,6 @@
 -- Which record is seen at a place, where a cache stands before the pages.
 use Rattle.std.specs.Prelude.{◌≡◌, ◌≢◌, ◌⊎◌, ℕ, List, All, Contains}
+use Rattle.sdbt_base.specs.Keys.{version_of}
 use Rattle.node_codec.specs.declared.body.NodeBody.{NodeBody}
 use Rattle.node_codec.specs.Record.{Record, NodeRecord, FitsNode}
 use Rattle.page_store.specs.declared.wants.Want.{Want}
@@ -7,23 +8,24 @@ use Rattle.page_store.specs.Places.{IsRecordAt, IsNodeWanted, FitsAt, NothingFit
 use Rattle.node_cache.specs.declared.slots.CachedNode.{CachedNode}
 use Rattle.node_cache.specs.Cached.{Cached, IsCached}
 
--- a node is in range at the place and is what is wanted there
-pub record NodeFits (want : Want) (node : NodeBody) : Type 0 where
-  pub in_range : FitsNode want.addr node.level node.entries.items
+-- a node is of the version that the key says, in range at the place, and what is wanted there
+pub record NodeFits (want : Want) (key : List ℕ) (node : NodeBody) : Type 0 where
+  pub version : node.version ≡ version_of key
+  pub in_range : FitsNode (version_of key) want.addr node.level node.entries.items
   pub wanted : IsNodeWanted want node.level node.entries.items
 
 -- a cache keeps a node for the place, and it is wanted there
 pub record CachedFits (nodes : List CachedNode) (want : Want) (key : List ℕ) (value : Record) : Type 0 where
   pub node : NodeBody
   pub here : IsCached nodes want.addr key node
-  pub fits : NodeFits want node
+  pub fits : NodeFits want key node
   pub is : value ≡ NodeRecord node.level node.entries.items
 
 -- a cache keeps a node for the place that is not wanted there
 pub record CachedMisfits (nodes : List CachedNode) (want : Want) (key : List ℕ) : Type 0 where
   pub node : NodeBody
   pub here : IsCached nodes want.addr key node
-  pub misfit : ¬ (NodeFits want node)
+  pub misfit : ¬ (NodeFits want key node)
 
 -- the record that is wanted at a place is seen there: the cache keeps it, or the page is it
 abbrev pub Sees : List CachedNode → List (List ℕ) → Want → List ℕ → Record → Type 0
@@ -33,9 +35,10 @@ Sees nodes pages want key value = CachedFits nodes want key value ⊎ FitsAt pag
 abbrev pub Misses : List CachedNode → List (List ℕ) → Want → List ℕ → Type 0
 Misses nodes pages want key = CachedMisfits nodes want key ⊎ NothingFits pages want key
 
--- a node that is cached is what its page is
-abbrev pub IsOfPage : List (List ℕ) → CachedNode → Type 0
-IsOfPage pages k = IsRecordAt pages k.addr k.key (NodeRecord k.node.level k.node.entries.items)
+-- a node that is cached is what its page is, and has the version that its key says
+pub record IsOfPage (pages : List (List ℕ)) (k : CachedNode) : Type 0 where
+  pub version : k.node.version ≡ version_of k.key
+  pub is : IsRecordAt pages k.addr k.key (NodeRecord k.node.level k.node.entries.items)
 
 -- each node that is cached is what its page is
 abbrev pub StandsOver : List (List ℕ) → Cached → Type 0

@@ -12,6 +12,7 @@ use crate::turns::{Turn, fits, turn_at};
 use node_codec::NodeBody;
 use page_store::{FetchRefusal, Want, fetch_node};
 use platform::Platform;
+use record_versions::version_of;
 use sdbt_base::Key;
 
 /// Looks at the node of a place for a block: at the one that the cache keeps, or else at its page, whose node the cache
@@ -34,8 +35,8 @@ pub(crate) fn look<P: Platform>(
     ensures still { (node : NodeBody) → IsCached reader.old.cache.nodes want.now.addr key.now node → StillKeeps want.now.addr reader.old.cache reader.new.cache }
 {
     if let Some(node) = reader.cache.get(want.addr, key) {
-        return if fits(want, node) {
-            Ok(turn_at(want, node, block))
+        return if fits(want, key, node) {
+            Ok(turn_at(want, key, node, block))
         } else {
             Err(FetchRefusal::BadRecord { addr: want.addr })
         };
@@ -58,8 +59,9 @@ fn look_at_page<P: Platform>(
 {
     let node: &mut NodeBody = &mut reader.node;
     node.level = want.level;
+    node.version = version_of(key);
     fetch_node(platform, want, key, &mut reader.buffers, &mut node.entries)?;
-    let turn = turn_at(want, node, block);
+    let turn = turn_at(want, key, node, block);
     reader.cache.put(want.addr, key, node);
     Ok(turn)
 }

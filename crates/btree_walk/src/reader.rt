@@ -54,6 +54,7 @@ fn blank_node() -> NodeBody
 {
     NodeBody {
         level: 0,
+        version: 1,
         entries: ArrayVec::new(),
     }
 }

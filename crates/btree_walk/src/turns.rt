@@ -7,6 +7,7 @@ ghost use Rattle.btree_walk.specs.Finds.{AsksFor};
 
 use node_codec::{Entry, NodeBody, fits_node};
 use page_store::Want;
+use record_versions::version_of;
 use sdbt_base::Key;
 
 /// What a node says of a block.
@@ -19,8 +20,8 @@ pub(crate) enum Turn {
 }
 
 /// What a node that fits says of a block.
-pub(crate) fn turn_at(want: &Want, node: &NodeBody, block: u64) -> Turn
-    requires fits { NodeFits want.now node.now }
+pub(crate) fn turn_at(want: &Want, key: &Key, node: &NodeBody, block: u64) -> Turn
+    requires fits { NodeFits want.now key.now node.now }
     requires asks { AsksFor want.now block }
     ensures { IsTurn want.now node.now.entries.items block result }
 {
@@ -85,9 +86,12 @@ fn reach_of(entries: &[Entry], block: u64) -> usize
     entries.partition_point(|e| e.low <= block)
 }
 
-/// Whether a node is in range at a place and is what is wanted there.
-pub fn fits(want: &Want, node: &NodeBody) -> bool
-    ensures { IsTrue result ↔ NodeFits want.now node.now }
+/// Whether a node is of the version that the key of a place says, in range there, and what is wanted there.
+pub fn fits(want: &Want, key: &Key, node: &NodeBody) -> bool
+    ensures { IsTrue result ↔ NodeFits want.now key.now node.now }
 {
-    fits_node(want.addr, node.level, &node.entries) && want.is_met_by(node.level, &node.entries)
+    let version = version_of(key);
+    node.version == version
+        && fits_node(want.addr, node.level, version, &node.entries)
+        && want.is_met_by(node.level, &node.entries)
 }

@@ -1,5 +1,6 @@
 ghost use Rattle.std.specs.Prelude.{◌≡◌, ◌<◌, ◌≤◌, ◌+◌, ℕ, OnOk, IsErrOf};
 ghost use Rattle.sdbt_base.specs.Faults.{TellsOf};
+ghost use Rattle.sdbt_base.specs.Keys.{version_of};
 ghost use Rattle.node_codec.specs.Record.{NodeRecord, FitsNode};
 ghost use Rattle.page_store.specs.Places.{FitsAt};
 ghost use Rattle.page_store.specs.Tree.{IsMisfit};
@@ -13,6 +14,7 @@ use arrayvec::ArrayVec;
 use node_codec::{Entry, NodeBody};
 use page_store::{Buffers, Want, fetch_node};
 use platform::Platform;
+use record_versions::version_of;
 use sdbt_base::Key;
 
 /// Walks over the nodes from a place on, each before those below it, and gathers of each.
@@ -36,6 +38,7 @@ pub(crate) fn walk<P: Platform, G: Gather>(
 {
     let mut node = NodeBody {
         level: want.level,
+        version: version_of(key),
         entries: ArrayVec::new(),
     };
     read_node(platform, want, key, buf, &mut node.entries)?;
@@ -62,7 +65,7 @@ fn read_node<P: Platform>(
     requires level { 1 ≤ want.now.level }
     ensures fits { P.tells → OnOk result
         (FitsAt (P.history platform.old).present.readable want.now key.now (NodeRecord want.now.level entries.new.items)) }
-    ensures range { OnOk result (FitsNode want.now.addr want.now.level entries.new.items) }
+    ensures range { OnOk result (FitsNode (version_of key.now) want.now.addr want.now.level entries.new.items) }
     ensures misfit { P.tells → (addr : ℕ) → IsErrOf result (WalkRefusal.BadRecord addr) →
         IsMisfit (P.history platform.old).present.readable addr want.now key.now }
     ensures reads { P.tells → OnOk result (P.reads platform.new ≡ P.reads platform.old + 1) }

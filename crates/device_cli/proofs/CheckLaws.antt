@@ -69,7 +69,7 @@ some_taken text taken left (Some rest) is gave =
 one_in_cell : (image : Image) (a b : Root) → IsInCell image (Some a) → IsInCell image (Some b) → a ≡ b
 one_in_cell image a b (served, is) (other, too) =
     let both : Some (root_bytes a) ≡ Some (root_bytes b) = sym is ∙ too in
-    one_root a b served.in_range other.in_range served.key.0 (same (root_bytes a) (root_bytes b) both)
+    one_root a b served.in_range other.in_range (same (root_bytes a) (root_bytes b) both)
   where
     same : (x y : List ℕ) → Some x ≡ Some y → x ≡ y
     same x y e = cc

@@ -3,6 +3,7 @@ use Rattle.std.proofs.Common.{◌≡◌, ℕ, ◌+◌, ◌<◌, ◌≤◌, List,
 use Rattle.std.specs.Prelude.{All, IfNone, map}
 use Rattle.std.proofs.lemmas.List.{get_or-map, length-map, take_all, take_more}
 use Rattle.std.proofs.lemmas.List.Elements.{AllZip-get_or, AllZip-push, All-push}
+use Rattle.sdbt_base.specs.Keys.{bare}
 use Rattle.hex.specs.Hex.{decode_of}
 use Rattle.hex.proofs.HexLemmas.{decode_of-ok, decode_of-digits}
 use Rattle.root_codec.specs.declared.root.Root.{Root}
@@ -61,10 +62,10 @@ words_all f xs i all end most = record {
 
 -- one more word, which is a root record of a root with one more key
 pub given_more : {X : Type 0} (f : X → List ℕ) (xs : List X) (head : ℕ) (keys : List (List ℕ)) (i : ℕ) (x : X) (root : Root) → AreGiven head (take i (map f xs)) keys → i < length xs → x ≡ get_or xs i x
-    → IsRecordOf head (f x) root → AreGiven head (take (i + 1) (map f xs)) (keys ++ root.key ∷ [])
+    → IsRecordOf head (f x) root → AreGiven head (take (i + 1) (map f xs)) (keys ++ bare root.key ∷ [])
 given_more f xs head keys i x root given within is of =
-    subst (λ (front : List (List ℕ)). AreGiven head front (keys ++ root.key ∷ [])) (sym (front_more f xs i x within is))
-    (AllZip-push (IsGiven head) (take i (map f xs)) keys (f x) root.key given (record { root = root; is_record = of; key_is = refl }))
+    subst (λ (front : List (List ℕ)). AreGiven head front (keys ++ bare root.key ∷ [])) (sym (front_more f xs i x within is))
+    (AllZip-push (IsGiven head) (take i (map f xs)) keys (f x) (bare root.key) given (record { root = root; is_record = of; key_is = refl }))
 
 -- where each word is one, none is bad
 pub given_not_bad : (head : ℕ) (words keys : List (List ℕ)) → AreGiven head words keys → HasBadRecord head words → ⊥

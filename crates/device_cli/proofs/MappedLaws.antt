@@ -52,7 +52,7 @@ counted_map keys image device pages nodes blocks stands kept premises same is =
     cases None (Some root) s holds exact = absurd (no_some _ (sym s ∙ holds.1))
     cases (Some d) None (root, parts, s) holds exact = absurd (no_some _ (sym holds ∙ s.cell))
     cases (Some d) (Some other) (root, parts, s) holds exact =
-        let roots : root ≡ other = one_root root other s.in_range holds.0.in_range s.key.0 (same_some _ _ (sym s.cell ∙ holds.1)) in
+        let roots : root ≡ other = one_root root other s.in_range holds.0.in_range (same_some _ _ (sym s.cell ∙ holds.1)) in
         let of_root : IsSeizure (bare root.key ∷ []) image.readable is.seized = subst (λ (r : Root). IsSeizure (bare r.key ∷ []) image.readable is.seized) (sym roots) exact in
         mapped_counted keys image d root parts is.seized s kept premises same of_root ∙ mapped_len image d root parts s
 

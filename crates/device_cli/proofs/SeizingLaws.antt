@@ -5,7 +5,7 @@ use Rattle.std.proofs.lemmas.Bool.{cases_Bool}
 use Rattle.platform.specs.Image.{Image}
 use Rattle.platform.specs.History.{Steps, moment}
 use Rattle.platform.proofs.Moments.{image_at-now}
-use Rattle.seizure.specs.Opened.{count_of_kind}
+use Rattle.seizure.specs.Opened.{count_of_kind, count_of_nodes}
 use Rattle.seizure.specs.Report.{Begins, IsSeizure, Seized as Report}
 use Rattle.script_lang.specs.Arrays.{Counted, in_limits, needs_room, step}
 use Rattle.script_lang.specs.Answers.{answer}
@@ -86,7 +86,7 @@ saw_of old new entry command (Err stop) other h = tt
 
 -- what a seizure's report counts of an image
 pub counted_of : (image : Image) (head : ℕ) (report : Report) → length image.recorded ≡ head → (there : (roots : List (List ℕ)) × Begins head image.cell [] roots × IsSeizure roots image.readable report)
-    → IsCounted image report.pages (count_of_kind 2 report.opened) (count_of_kind 1 report.opened)
+    → IsCounted image report.pages (count_of_nodes report.opened) (count_of_kind 1 report.opened)
 counted_of image head report pages (roots, begins, exact) = record {
   roots = roots;
   begins = subst (λ (n : ℕ). Begins n image.cell [] roots) (sym pages) begins;

@@ -1,6 +1,7 @@
 -- Root records that are given in words.
 use Rattle.std.specs.Prelude.{◌≡◌, ◌≤◌, ℕ, List, Ok, All, Contains, length}
 use Rattle.std.specs.List.{AllPass, AllZip}
+use Rattle.sdbt_base.specs.Keys.{bare}
 use Rattle.hex.specs.Hex.{decode_of, is_hex_digit}
 use Rattle.root_codec.specs.declared.root.Root.{Root}
 use Rattle.root_codec.specs.RootRecord.{root_bytes}
@@ -21,11 +22,11 @@ pub record IsRecordOf (head : ℕ) (word : List ℕ) (root : Root) : Type 0 wher
   pub within : IsRootWithin head root
   pub decoded : decode_of word ≡ Ok (root_bytes root)
 
--- it is that of a root with this key
+-- it is that of a root with this key, without its digest
 pub record IsGiven (head : ℕ) (word key : List ℕ) : Type 0 where
   pub root : Root
   pub is_record : IsRecordOf head word root
-  pub key_is : key ≡ root.key
+  pub key_is : key ≡ bare root.key
 
 -- the words are root records of roots with these keys, in turn
 abbrev pub AreGiven : ℕ → List (List ℕ) → List (List ℕ) → Type 0

@@ -4,7 +4,7 @@ use Rattle.std.specs.FinMap as map
 use Rattle.platform.specs.Image.{Image}
 use Rattle.platform.specs.History.{History, image_at, moment}
 use Rattle.seizure.specs.Report.{Seized, IsSeizure, Begins}
-use Rattle.seizure.specs.Opened.{count_of_kind}
+use Rattle.seizure.specs.Opened.{count_of_kind, count_of_nodes}
 use Rattle.key_graph.specs.Chains.{KeyPremises}
 use Rattle.page_store.specs.Kept.{Kept}
 use Rattle.page_store.specs.Keeping.{DrewAll}
@@ -23,7 +23,7 @@ pub record IsCounted (image : Image) (pages nodes blocks : ℕ) : Type 0 where
   pub seized : Seized
   pub exact : IsSeizure roots image.readable seized
   pub pages_are : pages ≡ seized.pages
-  pub nodes_are : nodes ≡ count_of_kind 2 seized.opened
+  pub nodes_are : nodes ≡ count_of_nodes seized.opened
   pub blocks_are : blocks ≡ count_of_kind 1 seized.opened
 
 -- the image stands for the device and has so many pages, and this is what a seizure of it counts

@@ -6,7 +6,7 @@ use Rattle.platform.specs.Image.{Image}
 use Rattle.platform.specs.History.{During}
 use Rattle.page_store.specs.Roots.{IsBadCell}
 use Rattle.seizure.specs.declared.opened.Opened.{Opened}
-use Rattle.seizure.specs.Opened.{count_of_kind}
+use Rattle.seizure.specs.Opened.{count_of_kind, count_of_nodes, is_node_kind}
 use Rattle.seizure.specs.Reads.{ReadsFew}
 use Rattle.seizure.specs.Report.{Seized, IsSeizure, Begins}
 use Rattle.device_cli.specs.Given.{AreGiven, HasBadRecord}
@@ -21,7 +21,7 @@ use Rattle.line_run.specs.declared.stop.Stop.TheVariants as stops
 abbrev pub what : Opened → List ℕ
 what opened =
     if opened.kind == 1 then codes " block " ++ decimal opened.block
-    else if opened.kind == 2 then codes " node"
+    else if is_node_kind opened.kind then codes " node"
     else codes " kind " ++ decimal opened.kind
 
 -- the line of a body that was opened
@@ -31,7 +31,7 @@ opened_line opened = codes "open " ++ (decimal opened.addr ++ (what opened ++ 10
 -- the line with the numbers: how many pages there are, and how many nodes and data records were opened
 unfoldable pub counts_line : Seized → List ℕ
 counts_line seized =
-    codes "seized pages " ++ (decimal seized.pages ++ (codes " nodes " ++ (decimal (count_of_kind 2 seized.opened)
+    codes "seized pages " ++ (decimal seized.pages ++ (codes " nodes " ++ (decimal (count_of_nodes seized.opened)
     ++ (codes " blocks " ++ (decimal (count_of_kind 1 seized.opened) ++ 10 ∷ [])))))
 
 -- a report's text: a line for each body, and then the numbers

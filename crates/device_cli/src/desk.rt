@@ -7,7 +7,7 @@ ghost use Rattle.script_lang.specs.Replies.{CanWrite, FitsBlock, said};
 ghost use Rattle.sdbt_base.specs.Counts.{counts};
 ghost use Rattle.session_calls.specs.Blame.{IsBlamed};
 ghost use Rattle.platform.specs.History.{During};
-ghost use Rattle.seizure.specs.Opened.{count_of_kind};
+ghost use Rattle.seizure.specs.Opened.{count_of_kind, count_of_nodes};
 ghost use Rattle.device_cli.specs.Causes.{AnswersAny};
 ghost use Rattle.device_cli.specs.Drawing.{DrewFor, Spends};
 ghost use Rattle.device_cli.specs.Replied.{outcome};
@@ -345,7 +345,7 @@ impl Desk {
 
 /// The reply that gives what a seizure counted.
 fn reply_with_counts(report: &Report) -> Reply
-    ensures { result ≡ Reply.Seized report.now.pages (count_of_kind 2 report.now.opened) (count_of_kind 1 report.now.opened) }
+    ensures { result ≡ Reply.Seized report.now.pages (count_of_nodes report.now.opened) (count_of_kind 1 report.now.opened) }
 {
     Reply::Seized {
         pages: report.pages(),

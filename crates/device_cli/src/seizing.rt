@@ -24,9 +24,6 @@ use std::alloc::Global;
 /// The kind byte of a data record.
 const DATA: u8 = 1;
 
-/// The kind byte of a node.
-const NODE: u8 = 2;
-
 /// Puts what the root record in the cell and those that the words are open now: a line for each body, and one with their
 /// numbers. Where the cell is full, and not with the root record of a root within the pages that there are, or a word is
 /// none, one line says so.
@@ -176,7 +173,7 @@ fn opened_text(opened: &Opened) -> ArrayVec<u8, 64>
             &mut line,
             itoa::Buffer::new().format(opened.block).as_bytes(),
         );
-    } else if opened.kind == NODE {
+    } else if opened.is_node() {
         push_text(&mut line, b" node");
     } else {
         push_text(&mut line, b" kind ");

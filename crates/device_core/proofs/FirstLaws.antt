@@ -1,8 +1,9 @@
 -- The first root record of a device, and the empty leaf that it names.
-use Rattle.std.proofs.Common.{◌≡◌, ◌∙◌, ◌+◌, ◌%◌, ◌<◌, ◌≤◌, ◌^◌, ℕ, List, [], ◌∷◌, Some, refl, sym, arith, length, length-append}
+use Rattle.std.proofs.Common.{◌≡◌, ◌∙◌, ap, inl, ◌+◌, ◌%◌, ◌<◌, ◌≤◌, ◌^◌, ℕ, List, [], ◌∷◌, Some, refl, sym, arith, length, length-append}
 use Rattle.std.specs.Prelude.{slice_get}
 use Rattle.std.proofs.lemmas.List.Elements.{All-nil}
 use Rattle.sdbt_base.specs.Bytes.{IsBytes}
+use Rattle.sdbt_base.specs.Keys.{key_size, IsKeyOf}
 use Rattle.sdbt_base.specs.Arrays.{new_device}
 use Rattle.platform.specs.Image.{Image, IsWhole, with_page, with_cell, all_synced}
 use Rattle.seal_record.specs.Sealing.{masked}
@@ -19,7 +20,8 @@ use Rattle.page_store.proofs.LeafStandsLaws.{stands_by_leaf, leaf_wanted, leaf_a
 -- the root record of a new device of so many blocks: it names an empty leaf, which is the last page
 pub record IsFirst (root : Root) (blocks order : ℕ) : Type 0 where
   pub fits : FitsRoot root
-  pub key : IsBytes 32 root.key
+  pub version : root.version ≡ 1
+  pub key : IsKeyOf root.version root.key
   pub order_is : root.order ≡ order
   pub level : root.level ≡ 1
   pub blocks_are : root.blocks ≡ blocks
@@ -29,11 +31,12 @@ pub record IsFirst (root : Root) (blocks order : ℕ) : Type 0 where
 
 -- the one of an empty leaf at this address, under this key
 abbrev pub first_root : ℕ → ℕ → ℕ → List ℕ → Root
-first_root blocks order addr key = record { order = order; level = 1; blocks = blocks; commit = 0; addr = addr; key = key; mapped = 0; head = addr + 1 }
+first_root blocks order addr key = record { version = 1; order = order; level = 1; blocks = blocks; commit = 0; addr = addr; key = key; mapped = 0; head = addr + 1 }
 
 pub is_first : (blocks order addr : ℕ) (key : List ℕ) → 1 ≤ blocks → blocks ≤ 1048576 → 4 ≤ order → order ≤ 64 → order % 2 ≡ 0 → addr < 2 ^ 32 → IsBytes 32 key → IsFirst (first_root blocks order addr key) blocks order
 is_first blocks order addr key some_blocks most_blocks least most even room sized = record {
   fits = record {
+    version = inl refl;
     order_even = even;
     order_least = least;
     order_most = most;
@@ -45,8 +48,9 @@ is_first blocks order addr key some_blocks most_blocks least most even room size
     addr = omega arith;
     mapped = omega arith;
     head = omega (arith, room);
-    plain = sized.0;
+    sized = sized.0;
   };
+  version = refl;
   key = sized;
   order_is = refl;
   level = refl;
@@ -58,7 +62,7 @@ is_first blocks order addr key some_blocks most_blocks least most even room size
 
 -- the page of that leaf
 abbrev pub leaf_page : Root → List ℕ
-leaf_page root = masked root.key (record_bytes root.addr (NodeRecord 1 []))
+leaf_page root = masked root.key (record_bytes 1 root.addr (NodeRecord 1 []))
 
 -- an image with every page synced, and the root record
 abbrev pub with_root : Image → Root → Image
@@ -72,18 +76,19 @@ with_leaf image root = with_root (with_page image (leaf_page root) (leaf_page ro
 abbrev pub parts_of : Root → Parts
 parts_of root = leaf_parts root.addr root.key [] []
 
-pub no_entries_fit : (addr : ℕ) → FitsNode addr 1 []
+pub no_entries_fit : (addr : ℕ) → FitsNode 1 addr 1 []
 no_entries_fit addr = record {
+  version_known = inl refl;
   level_least = omega arith;
   level_most = omega arith;
   count = omega arith;
   ascend = λ k inside. absurd (omega (arith, inside));
   lows = All-nil (λ (e : Entry). e.low < 1048576);
   below = All-nil (λ (e : Entry). e.addr < addr);
-  plain = All-nil (λ (e : Entry). length e.key ≡ 32);
+  sized = All-nil (λ (e : Entry). length e.key ≡ 32);
 }
 
-pub leaf_in_range : (addr : ℕ) → FitsRecord addr (NodeRecord 1 [])
+pub leaf_in_range : (addr : ℕ) → FitsRecord 1 addr (NodeRecord 1 [])
 leaf_in_range addr = (no_entries_fit addr, All-nil (λ (e : Entry). IsBytes 32 e.key))
 
 first_leaf : (image : Image) (root : Root) (blocks order : ℕ) → IsWhole image → IsFirst root blocks order → root.addr ≡ length image.recorded → StandsByLeaf (with_leaf image root) (new_device blocks order) root [] []
@@ -91,13 +96,14 @@ first_leaf image root blocks order whole first at = record {
   cell = refl;
   in_range = first.fits;
   key = first.key;
-  version = refl;
+  version = first.version;
+  first = refl;
   level = first.level;
   order = first.order_is;
   blocks = first.blocks_are;
   number = first.commit;
   head = omega (arith, length-append image.recorded (leaf_page root ∷ []), at, first.head);
-  tree = leaf_appended image.readable root [] [] first.fits (at ∙ sym whole.as_many) (leaf_in_range root.addr) (leaf_wanted root [] first.level (omega arith) (All-nil (λ (e : Entry). e.low < root.blocks))) tt;
+  tree = leaf_appended image.readable root [] [] first.fits (first.fits.sized ∙ ap key_size first.version) (at ∙ sym whole.as_many) (leaf_in_range root.addr) (leaf_wanted root [] first.level (omega arith) (All-nil (λ (e : Entry). e.low < root.blocks))) tt;
   apart = λ i j d before within. absurd (omega (arith, within));
   count = sym first.mapped;
   leaf_recorded = slice_get-end image.readable (leaf_page root) root.addr (at ∙ sym whole.as_many) ∙ sym (slice_get-end image.recorded (leaf_page root) root.addr at);

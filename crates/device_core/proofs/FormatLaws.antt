@@ -8,6 +8,7 @@ use Rattle.platform.specs.Image.{Image, LeavesOnly, with_page, all_synced}
 use Rattle.platform.specs.History.{History, Steps, During, Turns}
 use Rattle.platform.proofs.Moments.{During-step, whole-now, Extends-earlier}
 use Rattle.seal_record.specs.Sealing.{masked}
+use Rattle.sdbt_base.specs.Keys.{bare}
 use Rattle.node_codec.specs.declared.body.Entry.{Entry}
 use Rattle.node_codec.specs.Record.{Record, NodeRecord, FitsRecord, record_bytes}
 use Rattle.root_codec.specs.declared.root.Root.{Root}
@@ -44,10 +45,10 @@ pub record IsFormatting (tells : Type 0) (old looked mid new : History) (root : 
   pub turns : tells → Turns mid new (λ image. image.cell ≡ mid.present.cell) (λ image. image ≡ with_root mid.present root)
 
 -- the page that was appended is the empty leaf's
-pub first_page : (looked mid : Image) (root : Root) (at : ℕ) (body : List ℕ) → mid ≡ with_page looked (masked root.key body) (masked root.key body) → body ≡ record_bytes at (NodeRecord 1 []) → at ≡ root.addr
+pub first_page : (looked mid : Image) (root : Root) (at : ℕ) (body : List ℕ) → mid ≡ with_page looked (masked root.key body) (masked root.key body) → body ≡ record_bytes 1 at (NodeRecord 1 []) → at ≡ root.addr
     → mid ≡ with_page looked (leaf_page root) (leaf_page root)
 first_page looked mid root at body appended is here =
-    appended ∙ ap (λ (b : List ℕ). with_page looked (masked root.key b) (masked root.key b)) (is ∙ ap (λ (n : ℕ). record_bytes n (NodeRecord 1 [])) here)
+    appended ∙ ap (λ (b : List ℕ). with_page looked (masked root.key b) (masked root.key b)) (is ∙ ap (λ (n : ℕ). record_bytes 1 n (NodeRecord 1 [])) here)
 
 -- until the last step the cell is as it was
 look_still : (tells : Type 0) (old looked mid new : History) (root : Root) (blocks order : ℕ) → IsFormatting tells old looked mid new root blocks order → tells → During old mid (λ image. image.cell ≡ old.present.cell)
@@ -73,7 +74,7 @@ made_size tells old looked mid new root blocks order all told =
 made_served : (tells : Type 0) (old looked mid new : History) (root : Root) (blocks order : ℕ) → IsFormatting tells old looked mid new root blocks order → tells → IsServedImage (with_root mid.present root)
 made_served tells old looked mid new root blocks order all told =
     served_published (all_synced mid.present) root (root.addr + 1) (made_size tells old looked mid new root blocks order all told)
-    (record { in_range = all.first.fits; key = all.first.key; within = omega (arith, all.first.head) })
+    (record { in_range = all.first.fits; version = all.first.version; key = all.first.key; within = omega (arith, all.first.head) })
 
 pub format_time : (tells : Type 0) (old looked mid new : History) (root : Root) (blocks order : ℕ) (device : Option Device) → IsFormatting tells old looked mid new root blocks order → tells → Stands old.present device
     → Turns old new (LeavesOnly (λ left. Stands left device)) (LeavesOnly (λ left. Stands left (Some (new_device blocks order))))
@@ -114,24 +115,24 @@ look_discloses tells drawn old looked look same = record {
 -- a call that appends a body where it is a record of the address
 abbrev pub Appends : Type 0 → Option (List (List ℕ)) → Option (List (List ℕ)) → History → History → List ℕ → ℕ → (List (List ℕ) → Type 0) → Type 0
 Appends tells drawn drawn_now old new body at Done =
-    (value : Record) → FitsRecord at value → body ≡ record_bytes at value → KeepsKeys tells drawn drawn_now old new (IsNextRecord old.present value) Done
+    (version : ℕ) (value : Record) → FitsRecord version at value → body ≡ record_bytes version at value → KeepsKeys tells drawn drawn_now old new (IsNextRecord old.present value) Done
 
 -- a look, and then the append of an empty leaf
 appends_keep : (tells : Type 0) (drawn drawn_now : Option (List (List ℕ))) (old looked mid : History) (body : List ℕ) (addr at : ℕ) (Done : List (List ℕ) → Type 0)
     → (tells → Steps old looked) → (tells → looked.present ≡ old.present)
     → Appends tells drawn drawn_now looked mid body at Done
-    → body ≡ record_bytes addr (NodeRecord 1 []) → addr ≡ at
+    → body ≡ record_bytes 1 addr (NodeRecord 1 []) → addr ≡ at
     → KeepsKeys tells drawn drawn_now old mid (λ keys. IsSound old.present) (λ keys. IsSound looked.present × Done keys)
 appends_keep tells drawn drawn_now old looked mid body addr at Done look same append is here =
     let leaf : Record = NodeRecord 1 [] in
     keeps_then tells drawn drawn drawn_now old looked mid (λ keys. IsSound old.present) (λ keys. IsSound looked.present) (IsNextRecord looked.present leaf) Done (λ keys. IsSound looked.present × Done keys)
-    (look_keeps tells drawn old looked look same) (append leaf (leaf_in_range at) (is ∙ ap (λ (n : ℕ). record_bytes n leaf) here))
-    (λ told keys kept sound. record { device = sound.0; stands = sound.1; listed = All-nil (λ (e : Entry). Contains keys e.key) })
+    (look_keeps tells drawn old looked look same) (append 1 leaf (leaf_in_range at) (is ∙ ap (λ (n : ℕ). record_bytes 1 n leaf) here))
+    (λ told keys kept sound. record { device = sound.0; stands = sound.1; listed = All-nil (λ (e : Entry). Contains keys (bare e.key)) })
     (λ told keys more sound done. (sound, done))
 
 -- where the append failed
 pub first_discloses : (tells : Type 0) (drawn drawn_now : Option (List (List ℕ))) (old looked mid : History) (body : List ℕ) (addr at : ℕ) (Done : List (List ℕ) → Type 0)
-    → (tells → Steps old looked) → (tells → looked.present ≡ old.present) → Appends tells drawn drawn_now looked mid body at Done → body ≡ record_bytes addr (NodeRecord 1 []) → addr ≡ at
+    → (tells → Steps old looked) → (tells → looked.present ≡ old.present) → Appends tells drawn drawn_now looked mid body at Done → body ≡ record_bytes 1 addr (NodeRecord 1 []) → addr ≡ at
     → (tells → Steps looked mid) → (tells → mid.present.cell ≡ looked.present.cell)
     → Discloses tells drawn drawn_now old mid (λ keys. IsSound old.present) (λ keys. Unit {0})
 first_discloses tells drawn drawn_now old looked mid body addr at Done look same append is here steps cell = record {
@@ -151,7 +152,7 @@ abbrev leaf_place : Root → Place
 leaf_place root = record { addr = root.addr; key = root.key; trace = NodeOver [] }
 
 -- what the last step publishes, where the key of the leaf is listed
-publishes : (tells : Type 0) (old looked mid new : History) (root : Root) (blocks order : ℕ) (keys : List (List ℕ)) → IsFormatting tells old looked mid new root blocks order → tells → IsSound looked.present → Contains keys root.key
+publishes : (tells : Type 0) (old looked mid new : History) (root : Root) (blocks order : ℕ) (keys : List (List ℕ)) → IsFormatting tells old looked mid new root blocks order → tells → IsSound looked.present → Contains keys (bare root.key)
     → IsPublished mid.present (with_root mid.present root) keys
 publishes tells old looked mid new root blocks order keys all told sound own = record {
   device = sound.0;
@@ -161,7 +162,7 @@ publishes tells old looked mid new root blocks order keys all told sound own = r
   parts = parts_of root;
   tree = made_stands tells old looked mid new root blocks order all told;
   own = own;
-  listed = All-cons (λ (p : Place). Contains keys p.key) (leaf_place root) [] own (All-nil (λ (p : Place). Contains keys p.key));
+  listed = All-cons (λ (p : Place). Contains keys (bare p.key)) (leaf_place root) [] own (All-nil (λ (p : Place). Contains keys (bare p.key)));
 }
 
 -- a leaf is published where there was none
@@ -180,15 +181,15 @@ first_forgets tells old looked mid new root blocks order all told sound =
 
 -- where the leaf was appended
 pub format_discloses : (tells : Type 0) (drawn drawn_now : Option (List (List ℕ))) (old looked mid new : History) (root : Root) (blocks order : ℕ) (body : List ℕ) (given at : ℕ)
-    → IsFormatting tells old looked mid new root blocks order → Appends tells drawn drawn_now looked mid body at (λ keys. Contains keys root.key) → body ≡ record_bytes given (NodeRecord 1 []) → given ≡ at
+    → IsFormatting tells old looked mid new root blocks order → Appends tells drawn drawn_now looked mid body at (λ keys. Contains keys (bare root.key)) → body ≡ record_bytes 1 given (NodeRecord 1 []) → given ≡ at
     → Discloses tells drawn drawn_now old new (λ keys. IsSound old.present) (λ keys. Unit {0})
 format_discloses tells drawn drawn_now old looked mid new root blocks order body given at all append is here =
     let X = with_root mid.present root in
     let turns : tells → Turns old new (λ image. image.cell ≡ old.present.cell) (λ image. image ≡ X) = format_once tells old looked mid new root blocks order all in
     record {
       keys =
-          keeps_then tells drawn drawn_now drawn_now old mid new (λ keys. IsSound old.present) (λ keys. IsSound looked.present × Contains keys root.key) (IsPublished mid.present X) (λ keys. Unit {0}) (λ keys. Unit {0})
-          (appends_keep tells drawn drawn_now old looked mid body given at (λ keys. Contains keys root.key) all.look all.same append is here)
+          keeps_then tells drawn drawn_now drawn_now old mid new (λ keys. IsSound old.present) (λ keys. IsSound looked.present × Contains keys (bare root.key)) (IsPublished mid.present X) (λ keys. Unit {0}) (λ keys. Unit {0})
+          (appends_keep tells drawn drawn_now old looked mid body given at (λ keys. Contains keys (bare root.key)) all.look all.same append is here)
           (keeps_published tells drawn_now mid new X (λ keys. Unit {0}) refl all.stays all.turns (λ told keys ready. tt))
           (λ told keys kept mids. publishes tells old looked mid new root blocks order keys all told mids.0 mids.1)
           (λ told keys more mids done. tt);

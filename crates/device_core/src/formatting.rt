@@ -22,6 +22,9 @@ use root_codec::Root;
 use sdbt_base::{ROOT, Sink, Tape};
 use std::alloc::Global;
 
+/// The version of a new device.
+const VERSION: u8 = 1;
+
 /// Makes a device of `blocks` blocks, none of them mapped, where the cell is empty: one empty leaf, and
 /// then the root record that names it.
 ///
@@ -81,13 +84,14 @@ pub fn format<P: Platform, T: Tape, L: Sink>(
     let Ok(entry) = first_entry(alloc, addr) else {
         return Err(FormatRefusal::Memory);
     };
-    buffers.put_node(addr, 1, &[]);
+    buffers.put_node(addr, 1, VERSION, &[]);
     let placed = match buffers.append(platform, tape) {
         Ok(placed) => placed,
         Err(AppendFault::TapeFault) => return Err(FormatRefusal::TapeFault),
         Err(AppendFault::PlatformFault) => return Err(FormatRefusal::PlatformFault),
     };
     let root = Root {
+        version: VERSION,
         order,
         level: 1,
         blocks,

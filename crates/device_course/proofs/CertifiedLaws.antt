@@ -311,12 +311,12 @@ done_or_not (Ok x) = inl refl
 done_or_not (Err y) = inr (λ ok. absurd cc)
 
 -- a commit of a session on the root record in the cell
-pub certified_commit : {X Y : Type 0} (tells : Type 0) (written written_now : Option (List ℕ)) (old new : History) (session : Session) (Is : Root → Cert → Type 0) (result : Result X Y) → FitsRoot session.root → length session.root.key ≡ 32 → (tells → CellTurns old new) → (tells → old.present.cell ≡ Some (root_bytes session.root))
+pub certified_commit : {X Y : Type 0} (tells : Type 0) (written written_now : Option (List ℕ)) (old new : History) (session : Session) (Is : Root → Cert → Type 0) (result : Result X Y) → FitsRoot session.root → (tells → CellTurns old new) → (tells → old.present.cell ≡ Some (root_bytes session.root))
     → Certifies tells written written_now old new session.root.head (session.root.commit + 1) Is (IsOk result) → Certified tells written written_now old new (IsOk result)
-certified_commit tells written written_now old new session Is result fits sized turns cell certifies =
+certified_commit tells written written_now old new session Is result fits turns cell certifies =
     certified_call tells written written_now old new session.root.head (session.root.commit + 1) Is (IsOk result) (done_or_not result) turns
     (λ root in_range number told. inl (λ is.
-    let same : session.root ≡ root = one_root session.root root fits in_range sized (same_Some _ _ (sym (cell told) ∙ is)) in
+    let same : session.root ≡ root = one_root session.root root fits in_range (same_Some _ _ (sym (cell told) ∙ is)) in
     let numbers : session.root.commit ≡ root.commit = ap (λ (r : Root). r.commit) same in
     omega (arith, number, numbers))) certifies
 

@@ -338,7 +338,7 @@ fitting_waits written written_now cert old new in_text earlier same number (inr 
 came_root : (new : Image) (next : Root) → IsSound new → FitsRoot next → new.cell ≡ Some (root_bytes next) → (device : Device) × (parts : Parts) × StandsBy new device next parts
 came_root new next (None, none) in_range came = absurd (none-some (root_bytes next) (sym none ∙ came))
 came_root new next (Some device, (root, parts, stands)) in_range came =
-    let same : root ≡ next = one_root root next stands.in_range in_range stands.key.0 (same_Some _ _ (sym stands.cell ∙ came)) in
+    let same : root ≡ next = one_root root next stands.in_range in_range (same_Some _ _ (sym stands.cell ∙ came)) in
     (device, parts, subst (λ (r : Root). StandsBy new device r parts) same stands)
 
 pub fitting_commit : (tells : Type 0) (written written_now : Option (List ℕ)) (old new : History) (session : Session) (device : Device) (contents : Blocks) (Done : Type 0) → tells → Holds session old.present device contents → Forgets old new

@@ -131,7 +131,7 @@ on_commit tells drawn drawn_now written written_now held session pages old new r
     (λ told keys more h then'. done (keys ++ more) then')
     discloses.serves
     (certified_going tells written written_now old new (IsOk result) Going going
-    (certified_commit tells written written_now old new session (IsOfCommit session old.present new.present) result there_open.served.in_range there_open.served.key.0 discloses.turns cell certifies))
+    (certified_commit tells written written_now old new session (IsOfCommit session old.present new.present) result there_open.served.in_range discloses.turns cell certifies))
     (fitting_committed tells written written_now old new held session (IsOk result) is discloses.forgets certifies)
 
 -- without a session a mount finds the device

@@ -6,6 +6,7 @@ use Rattle.std.proofs.lemmas.List.Elements.{All-weaker, All-append, All-contains
 use Rattle.std.proofs.lemmas.List.Sorted.{All-permutation, Contains-permutation, IsPermutation-sym}
 use Rattle.sdbt_base.specs.Bytes.{IsBytes}
 use Rattle.sdbt_base.specs.Arrays.{Device, Blocks, committed_with}
+use Rattle.sdbt_base.specs.Keys.{bare, IsKeyOf}
 use Rattle.platform.specs.Image.{Image, LeavesOnly, with_cell}
 use Rattle.platform.specs.History.{History, Turns, CellStays}
 use Rattle.platform.proofs.Moments.{During-now, Extends-earlier}
@@ -60,7 +61,7 @@ pub record IsSealedLast (first : ℕ) (ns : List Sealed) (e : Entry) : Type 0 wh
   pub from : first ≤ e.addr
   pub key : IsBytes 32 e.key
   pub earlier : List (List ℕ)
-  pub keys : map (λ (n : Sealed). n.key) ns ≡ earlier ++ e.key ∷ []
+  pub keys : map (λ (n : Sealed). bare n.key) ns ≡ earlier ++ bare e.key ∷ []
 
 top_sealed : (order below first high : ℕ) (c : Child) (ns : List Sealed) (e : Entry) → IsTop order below high c → Seals (suc below) first c ns e → IsSealedLast first ns e
 unfolding Seals
@@ -71,8 +72,8 @@ top_sealed order below first high c ns e top h = here (out-Child c) top h
     here (Grown low twig) is s = record {
       from = omega (arith, s.node.addr_is);
       key = s.node.key_is;
-      earlier = map (λ (n : Sealed). n.key) s.node.below;
-      keys = ap (map (λ (n : Sealed). n.key)) s.node.is ∙ map-append (λ (n : Sealed). n.key) s.node.below (record { addr = e.addr; key = e.key; level = suc below; entries = s.node.entries } ∷ []);
+      earlier = map (λ (n : Sealed). bare n.key) s.node.below;
+      keys = ap (map (λ (n : Sealed). bare n.key)) s.node.is ∙ map-append (λ (n : Sealed). bare n.key) s.node.below (record { addr = e.addr; key = e.key; level = suc below; entries = s.node.entries } ∷ []);
     }
 
 -- ---- a commit up to its root record
@@ -102,11 +103,14 @@ last_sealed tells old mid drawn drawn_now session pages now prepared r =
 
 -- the new root record can be served over the pages that there are now
 pub next_within : (tells : Type 0) (old mid : History) (drawn drawn_now : Option (List (List ℕ))) (session : Session) (pages now : ℕ) (prepared : Prepared) → IsReadied tells old mid drawn drawn_now session pages now prepared → IsRootWithin now prepared.root
-next_within tells old mid drawn drawn_now session pages now prepared r = record {
-  in_range = r.ready.is.in_range;
-  key = (last_sealed tells old mid drawn drawn_now session pages now prepared r).key;
-  within = omega (arith, r.ready.is.next_is.head_is);
-}
+next_within tells old mid drawn drawn_now session pages now prepared r =
+    let version : prepared.root.version ≡ 1 = r.ready.is.next_is.version ∙ r.is_open.served.version in
+    record {
+      in_range = r.ready.is.in_range;
+      version = version;
+      key = subst (λ v. IsKeyOf v prepared.root.key) (sym version) (last_sealed tells old mid drawn drawn_now session pages now prepared r).key;
+      within = omega (arith, r.ready.is.next_is.head_is);
+    }
 
 -- what stands below the tree's places
 stand : (session : Session) (pages : ℕ) (image : Image) (device : Device) (contents : Blocks) → IsOpen session pages → session.is_touched ≡ true → (h : Holds session image device contents) → Stand image session.root.order (places_of session.grove) h.each session.mapped
@@ -139,7 +143,7 @@ next_stands tells old mid drawn drawn_now session pages now prepared device cont
     let with = next_tree tells old mid drawn drawn_now session pages now prepared device contents r told h in
     let next = r.ready.is.next_is in
     subst (λ (d : Device). StandsBy (with_next mid prepared) d prepared.root with.parts)
-    (next_device device contents session.root prepared.root h.each next.order next.blocks next.commit h.stands.version h.stands.order h.stands.blocks h.stands.number h.contents_are) with.stands
+    (next_device device contents session.root prepared.root h.each next.order next.blocks next.commit h.stands.first h.stands.order h.stands.blocks h.stands.number h.contents_are) with.stands
 
 -- ---- a commit whose last step was taken or failed
 
@@ -169,8 +173,8 @@ KeepsSealed tells drawn drawn_now old mid session prepared =
     KeepsKeys tells drawn drawn_now old mid (KnowsPlaces old.present (places_of session.grove))
     (ListsNewTree old.present mid.present session.root.order (places_of session.grove) session.mapped prepared.root)
 
-more_listed : (keys more : List (List ℕ)) (ps : List Place) → All (λ p. Contains keys p.key) ps → All (λ p. Contains (keys ++ more) p.key) ps
-more_listed keys more ps h = All-weaker (λ (p : Place). Contains keys p.key) (λ (p : Place). Contains (keys ++ more) p.key) (λ p has. Contains-append_left keys more p.key has) ps h
+more_listed : (keys more : List (List ℕ)) (ps : List Place) → All (λ p. Contains keys (bare p.key)) ps → All (λ p. Contains (keys ++ more) (bare p.key)) ps
+more_listed keys more ps h = All-weaker (λ (p : Place). Contains keys (bare p.key)) (λ (p : Place). Contains (keys ++ more) (bare p.key)) (λ p has. Contains-append_left keys more (bare p.key) has) ps h
 
 sealed_keys : (tells : Type 0) (old mid : History) (drawn drawn_now : Option (List (List ℕ))) (session : Session) (pages now : ℕ) (prepared : Prepared) → IsReadied tells old mid drawn drawn_now session pages now prepared → KeepsSealed tells drawn drawn_now old mid session prepared →
     KeepsKeys tells drawn drawn_now old mid (HoldsListed session old.present) (λ keys. IsPublished mid.present (with_next mid prepared) keys × HadArray session old.present)

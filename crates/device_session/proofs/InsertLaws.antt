@@ -10,13 +10,14 @@ use Rattle.sdbt_base.specs.declared.lists.Unkept.{Unkept}
 use Rattle.sdbt_base.specs.Bytes.{IsBytes}
 use Rattle.platform.specs.Image.{Image, IsEarlier, IsWhole, with_page}
 use Rattle.seal_record.specs.Sealing.{masked}
-use Rattle.node_codec.specs.Record.{DataRecord, record_bytes}
+use Rattle.sdbt_base.specs.Keys.{bare}
+use Rattle.node_codec.specs.Record.{DataRecord, NodeRecord, record_bytes}
 use Rattle.root_codec.specs.declared.root.Root.{Root}
 use Rattle.page_store.specs.Buffer.{Held}
 use Rattle.page_store.specs.Places.{IsRecordAt}
 use Rattle.page_store.specs.Stands.{StandsBy}
 use Rattle.page_store.specs.Tree.{Parts, Place, Mapped, joined}
-use Rattle.page_store.proofs.RecordLaws.{record_appended, slice_get-end}
+use Rattle.page_store.proofs.RecordLaws.{plain_appended, record_kept, slice_get-end}
 use Rattle.page_store.proofs.StandsLaws.{stands_kept}
 use Rattle.node_cache.specs.declared.slots.CachedNode.{CachedNode}
 use Rattle.node_cache.specs.Cached.{Cached}
@@ -68,10 +69,9 @@ by_later image later device root parts whole earlier cell s =
 -- what a cache keeps is of the pages still
 pub cached_later : (image later : Image) (cache : Cached) → IsWhole image → IsEarlier image later → StandsOver image.readable cache → StandsOver later.readable cache
 cached_later image later cache whole earlier h = All-weaker (IsOfPage image.readable) (IsOfPage later.readable) (λ (k : CachedNode) is. record {
-  page = is.page;
-  reads = alike (length image.recorded) image.readable later.readable k.addr earlier.readable (let within = get_within image.readable k.addr is.page is.reads in omega (arith, within, whole.as_many)) ∙ is.reads;
-  in_range = is.in_range;
-  spelled = is.spelled;
+  version = is.version;
+  is = record_kept image.readable later.readable k.addr k.key (NodeRecord k.node.level k.node.entries.items)
+      (alike (length image.recorded) image.readable later.readable k.addr earlier.readable (let within = get_within image.readable k.addr is.is.page is.is.reads in omega (arith, within, whole.as_many))) is.is;
 }) cache.nodes h
 
 -- the session over a later image with the same cell, with other bytes in its buffers
@@ -103,7 +103,7 @@ below_later pages now (s ∷ ss) le h = ((omega (arith, h.0.0, le), h.0.1), belo
 
 pub later_open : (session : Session) (buffers : Held) (pages now : ℕ) → pages ≤ now → IsOpen session pages → IsOpen (record session { buffers = buffers }) now
 later_open session buffers pages now le o = record {
-  served = record { in_range = o.served.in_range; key = o.served.key; within = omega (arith, o.served.within, le) };
+  served = record { in_range = o.served.in_range; version = o.served.version; key = o.served.key; within = omega (arith, o.served.within, le) };
   mapped = o.mapped;
   tree = o.tree;
   level = o.level;
@@ -126,7 +126,7 @@ inserted_open session grove mapped buffers pages now size top level below few le
     let was = open_sound session pages o in
     let is = open_size session pages o in
     record {
-      served = record { in_range = o.served.in_range; key = o.served.key; within = omega (arith, o.served.within, le) };
+      served = record { in_range = o.served.in_range; version = o.served.version; key = o.served.key; within = omega (arith, o.served.within, le) };
       mapped = few;
       tree = record { sound = size.sound; order = size.order ∙ is.0; blocks = size.blocks ∙ was.1; head = size.head ∙ is.1; top = top };
       level = level;
@@ -173,14 +173,14 @@ inserted_holds session image later device contents block addr key content is_map
 
 -- the key that was drawn is listed with those before
 pub inserted_listed : (session : Session) (image later : Image) (keys more : List (List ℕ)) (block addr : ℕ) (key content : List ℕ) (is_mapped : Bool) (grove : Grove) (buffers : Held) → IsInsertion session image later block addr key content is_mapped grove → HoldsListed session image keys →
-    Contains (keys ++ more) key → HoldsListed (with_inserted session grove (counted_with is_mapped session.mapped) buffers) later (keys ++ more)
+    Contains (keys ++ more) (bare key) → HoldsListed (with_inserted session grove (counted_with is_mapped session.mapped) buffers) later (keys ++ more)
 inserted_listed session image later keys more block addr key content is_mapped grove buffers i h new = record {
   device = h.device;
   contents = maps.insert h.contents block content;
   holds = inserted_holds session image later h.device h.contents block addr key content is_mapped grove buffers i h.holds;
   listed = λ s has own. elim (insertion_own image session.root h.holds.committed.places session.grove grove h.holds.each block addr key (HasWay block) h.holds.tree i.turns s own has) [
-    | inl is ↦ subst (λ (t : Stub). Contains (keys ++ more) t.key) (sym is) new
-    | inr was ↦ Contains-append_left keys more s.key (h.listed s was own)
+    | inl is ↦ subst (λ (t : Stub). Contains (keys ++ more) (bare t.key)) (sym is) new
+    | inr was ↦ Contains-append_left keys more (bare s.key) (h.listed s was own)
   ];
 }
 
@@ -199,15 +199,15 @@ padded_bytes content most bytes = (
 )
 
 -- a block's data record that was appended arrives
-pub arrived : (image later : Image) (block addr : ℕ) (key content : List ℕ) → IsWhole image → IsEarlier image later → addr ≡ length image.recorded → addr < 2 ^ 64 → block < 1048576 → IsBytes 4096 content →
-    later ≡ with_page image (masked key (record_bytes addr (DataRecord block content))) (masked key (record_bytes addr (DataRecord block content))) → Arrives image later block addr key content
-arrived image later block addr key content whole earlier at small low sized is =
-    let page = masked key (record_bytes addr (DataRecord block content)) in
+pub arrived : (image later : Image) (block addr : ℕ) (key content : List ℕ) → IsWhole image → IsEarlier image later → addr ≡ length image.recorded → addr < 2 ^ 64 → block < 1048576 → length key ≡ 32 → IsBytes 4096 content →
+    later ≡ with_page image (masked key (record_bytes 1 addr (DataRecord block content))) (masked key (record_bytes 1 addr (DataRecord block content))) → Arrives image later block addr key content
+arrived image later block addr key content whole earlier at small low plain sized is =
+    let page = masked key (record_bytes 1 addr (DataRecord block content)) in
     record {
       earlier = earlier;
       one = ap (λ (i : Image). length i.recorded) is ∙ length-append image.recorded (page ∷ []) ∙ omega arith;
       new = at;
-      there = subst (λ (i : Image). IsRecordAt i.readable addr key (DataRecord block content)) (sym is) (record_appended image.readable addr key (DataRecord block content) small (at ∙ sym whole.as_many) (low, sized));
+      there = subst (λ (i : Image). IsRecordAt i.readable addr key (DataRecord block content)) (sym is) (plain_appended image.readable addr key (DataRecord block content) small (at ∙ sym whole.as_many) plain (low, sized));
       same = subst (λ (i : Image). slice_get i.readable addr ≡ slice_get i.recorded addr) (sym is) (slice_get-end image.readable page addr (at ∙ sym whole.as_many) ∙ sym (slice_get-end image.recorded page addr at));
     }
 
@@ -238,7 +238,7 @@ more_listed session image keys more h = record {
   device = h.device;
   contents = h.contents;
   holds = h.holds;
-  listed = λ s has own. Contains-append_left keys more s.key (h.listed s has own);
+  listed = λ s has own. Contains-append_left keys more (bare s.key) (h.listed s has own);
 }
 
 -- ---- no block more

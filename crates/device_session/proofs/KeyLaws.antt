@@ -5,6 +5,7 @@ use Rattle.std.proofs.lemmas.List.Elements.{All-head, All-weaker, All-contains, 
 use Rattle.sdbt_base.specs.Arrays.{Device, Blocks}
 use Rattle.sdbt_base.specs.Traces.{DataOf, NodeOver}
 use Rattle.node_codec.specs.declared.body.Entry.{Entry}
+use Rattle.sdbt_base.specs.Keys.{bare}
 use Rattle.platform.specs.Image.{Image}
 use Rattle.platform.specs.History.{History}
 use Rattle.key_graph.proofs.ChainLaws.{map_contains}
@@ -118,30 +119,30 @@ listed_looked was session cache buffers node image after is same keeps stays key
     record { device = h.device; contents = h.contents; holds = holds_looked session cache buffers node image after h.device h.contents same keeps stays h.holds; listed = h.listed }
 
 -- one that has an array has a list of its keys
-pub listed_itself : (session : Session) (image : Image) (device : Device) (contents : Blocks) → Holds session image device contents → HoldsListed session image (map (λ s. s.key) (places_of session.grove))
+pub listed_itself : (session : Session) (image : Image) (device : Device) (contents : Blocks) → Holds session image device contents → HoldsListed session image (map (λ s. bare s.key) (places_of session.grove))
 listed_itself session image device contents h = record {
   device = device;
   contents = contents;
   holds = h;
-  listed = λ s has own. map_contains (λ (s : Stub). s.key) (places_of session.grove) s has;
+  listed = λ s has own. map_contains (λ (s : Stub). bare s.key) (places_of session.grove) s has;
 }
 
 -- those of the committed tree, in the image
-committed_listed : (session : Session) (image : Image) (device : Device) (contents : Blocks) (keys : List (List ℕ)) → Kept keys image → (h : Holds session image device contents) → All (λ p. Contains keys p.key) h.committed.places
+committed_listed : (session : Session) (image : Image) (device : Device) (contents : Blocks) (keys : List (List ℕ)) → Kept keys image → (h : Holds session image device contents) → All (λ p. Contains keys (bare p.key)) h.committed.places
 committed_listed session image device contents keys kept h =
     (kept.cell session.root (root_of_stands image device session.root h.committed h.stands)).places h.committed h.stands.tree
 
 -- those of all that stands below the session's places
-pub parts_listed : (session : Session) (image : Image) (keys : List (List ℕ)) → Kept keys image → (h : HoldsListed session image keys) → All (λ p. Contains keys p.key) (joined h.holds.each).places
+pub parts_listed : (session : Session) (image : Image) (keys : List (List ℕ)) → Kept keys image → (h : HoldsListed session image keys) → All (λ p. Contains keys (bare p.key)) (joined h.holds.each).places
 parts_listed session image keys kept h =
     let root = session.root in
     let tree = h.holds.tree in
     let places = (joined h.holds.each).places in
     let old = old_nodes image root h.holds.committed.places session.grove h.holds.each tree in
     let before = committed_listed session image h.device h.contents keys kept h.holds in
-    All-weaker (Contains places) (λ p. Contains keys p.key) (λ p has. elim (All-contains (λ p. Contains h.holds.committed.places p ⊎ IsOwn root.head p) places p tree.accounted.accounts.kept has) [
-      | inl was ↦ All-contains (λ p. Contains keys p.key) h.holds.committed.places p before was
-      | inr own ↦ (let s = own_key image.readable session.grove.order session.grove.level root.head (places_of session.grove) h.holds.each p tree.has old has own.after in subst (Contains keys) s.3 (h.listed s.0 s.1 s.2))
+    All-weaker (Contains places) (λ p. Contains keys (bare p.key)) (λ p has. elim (All-contains (λ p. Contains h.holds.committed.places p ⊎ IsOwn root.head p) places p tree.accounted.accounts.kept has) [
+      | inl was ↦ All-contains (λ p. Contains keys (bare p.key)) h.holds.committed.places p before was
+      | inr own ↦ (let s = own_key image.readable session.grove.order session.grove.level root.head (places_of session.grove) h.holds.each p tree.has old has own.after in subst (λ (k : List ℕ). Contains keys (bare k)) s.3 (h.listed s.0 s.1 s.2))
     ]) places (All-contains_itself places)
 
 -- and those of its places
@@ -152,7 +153,7 @@ places_listed session image keys kept h =
     record {
       device = Some h.device;
       stands = (session.root, h.holds.committed, h.holds.stands);
-      listed = recursion_from_All (λ (s : Stub). Contains keys s.key) places (All-weaker (Contains places) (λ s. Contains keys s.key)
-          (λ s has. let p = stub_key image.readable session.grove.order session.grove.level places h.holds.each s h.holds.tree.has has in subst (Contains keys) p.2 (All-contains (λ p. Contains keys p.key) (joined h.holds.each).places p.0 all p.1))
+      listed = recursion_from_All (λ (s : Stub). Contains keys (bare s.key)) places (All-weaker (Contains places) (λ s. Contains keys (bare s.key))
+          (λ s has. let p = stub_key image.readable session.grove.order session.grove.level places h.holds.each s h.holds.tree.has has in subst (λ (k : List ℕ). Contains keys (bare k)) p.2 (All-contains (λ p. Contains keys (bare p.key)) (joined h.holds.each).places p.0 all p.1))
           places (All-contains_itself places));
     }

@@ -77,7 +77,7 @@ fresh_pages session pages within fresh = record {
 
 pub fresh_open : (session : Session) (pages now : ℕ) → IsRootWithin pages session.root → ((head : ℕ) → session.root.addr < head → AreBelow head (places_of session.grove)) → now ≡ pages → IsFresh session → IsOpen session now
 fresh_open session pages now within below same fresh = record {
-  served = record { in_range = within.in_range; key = within.key; within = omega (arith, within.within, same) };
+  served = record { in_range = within.in_range; version = within.version; key = within.key; within = omega (arith, within.within, same) };
   mapped = omega (arith, fresh.mapped, within.in_range.mapped);
   tree = subst (λ t. IsTreeFor t session.root session.grove) (sym fresh.untouched) fresh.tree;
   level = omega (arith, fresh.tree.level, within.in_range.level_most);

@@ -1,11 +1,13 @@
 -- What a commit says, by how far it came.
-use Rattle.std.proofs.Common.{◌≡◌, ◌≢◌, ◌∙◌, inl, inr, ℕ, ◌+◌, ◌≤◌, ◌^◌, false, List, All, length, map, ◌++◌, Result, Ok, Err, refl, sym, ap, subst, arith}
+use Rattle.std.proofs.Common.{◌≡◌, ◌≢◌, ◌∙◌, inl, inr, ℕ, ◌+◌, ◌≤◌, ◌^◌, false, List, [], ◌∷◌, All, length, map, ◌++◌, Result, Ok, Err, refl, sym, ap, subst, arith}
 use Rattle.std.specs.Prelude.{Some, IfOk, IfErr, OnOk, IsOk}
 use Rattle.sdbt_base.specs.Arrays.{Device, Blocks, committed_with}
 use Rattle.sdbt_base.specs.Counts.{Counts, counts}
 use Rattle.sdbt_base.specs.Faults.{Rose}
 use Rattle.sdbt_base.specs.declared.sinks.Sink.{Ghosts as SinkGhosts}
 use Rattle.sdbt_base.specs.declared.tapes.Tape.{Ghosts as TapeGhosts}
+use Rattle.std.specs.List.{AllByRecursion}
+use Rattle.sdbt_base.proofs.KeyLaws.{version_plain}
 use Rattle.platform.specs.declared.platforms.Platform.{Ghosts as PlatformGhosts}
 use Rattle.platform.specs.Image.{Image}
 use Rattle.platform.specs.History.{Turns, CellStays}
@@ -27,7 +29,9 @@ use Rattle.shadow_commit.proofs.CachingLaws.{All-sealed, capacity_sealed}
 use Rattle.btree_update.specs.Groves.{places_of}
 use Rattle.grove_accounts.specs.Holding.{IsTreeOf}
 use Rattle.shadow_commit.specs.Finishing.{Swaps}
-use Rattle.shadow_commit.specs.Sealed.{page_of}
+use Rattle.shadow_commit.specs.Sealed.{Sealed, page_of}
+use Rattle.shadow_commit.specs.Caching.{cached_as}
+use Rattle.shadow_commit.specs.NewTree.{Fits, IsNodeAt}
 use Rattle.shadow_commit.specs.Handing.{OnlyAdds, KnowsPlaces}
 use Rattle.shadow_commit.specs.declared.prepared.Prepared.{Prepared}
 use Rattle.device_session.specs.declared.refusals.CommitReply.{CommitReply}
@@ -238,6 +242,11 @@ commits_failed P T L platform mid new tape tape_now ledger ledger_now session no
 
 -- ---- the session after a commit
 
+-- nodes that are sealed are what their pages are
+sealed_of_pages : (pages : List (List ℕ)) (ns : List Sealed) → AllByRecursion Fits ns → AllByRecursion (IsNodeAt pages) ns → AllByRecursion (λ (n : Sealed). IsOfPage pages (cached_as n)) ns
+sealed_of_pages pages [] fits at = tt
+sealed_of_pages pages (n ∷ ns) fits at = (record { version = sym (version_plain n.key fits.0.1); is = at.0 }, sealed_of_pages pages ns fits.1 at.1)
+
 -- the nodes that it keeps are what the pages are still
 pub committed_cached : {S R W : Type 0} (P : PlatformGhosts S) (T : TapeGhosts R) (L : SinkGhosts W) (platform mid new : S) (tape tape_now : R) (ledger ledger_now : W) (session now : Session) (prepared : Prepared) (Was : Type 0)
     → (all : IsCommitting P T L platform mid new tape tape_now ledger ledger_now session prepared Was) → TakesUp session all.readied.cache prepared.root now → P.tells → (P.history new).present ≡ with_next (P.history mid) prepared → StandsOver (P.history platform).present.readable session.cache
@@ -250,11 +259,12 @@ committed_cached P T L platform mid new tape tape_now ledger ledger_now session 
     let reads : (P.history new).present.readable ≡ old.readable ++ more
     = ap (λ (i : Image). i.readable) published ∙ ap (λ (i : Image). i.readable) (is.synced told) ∙ ap (λ (i : Image). i.readable) (is.adds.image told) in
     let gone = session.grove.gone.items in
-    let kept = All-weaker (IsOfPage old.readable) (IsOfPage (old.readable ++ more)) (λ k of. record_stays old.readable more k.addr k.key (NodeRecord k.node.level k.node.entries.items) of) (without_all gone session.cache.nodes)
+    let kept = All-weaker (IsOfPage old.readable) (IsOfPage (old.readable ++ more)) (λ k of. record { version = of.version; is = record_stays old.readable more k.addr k.key (NodeRecord k.node.level k.node.entries.items) of.is }) (without_all gone session.cache.nodes)
     (All-without_all (IsOfPage old.readable) gone session.cache.nodes stands) in
     let from : P.head platform ≡ length old.readable = sym (all.readied.counts told) ∙ sym (whole-now (P.history platform)).as_many in
     let small : P.head platform + length ns ≤ 2 ^ 64 = omega (arith, is.adds.head, is.next_is.head_is, is.in_range.head) in
-    let sealed = All-sealed (IsOfPage (old.readable ++ more)) (forgotten gone session.cache) ns kept (records_at (P.head platform) old.readable ns from is.over.order.from is.over.order.fits small) in
+    let sealed = All-sealed (IsOfPage (old.readable ++ more)) (forgotten gone session.cache) ns kept
+    (sealed_of_pages (old.readable ++ more) ns is.over.order.fits (records_at (P.head platform) old.readable ns from is.over.order.from is.over.order.fits small)) in
     subst (λ (pages : List (List ℕ)). StandsOver pages now.cache) (sym reads)
     (taken_cached session now all.readied.cache prepared.root (old.readable ++ more) taken (subst (StandsOver (old.readable ++ more)) (sym is.cached) sealed))
 
@@ -288,7 +298,7 @@ commits_done P T L platform mid new tape tape_now ledger ledger_now session now 
           let counted : device.number + 1 ≡ number = sym (number_is ∙ r.ready.is.next_is.commit ∙ ap (λ (n : ℕ). n + 1) h.stands.number) in
           subst (λ (n : ℕ). Holds now (P.history new).present (record device { number = n; contents = contents }) contents) counted (holds told device contents h);
       goes_on = (
-        taken_open session now r.cache next (P.head new) taken (record { in_range = within.in_range; key = within.key; within = omega (arith, within.within, all.swaps.head) }) (omega (arith, r.is_open.mapped, r.ready.is.next_is.blocks)),
+        taken_open session now r.cache next (P.head new) taken (record { in_range = within.in_range; version = within.version; key = within.key; within = omega (arith, within.within, all.swaps.head) }) (omega (arith, r.is_open.mapped, r.ready.is.next_is.blocks)),
         ap (λ (root : Root). root.blocks) taken.root_is ∙ r.ready.is.next_is.blocks,
         taken.mapped,
         ap (λ (k : Cached). k.capacity) (taken.cached ∙ ap (forgotten session.grove.gone.items) r.ready.is.cached) ∙ capacity_sealed (forgotten session.grove.gone.items session.cache) r.ready.is.adds.nodes,

@@ -68,7 +68,7 @@ ready_tree true root old new k sound t = record {
 
 pub ready_open : (session : Session) (grove : Grove) (cache : Cached) (buffers : Held) (node : NodeBody) (pages now : ℕ) → now ≡ pages → KeepsTree session.grove grove → IsSound grove → IsOpen session pages → IsOpen (with_ready session grove cache buffers node) now
 ready_open session grove cache buffers node pages now same k sound o = record {
-  served = record { in_range = o.served.in_range; key = o.served.key; within = omega (arith, o.served.within, same) };
+  served = record { in_range = o.served.in_range; version = o.served.version; key = o.served.key; within = omega (arith, o.served.within, same) };
   mapped = o.mapped;
   tree = ready_tree session.is_touched session.root session.grove grove k sound o.tree;
   level = omega (arith, o.level, k.level);

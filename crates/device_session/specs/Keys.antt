@@ -1,6 +1,7 @@
 -- That a session's keys are listed.
 use Rattle.std.specs.Prelude.{ℕ, List, Contains}
 use Rattle.sdbt_base.specs.Arrays.{Device, Blocks}
+use Rattle.sdbt_base.specs.Keys.{bare}
 use Rattle.platform.specs.Image.{Image}
 use Rattle.btree_twigs.specs.Stubs.{Stub}
 use Rattle.btree_update.specs.Groves.{places_of}
@@ -13,7 +14,7 @@ pub record HoldsListed (session : Session) (image : Image) (keys : List (List �
   pub device : Device
   pub contents : Blocks
   pub holds : Holds session image device contents
-  pub listed : (s : Stub) → Contains (places_of session.grove) s → IsOwnStub session.root.head s → Contains keys s.key
+  pub listed : (s : Stub) → Contains (places_of session.grove) s → IsOwnStub session.root.head s → Contains keys (bare s.key)
 
 -- what lists the session's keys lists them still
 abbrev pub StaysListed : Image → Image → Session → Session → Type 0

@@ -78,7 +78,8 @@ impl Session {
     /// Goes on with the tree of a root record that was just put into the cell: no node is in memory then, and none that is gone in
     /// the cache.
     fn take_up(&mut self, root: Root)
-        requires { FitsRoot root }
+        requires fits { FitsRoot root }
+        requires version { root.version ≡ 1 }
         ensures { TakesUp self.old self.old.cache root self.new }
     {
         self.reader.cache.forget_all(self.grove.gone());

@@ -1,5 +1,6 @@
 -- What a call on a device does beside its purpose: what it discloses, draws and adds.
 use Rattle.std.specs.Prelude.{◌≡◌, ◌≤◌, ◌+◌, ℕ, List, [], ◌∷◌, ◌++◌, Option}
+use Rattle.sdbt_base.specs.Keys.{bare}
 use Rattle.sdbt_base.specs.declared.sinks.Sink.{Ghosts as SinkGhosts}
 use Rattle.sdbt_base.specs.declared.tapes.Tape.{Ghosts as TapeGhosts}
 use Rattle.platform.specs.declared.platforms.Platform.{Ghosts as PlatformGhosts}
@@ -18,10 +19,10 @@ pub record Discloses (tells : Type 0) (drawn drawn_now : Option (List (List ℕ)
   pub serves : tells → IsServedImage old.present → During old new IsServedImage
   pub forgets : tells → (keys : List (List ℕ)) → Ready keys → Forgets old new
 
--- the root record names the last of so many pages and the key that was drawn last, and its head field is their number
+-- the root record names the last of so many pages and the key that was drawn last, without its digest, and its head field is their number
 pub record NamesLast (drawn drawn_now : Option (List (List ℕ))) (pages : ℕ) (root : Root) : Type 0 where
   pub earlier : List (List ℕ)
-  pub drew : DrewAll drawn (earlier ++ root.key ∷ []) drawn_now
+  pub drew : DrewAll drawn (earlier ++ bare root.key ∷ []) drawn_now
   pub node : root.addr + 1 ≡ pages
   pub head : root.head ≡ pages
 

@@ -4,6 +4,7 @@ use Rattle.std.specs.Prelude.{All, Contains}
 use Rattle.std.proofs.lemmas.List.{take_all}
 use Rattle.std.proofs.lemmas.Option.{none-some}
 use Rattle.std.proofs.lemmas.List.Elements.{All-nil, All-cons, All-map, All-weaker, Contains-append_left}
+use Rattle.sdbt_base.specs.Keys.{bare}
 use Rattle.platform.specs.Image.{Image, LeavesOnly}
 use Rattle.platform.specs.History.{History, Extends, During, image_at, moment}
 use Rattle.platform.proofs.Moments.{image_at-now, earlier-now, may-leave-now, During-now, Extends-earlier}
@@ -151,7 +152,7 @@ at_start cut new extends = extends.same (moment cut) (omega arith) ∙ image_at-
 -- the tree of a root record over later pages
 record IsMap (keys pages : List (List ℕ)) (root : Root) : Type 0 where
   pub links : List Link
-  pub closed : IsClosed pages (root.key ∷ []) links
+  pub closed : IsClosed pages (bare root.key ∷ []) links
   pub listed : AreListed keys links
 
 map_of : (keys longer : List (List ℕ)) (image : Image) (device : Option Device) (root : Root) → Stands image device → Kept keys image → AreFirst image.recorded longer → IsRootOf image root → IsMap keys longer root
@@ -161,8 +162,8 @@ map_of keys longer image (Some device) root (root', parts, stands) kept first is
     let roots : root' ≡ root = one_root_in image image root' root refl here is in
     subst (IsMap keys longer) roots (record {
       links = links_of parts.places;
-      closed = closed_later image.recorded longer (root'.key ∷ []) (links_of parts.places) first (tree_closed image.recorded root' parts (recorded_tree image device root' parts stands));
-      listed = All-map (λ (l : Link). Contains keys l.key) (λ (p : Place). link p.addr p.key) parts.places ((kept.cell root' here).places parts stands.tree);
+      closed = closed_later image.recorded longer (bare root'.key ∷ []) (links_of parts.places) first (tree_closed image.recorded root' parts (recorded_tree image device root' parts stands));
+      listed = All-map (λ (l : Link). Contains keys l.key) (λ (p : Place). link p.addr (bare p.key)) parts.places ((kept.cell root' here).places parts stands.tree);
     })
 
 module _ (keys one two : List (List ℕ)) (at : ℕ) (left : Files) (old mid cut new : History) (o : IsOpenedAfter old mid cut at left)
@@ -214,10 +215,10 @@ module _ (keys one two : List (List ℕ)) (at : ℕ) (left : Files) (old mid cut
   only_key : (key : List ℕ) → Contains (keys ++ one) key → All (Contains (keys ++ one)) (key ∷ [])
   only_key key has = All-cons (Contains (keys ++ one)) key [] has (All-nil (Contains (keys ++ one)))
 
-  still : (i j : ℕ) → moment old ≤ i → i ≤ at → j ≤ moment new → (root : Root) → IsRootOf (image_at mid i) root → (addr : ℕ) → ReachedOver (root.key ∷ []) pages (image_at new j).recorded addr ↔ IsInTree (image_at mid i) addr
+  still : (i j : ℕ) → moment old ≤ i → i ≤ at → j ≤ moment new → (root : Root) → IsRootOf (image_at mid i) root → (addr : ℕ) → ReachedOver (bare root.key ∷ []) pages (image_at new j).recorded addr ↔ IsInTree (image_at mid i) addr
   still i j from to to' root is addr =
       let its = ((a.kept.each i from (omega (arith, to, o.to))).cell root is).own in
-      let law = first_reach (root.key ∷ []) (only_key root.key its) j to' addr in
+      let law = first_reach (bare root.key ∷ []) (only_key (bare root.key) its) j to' addr in
       let then = first.still i at from to o.to root is addr in
       (λ r. then.0 (law.0 r), λ there. law.1 (then.1 there))
 
@@ -226,22 +227,22 @@ module _ (keys one two : List (List ℕ)) (at : ℕ) (left : Files) (old mid cut
       let s = stands.each i from to in
       map_of ((keys ++ one) ++ two) last (image_at new i) s.0 root (s.1 (image_at new i) (may_leave_itself new i)) (b.kept.each i from to) (front i to) is
 
-  exact : (i j : ℕ) → moment cut ≤ i → i ≤ j → j ≤ moment new → (root : Root) → IsRootOf (image_at new i) root → (addr : ℕ) → ReachedOver (root.key ∷ []) pages (image_at new j).recorded addr ↔ IsInTree (image_at new i) addr
+  exact : (i j : ℕ) → moment cut ≤ i → i ≤ j → j ≤ moment new → (root : Root) → IsRootOf (image_at new i) root → (addr : ℕ) → ReachedOver (bare root.key ∷ []) pages (image_at new j).recorded addr ↔ IsInTree (image_at new i) addr
   exact i j from up to root is addr =
       let m = map_at i from (omega (arith, up, to)) root is in
       let then = second.still i (moment new) from (omega (arith, up, to)) (omega arith) root is addr in
       let there = second.still i j from up to root is addr in (
-        λ r. then.0 (subst (λ (image : Image). Reached (root.key ∷ []) image.recorded addr) (sym (image_at-now new (moment new) (omega arith)))
-            (reached_second (keys ++ one) two pages cut.present.recorded last begins later own added premises (root.key ∷ []) m.links m.closed m.listed own_last addr
-            (over_grows (root.key ∷ []) pages (image_at new j).recorded last addr (front j to) r))),
-        λ in_tree. over_second (root.key ∷ []) pages (image_at new j).recorded addr (there.1 in_tree),
+        λ r. then.0 (subst (λ (image : Image). Reached (bare root.key ∷ []) image.recorded addr) (sym (image_at-now new (moment new) (omega arith)))
+            (reached_second (keys ++ one) two pages cut.present.recorded last begins later own added premises (bare root.key ∷ []) m.links m.closed m.listed own_last addr
+            (over_grows (bare root.key ∷ []) pages (image_at new j).recorded last addr (front j to) r))),
+        λ in_tree. over_second (bare root.key ∷ []) pages (image_at new j).recorded addr (there.1 in_tree),
       )
 
-  lost : (j : ℕ) → moment cut ≤ j → j ≤ moment new → (root : Root) → IsRootOf (image_at new j) root → (addr : ℕ) → ReachedFirst (root.key ∷ []) pages (image_at new j).recorded addr → addr < length cut.present.recorded
+  lost : (j : ℕ) → moment cut ≤ j → j ≤ moment new → (root : Root) → IsRootOf (image_at new j) root → (addr : ℕ) → ReachedFirst (bare root.key ∷ []) pages (image_at new j).recorded addr → addr < length cut.present.recorded
   lost j from to root is addr r =
       let m = map_at j from to root is in
-      reached_kept (keys ++ one) two pages cut.present.recorded last begins later own added premises (root.key ∷ []) m.links m.closed m.listed own_last addr
-      (first_grows (root.key ∷ []) pages (image_at new j).recorded last addr (front j to) r)
+      reached_kept (keys ++ one) two pages cut.present.recorded last begins later own added premises (bare root.key ∷ []) m.links m.closed m.listed own_last addr
+      (first_grows (bare root.key ∷ []) pages (image_at new j).recorded last addr (front j to) r)
 
   start_is : image_at new (moment cut) ≡ cut.present
   start_is = at_start cut new b.kept.extends
@@ -258,7 +259,7 @@ module _ (keys one two : List (List ℕ)) (at : ℕ) (left : Files) (old mid cut
       omega (arith, up, below, left_low, many, same, start, rises)
 
   deleted : (i j : ℕ) → moment old ≤ i → i ≤ at → moment cut ≤ j → j ≤ moment new → (root : Root) → IsRootOf (image_at new j) root
-      → (addr : ℕ) → ReachedFirst (root.key ∷ []) pages (image_at new j).recorded addr → addr < floor_of old mid i → IsInTree (image_at mid i) addr
+      → (addr : ℕ) → ReachedFirst (bare root.key ∷ []) pages (image_at new j).recorded addr → addr < floor_of old mid i → IsInTree (image_at mid i) addr
   deleted i j from to from' to' root is addr r below =
       let start = moment cut in
       let small = lost j from' to' root is addr r in
@@ -267,13 +268,13 @@ module _ (keys one two : List (List ℕ)) (at : ℕ) (left : Files) (old mid cut
       let low = floors i start from to (omega arith) (omega (arith, from', to')) in
       let there : IsInTree (image_at new start) addr = second.deleted.kept start j (omega arith) from' to' addr reached (omega (arith, below, small, low)) in
       let again = second.still start start (omega arith) (omega arith) (omega (arith, from', to')) there.root there.is addr in
-      let over : Reached (there.root.key ∷ []) cut.present.recorded addr = subst (λ (x : Image). Reached (there.root.key ∷ []) x.recorded addr) start_is (again.1 there) in
+      let over : Reached (bare there.root.key ∷ []) cut.present.recorded addr = subst (λ (x : Image). Reached (bare there.root.key ∷ []) x.recorded addr) start_is (again.1 there) in
       let its : IsRootOf cut.present there.root = subst (λ (x : Image). IsRootOf x there.root) start_is there.is in
       let cell : (image_at mid at).cell ≡ cut.present.cell = sym o.are.cell ∙ sym (ap (λ (image : Image). image.cell) o.opened) in
       let then : IsReached (image_at mid at) addr = record {
         root = there.root;
         is = record { cell = cell ∙ its.cell; in_range = its.in_range; key = its.key };
-        reached = reached_later (there.root.key ∷ []) cut.present.recorded pages addr begins over;
+        reached = reached_later (bare there.root.key ∷ []) cut.present.recorded pages addr begins over;
       } in
       first.deleted.kept i at from to o.to addr then below
 

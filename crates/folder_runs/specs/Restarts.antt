@@ -1,6 +1,7 @@
 -- A run over the files that a loss of power left of another one.
 use Rattle.std.specs.Prelude.{◌≡◌, ◌≤◌, ◌<◌, ◌↔◌, ◌∷◌, [], ◌++◌, ◌+◌, ℕ, min, List, Option, All, Contains, length}
 use Rattle.sdbt_base.specs.Arrays.{State, Device, closed}
+use Rattle.sdbt_base.specs.Keys.{bare}
 use Rattle.platform.specs.Image.{Image}
 use Rattle.platform.specs.History.{History, During, image_at, moment}
 use Rattle.root_codec.specs.declared.root.Root.{Root}
@@ -78,14 +79,14 @@ pub record DisclosesOver (keys one : List (List ℕ)) (at : ℕ) (old mid cut ne
   pub second : DisclosesTrees (keys ++ one) cut new
   -- the key in the cell at a moment of either run reaches exactly the tree of that moment
   pub still : (i j : ℕ) → moment old ≤ i → i ≤ at → moment cut ≤ j → j ≤ moment new → (root : Root) → IsRootOf (image_at mid i) root
-      → (addr : ℕ) → ReachedOver (root.key ∷ []) (image_at mid at).recorded (image_at new j).recorded addr ↔ IsInTree (image_at mid i) addr
+      → (addr : ℕ) → ReachedOver (bare root.key ∷ []) (image_at mid at).recorded (image_at new j).recorded addr ↔ IsInTree (image_at mid i) addr
   pub exact : (i j : ℕ) → moment cut ≤ i → i ≤ j → j ≤ moment new → (root : Root) → IsRootOf (image_at new i) root
-      → (addr : ℕ) → ReachedOver (root.key ∷ []) (image_at mid at).recorded (image_at new j).recorded addr ↔ IsInTree (image_at new i) addr
+      → (addr : ℕ) → ReachedOver (bare root.key ∷ []) (image_at mid at).recorded (image_at new j).recorded addr ↔ IsInTree (image_at new i) addr
   -- of the pages of the first run the second one's keys reach none that was lost, and none that was deleted at a moment of the first
   pub lost : (j : ℕ) → moment cut ≤ j → j ≤ moment new → (root : Root) → IsRootOf (image_at new j) root
-      → (addr : ℕ) → ReachedFirst (root.key ∷ []) (image_at mid at).recorded (image_at new j).recorded addr → addr < length cut.present.recorded
+      → (addr : ℕ) → ReachedFirst (bare root.key ∷ []) (image_at mid at).recorded (image_at new j).recorded addr → addr < length cut.present.recorded
   pub deleted : (i j : ℕ) → moment old ≤ i → i ≤ at → moment cut ≤ j → j ≤ moment new → (root : Root) → IsRootOf (image_at new j) root
-      → (addr : ℕ) → ReachedFirst (root.key ∷ []) (image_at mid at).recorded (image_at new j).recorded addr → addr < floor_of old mid i → IsInTree (image_at mid i) addr
+      → (addr : ℕ) → ReachedFirst (bare root.key ∷ []) (image_at mid at).recorded (image_at new j).recorded addr → addr < floor_of old mid i → IsInTree (image_at mid i) addr
   -- floors of the first run are no higher than those of the second, but for pages that were lost
   pub floors : (i j : ℕ) → moment old ≤ i → i ≤ at → moment cut ≤ j → j ≤ moment new → min (floor_of old mid i) (length cut.present.recorded) ≤ floor_of cut new j
   -- the keys from before both runs reach what they reached before them

@@ -126,6 +126,7 @@ stays_later image later earlier addr key value is = record {
   reads = read_more (length image.recorded) later.readable addr is.page (ap (λ ps. slice_get ps addr) earlier.readable ∙ is.reads);
   in_range = is.in_range;
   spelled = is.spelled;
+  digested = is.digested;
 }
 
 -- ---- the two updates

@@ -1,5 +1,5 @@
 -- What a key yields on a page that it opens.
-use Rattle.std.specs.Prelude.{◌≡◌, ◌<◌, ◌+◌, ◌*◌, ℕ, List, min, take, drop, slice_index}
+use Rattle.std.specs.Prelude.{◌≡◌, ◌==◌, ◌⊎◌, ◌<◌, ◌+◌, ◌*◌, ℕ, List, if◌then◌else◌, min, take, drop, slice_index}
 use Rattle.std.specs.Int.{w16, w64, from_be_bytes}
 use Rattle.seal_record.specs.Sealing.{masked}
 
@@ -15,17 +15,22 @@ kind_of body = slice_index body 16
 abbrev pub block_of : List ℕ → ℕ
 block_of body = from_be_bytes w64 (part 24 8 body)
 
--- how many entries a body has by its count: at most as many as there is room for
-abbrev pub count_of : List ℕ → ℕ
-count_of body = min (from_be_bytes w16 (part 18 2 body)) 85
+-- the kind of a node, and how many bytes one of its entries has: with digests, more
+abbrev pub IsNodeKind : ℕ → ℕ → Type 0
+IsNodeKind kind size = ((kind ≡ 2) × (size ≡ 48)) ⊎ ((kind ≡ 3) × (size ≡ 80))
 
--- the key in one of the entries of a body
-abbrev pub key_in : List ℕ → ℕ → List ℕ
-key_in body entry = part (48 * entry + 48) 32 body
+-- how many entries of this size a body has by its count: at most as many as there is room for
+abbrev pub count_of : ℕ → List ℕ → ℕ
+count_of size body = min (from_be_bytes w16 (part 18 2 body)) (if size == 80 then 51 else 85)
+
+-- the key in one of the entries of a body, of this size: a digest stands behind it
+abbrev pub key_in : ℕ → List ℕ → ℕ → List ℕ
+key_in size body entry = part (size * entry + 48) 32 body
 
 -- a key yields another on a page: under it the page is of the kind of a node, and one of its entries has the other key
 pub record Yields (key page other : List ℕ) : Type 0 where
   pub entry : ℕ
-  pub node : kind_of (masked key page) ≡ 2
-  pub within : entry < count_of (masked key page)
-  pub here : other ≡ key_in (masked key page) entry
+  pub size : ℕ
+  pub node : IsNodeKind (kind_of (masked key page)) size
+  pub within : entry < count_of size (masked key page)
+  pub here : other ≡ key_in size (masked key page) entry

@@ -16,9 +16,9 @@ cached capacity nodes = record { capacity = capacity; nodes = nodes }
 abbrev pub cached_node : ℕ → List ℕ → NodeBody → CachedNode
 cached_node addr key node = record { addr = addr; key = key; node = node }
 
--- the node of a level with these entries
-abbrev pub node_of : ℕ → List Entry → NodeBody
-node_of level entries = record { level = level; entries = record { items = entries } }
+-- the node of a level and a version with these entries
+abbrev pub node_of : ℕ → ℕ → List Entry → NodeBody
+node_of level version entries = record { level = level; version = version; entries = record { items = entries } }
 
 -- what is cached for other addresses, in its order
 abbrev pub without : ℕ → List CachedNode → List CachedNode

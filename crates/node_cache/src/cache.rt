@@ -84,14 +84,21 @@ impl NodeCache {
         ensures off { (result ≡ Put.Off) ↔ (self.old.capacity ≡ 0) }
         ensures cached { self.new ≡ filled self.old (cached_node addr key.now node.now) }
     {
-        self.put_node(addr, key, node.level, &node.entries)
+        self.put_node(addr, key, node.level, node.version, &node.entries)
     }
 
-    /// Keeps the node of a level with these entries, at most 64, as `put` does.
-    pub fn put_node(&mut self, addr: u64, key: &Key, level: u8, entries: &[Entry]) -> Put
+    /// Keeps the node of a level and a version with these entries, at most 64, as `put` does.
+    pub fn put_node(
+        &mut self,
+        addr: u64,
+        key: &Key,
+        level: u8,
+        version: u8,
+        entries: &[Entry],
+    ) -> Put
         requires { length entries.now ≤ 64 }
         ensures off { (result ≡ Put.Off) ↔ (self.old.capacity ≡ 0) }
-        ensures cached { self.new ≡ filled self.old (cached_node addr key.now (node_of level entries.now)) }
+        ensures cached { self.new ≡ filled self.old (cached_node addr key.now (node_of level version entries.now)) }
     {
         if self.addrs.is_empty() {
             return Put::Off;
@@ -99,7 +106,7 @@ impl NodeCache {
         let number = slot_for(&self.slots, &self.buckets, &self.addrs, addr);
         note(&mut self.buckets, &self.addrs, number, addr);
         self.addrs[number] = Some(addr);
-        fill(&mut self.slots, number, addr, key, level, entries);
+        fill(&mut self.slots, number, addr, key, level, version, entries);
         Put::Stored
     }
 
@@ -222,15 +229,16 @@ fn fill(
     addr: u64,
     key: &Key,
     level: u8,
+    version: u8,
     entries: &[Entry],
 )
     requires there { IsSome (lookup (nat_eq number) slots.old.entries) }
     requires count { length entries.now ≤ 64 }
-    ensures written { slots.new ≡ lru_cache ((number, Some (cached_node addr key.now (node_of level entries.now))) ∷ remove_entry (nat_eq number) slots.old.entries) slots.old.cap }
+    ensures written { slots.new ≡ lru_cache ((number, Some (cached_node addr key.now (node_of level version entries.now))) ∷ remove_entry (nat_eq number) slots.old.entries) slots.old.cap }
     ensures distinct { IsDistinct nat_eq (keys_of slots.new.entries) }
 {
     match slots.get_mut(&number) {
-        Some(slot) => slot.fill(addr, key, level, entries),
+        Some(slot) => slot.fill(addr, key, level, version, entries),
         None => unreachable!(),
     }
     let count = slots.len();

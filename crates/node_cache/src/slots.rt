@@ -41,31 +41,33 @@ impl Model for Slot {
 }
 
 impl CachedNode {
-    /// The node of a level with a copy of these entries, for its address under its key.
-    fn of(addr: u64, key: &Key, level: u8, entries: &[Entry]) -> CachedNode
+    /// The node of a level and a version with a copy of these entries, for its address under its key.
+    fn of(addr: u64, key: &Key, level: u8, version: u8, entries: &[Entry]) -> CachedNode
         requires { length entries.now ≤ 64 }
-        ensures { result ≡ cached_node addr key.now (node_of level entries.now) }
+        ensures { result ≡ cached_node addr key.now (node_of level version entries.now) }
     {
         let mut kept = CachedNode {
             addr,
             key: *key,
             node: NodeBody {
                 level,
+                version,
                 entries: ArrayVec::new(),
             },
         };
-        kept.copy(addr, key, level, entries);
+        kept.copy(addr, key, level, version, entries);
         kept
     }
 
-    /// Becomes the node of a level with a copy of these entries, for its address under its key.
-    fn copy(&mut self, addr: u64, key: &Key, level: u8, entries: &[Entry])
+    /// Becomes the node of a level and a version with a copy of these entries, for its address under its key.
+    fn copy(&mut self, addr: u64, key: &Key, level: u8, version: u8, entries: &[Entry])
         requires { length entries.now ≤ 64 }
-        ensures { self.new ≡ cached_node addr key.now (node_of level entries.now) }
+        ensures { self.new ≡ cached_node addr key.now (node_of level version entries.now) }
     {
         self.addr = addr;
         self.key = *key;
         self.node.level = level;
+        self.node.version = version;
         self.node.entries.clear();
         match self.node.entries.try_extend_from_slice(entries) {
             Ok(()) => {}
@@ -105,15 +107,17 @@ impl Slot {
         }
     }
 
-    /// Writes the node of a level with these entries over what stands here, for its address under its key.
-    pub(crate) fn fill(&mut self, addr: u64, key: &Key, level: u8, entries: &[Entry])
+    /// Writes the node of a level and a version with these entries over what stands here, for its address under its key.
+    pub(crate) fn fill(&mut self, addr: u64, key: &Key, level: u8, version: u8, entries: &[Entry])
         requires { length entries.now ≤ 64 }
-        ensures { self.new ≡ Some (cached_node addr key.now (node_of level entries.now)) }
+        ensures { self.new ≡ Some (cached_node addr key.now (node_of level version entries.now)) }
     {
         if self.room.is_empty() {
-            let _room = self.room.push(CachedNode::of(addr, key, level, entries));
+            let _room = self
+                .room
+                .push(CachedNode::of(addr, key, level, version, entries));
         } else {
-            self.room[0].copy(addr, key, level, entries);
+            self.room[0].copy(addr, key, level, version, entries);
         }
         self.is_full = true;
     }

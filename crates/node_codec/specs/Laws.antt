@@ -1,18 +1,21 @@
 -- The laws of records: the parts decide the bytes, and the bytes decide the parts.
-use Rattle.std.proofs.Common.{◌≡◌, ℕ, ◌+◌, ◌-◌, ◌*◌, ◌<◌, ◌≤◌, ◌^◌, List, [], ◌∷◌, ◌++◌, map, length, take, drop, replicate, refl, sym, ap, ◌∙◌, arith, length-append, inl, inr, lit<}
+use Rattle.std.proofs.Common.{◌≡◌, ℕ, ◌+◌, ◌-◌, ◌*◌, ◌<◌, ◌≤◌, ◌^◌, List, [], ◌∷◌, ◌++◌, map, length, take, drop, replicate, refl, sym, ap, subst, ◌∙◌, arith, length-append, inl, inr, lit<}
 use Rattle.std.specs.Prelude.{All, Option, Some, None, IfSome, IfNone, codes, slice_index, slice_index_or}
 use Rattle.std.specs.Int.{w16, w64, to_be_bytes}
 use Rattle.std.specs.List.{concat, flat_map}
 use Rattle.std.specs.List.Sorted.{IsStrictlyIncreasing}
 use Rattle.std.proofs.lemmas.Bool.{cases_lt}
-use Rattle.std.proofs.lemmas.List.{take_at, drop_at, take-append-drop, length-drop, length-replicate, get_or-map, get_or_default, length-map, flat_map_more}
+use Rattle.std.proofs.lemmas.List.{take_at, drop_at, take-append-drop, drop-drop, append-nil, length-drop, length-replicate, get_or-map, get_or_default, length-map, flat_map_more}
 use Rattle.std.proofs.Math.Seq.{take-add}
 use Rattle.std.proofs.lemmas.List.Elements.{All-head, All-tail}
 use Rattle.sdbt_base.specs.Bytes.{IsBytes}
+use Rattle.sdbt_base.specs.Keys.{key_size, entry_size, most_entries}
+use Rattle.record_versions.specs.Versions.{IsVersion}
+use Rattle.record_versions.specs.Laws.{by_version, entries_within}
 use Rattle.record_fields.specs.Fields.{fields_from, fields_whole, fields_again, pieces_same, append_same, number_same_2, number_same_8}
 use Rattle.node_codec.specs.declared.body.Entry.{Entry}
 use Rattle.node_codec.specs.declared.head.Head.{Head}
-use Rattle.node_codec.specs.Record.{Record, DataRecord, NodeRecord, FitsRecord, ArePlain, head_fields, head_bytes, entry_fields, entry_bytes, entries_bytes, record_bytes}
+use Rattle.node_codec.specs.Record.{Record, DataRecord, NodeRecord, FitsNode, FitsRecord, AreSized, head_fields, head_bytes, entry_fields, entry_bytes, entries_bytes, kind_of_node, record_bytes}
 use Rattle.node_codec.specs.Parts.{part, bytes_of_head, IsFramed, SpellsHead, IsEntry, FitsEntries, HasParts, AscendBelow}
 
 -- ---- heads
@@ -52,30 +55,28 @@ length-head_bytes addr kind level count block = refl
 
 -- ---- entries
 
-abbrev entry_sizes : List ℕ
-entry_sizes = 8 ∷ 8 ∷ 32 ∷ []
-
-pub entry_spelled : (bytes : List ℕ) (entry : Entry) → length bytes ≡ 48 → part 0 8 bytes ≡ to_be_bytes w64 entry.low → part 8 8 bytes ≡ to_be_bytes w64 entry.addr → part 16 32 bytes ≡ entry.key → bytes ≡ entry_bytes entry
+pub entry_spelled : (bytes : List ℕ) (entry : Entry) → part 0 8 bytes ≡ to_be_bytes w64 entry.low → part 8 8 bytes ≡ to_be_bytes w64 entry.addr → drop 16 bytes ≡ entry.key → bytes ≡ entry_bytes entry
 unfolding entry_fields
-entry_spelled bytes entry len low addr key =
-    let fields : fields_from 0 entry_sizes bytes ≡ entry_fields entry = cc in
-    sym (fields_whole entry_sizes 0 bytes (sym len)) ∙ ap concat fields
+entry_spelled bytes entry low addr key =
+    let behind : drop 8 (drop 8 bytes) ≡ entry.key ++ [] = drop-drop 8 8 bytes ∙ key ∙ sym (append-nil entry.key) in
+    let rest : drop 8 bytes ≡ to_be_bytes w64 entry.addr ++ (entry.key ++ []) = sym (take-append-drop 8 (drop 8 bytes)) ∙ (λ i. addr i ++ behind i) in
+    sym (take-append-drop 8 bytes) ∙ (λ i. low i ++ rest i)
 
-pub length-entry_bytes : (entry : Entry) → length entry.key ≡ 32 → length (entry_bytes entry) ≡ 48
+pub length-entry_bytes : (version : ℕ) (entry : Entry) → length entry.key ≡ key_size version → length (entry_bytes entry) ≡ entry_size version
 unfolding entry_fields
-length-entry_bytes entry key = omega (arith, length-append entry.key [])
+length-entry_bytes version entry key = omega (arith, length-append entry.key [], key)
 
-pub length-entries : (entries : List Entry) → All IsEntry entries → length (flat_map entry_bytes entries) ≡ 48 * length entries
-length-entries [] are = refl
-length-entries (entry ∷ entries) are =
-    let first = All-head IsEntry entry entries are in
-    let one = length-entry_bytes entry first.key.0 in
-    let others = length-entries entries (All-tail IsEntry entry entries are) in
+pub length-entries : (version : ℕ) (entries : List Entry) → All (IsEntry version) entries → length (flat_map entry_bytes entries) ≡ entry_size version * length entries
+length-entries version [] are = omega arith
+length-entries version (entry ∷ entries) are =
+    let first = All-head (IsEntry version) entry entries are in
+    let one = length-entry_bytes version entry first.key.0 in
+    let others = length-entries version entries (All-tail (IsEntry version) entry entries are) in
     omega (arith, length-append (entry_bytes entry) (flat_map entry_bytes entries), one, others)
 
-entry_same : (a b : Entry) → IsEntry a → IsEntry b → entry_bytes a ≡ entry_bytes b → a ≡ b
+entry_same : (version : ℕ) (a b : Entry) → IsEntry version a → IsEntry version b → entry_bytes a ≡ entry_bytes b → a ≡ b
 unfolding entry_fields
-entry_same a b is-a is-b same =
+entry_same version a b is-a is-b same =
     let lengths : map length (entry_fields a) ≡ map length (entry_fields b) = ap (λ (n : ℕ). 8 ∷ 8 ∷ n ∷ []) (is-a.key.0 ∙ sym is-b.key.0) in
     let fields : entry_fields a ≡ entry_fields b = pieces_same (entry_fields a) (entry_fields b) lengths same in
     let low : a.low ≡ b.low = number_same_8 a.low b.low is-a.low is-b.low cc in
@@ -83,51 +84,64 @@ entry_same a b is-a is-b same =
     let key : a.key ≡ b.key = cc in
     λ i. record { low = low i; addr = addr i; key = key i }
 
-pub entries_same : (xs ys : List Entry) → All IsEntry xs → All IsEntry ys → length xs ≡ length ys → flat_map entry_bytes xs ≡ flat_map entry_bytes ys → xs ≡ ys
-entries_same [] [] are-x are-y lengths same = refl
-entries_same [] (y ∷ ys) are-x are-y lengths same = absurd (omega (arith, lengths))
-entries_same (x ∷ xs) [] are-x are-y lengths same = absurd (omega (arith, lengths))
-entries_same (x ∷ xs) (y ∷ ys) are-x are-y lengths same =
-    let is-x = All-head IsEntry x xs are-x in
-    let is-y = All-head IsEntry y ys are-y in
-    let parts = append_same (entry_bytes x) (flat_map entry_bytes xs) (entry_bytes y) (flat_map entry_bytes ys) (length-entry_bytes x is-x.key.0 ∙ sym (length-entry_bytes y is-y.key.0)) same in
-    let first : x ≡ y = entry_same x y is-x is-y parts.0 in
-    let others : xs ≡ ys = entries_same xs ys (All-tail IsEntry x xs are-x) (All-tail IsEntry y ys are-y) (omega (arith, lengths)) parts.1 in
+pub entries_same : (version : ℕ) (xs ys : List Entry) → All (IsEntry version) xs → All (IsEntry version) ys → length xs ≡ length ys → flat_map entry_bytes xs ≡ flat_map entry_bytes ys → xs ≡ ys
+entries_same version [] [] are-x are-y lengths same = refl
+entries_same version [] (y ∷ ys) are-x are-y lengths same = absurd (omega (arith, lengths))
+entries_same version (x ∷ xs) [] are-x are-y lengths same = absurd (omega (arith, lengths))
+entries_same version (x ∷ xs) (y ∷ ys) are-x are-y lengths same =
+    let is-x = All-head (IsEntry version) x xs are-x in
+    let is-y = All-head (IsEntry version) y ys are-y in
+    let sizes = length-entry_bytes version x is-x.key.0 ∙ sym (length-entry_bytes version y is-y.key.0) in
+    let parts = append_same (entry_bytes x) (flat_map entry_bytes xs) (entry_bytes y) (flat_map entry_bytes ys) sizes same in
+    let first : x ≡ y = entry_same version x y is-x is-y parts.0 in
+    let others : xs ≡ ys = entries_same version xs ys (All-tail (IsEntry version) x xs are-x) (All-tail (IsEntry version) y ys are-y) (omega (arith, lengths)) parts.1 in
     cc
 
-pub entries_more : (payload : List ℕ) (entries : List Entry) (entry : Entry) (i size : ℕ) → size ≡ 48 → take (48 * i) payload ≡ flat_map entry_bytes entries → take size (drop (48 * i) payload) ≡ entry_bytes entry → take (48 * (i + 1)) payload ≡ flat_map entry_bytes (entries ++ entry ∷ [])
-entries_more payload entries entry i size is-48 before here =
-    let more : 48 * (i + 1) ≡ 48 * i + size = omega (arith, is-48) in
-    ap (λ (n : ℕ). take n payload) more ∙ take-add (48 * i) size payload ∙ ap (λ (bytes : List ℕ). bytes ++ take size (drop (48 * i) payload)) before ∙ ap (λ (bytes : List ℕ). flat_map entry_bytes entries ++ bytes) here ∙ flat_map_more entry_bytes [] entries entry
+-- one entry more is read behind others
+pub entries_more : (payload : List ℕ) (entries : List Entry) (entry : Entry) (i size : ℕ) → take (size * i) payload ≡ flat_map entry_bytes entries → take size (drop (size * i) payload) ≡ entry_bytes entry → take (size * (i + 1)) payload ≡ flat_map entry_bytes (entries ++ entry ∷ [])
+entries_more payload entries entry i size before here =
+    let more : size * (i + 1) ≡ size * i + size = omega arith in
+    ap (λ (n : ℕ). take n payload) more ∙ take-add (size * i) size payload ∙ ap (λ (bytes : List ℕ). bytes ++ take size (drop (size * i) payload)) before ∙ ap (λ (bytes : List ℕ). flat_map entry_bytes entries ++ bytes) here ∙ flat_map_more entry_bytes [] entries entry
 
 -- the bytes of a payload are those of the entries that were read, where zeros follow
-pub entries_spelled : (payload : List ℕ) (entries : List Entry) (count : ℕ) → length payload ≡ 4096 → length entries ≡ count → take (48 * count) payload ≡ flat_map entry_bytes entries → drop (48 * count) payload ≡ replicate (length (drop (48 * count) payload)) 0 → payload ≡ entries_bytes entries
-entries_spelled payload entries count size len read zeros =
-    let left : length (drop (48 * count) payload) ≡ 4096 - 48 * length entries = omega (arith, length-drop (48 * count) payload, size, len) in
-    sym (take-append-drop (48 * count) payload) ∙ ap (λ (bytes : List ℕ). bytes ++ drop (48 * count) payload) read ∙ ap (λ (bytes : List ℕ). flat_map entry_bytes entries ++ bytes) (zeros ∙ ap (λ (n : ℕ). replicate n 0) left)
+pub entries_spelled : (version : ℕ) (payload : List ℕ) (entries : List Entry) (count : ℕ) → length payload ≡ 4096 → length entries ≡ count → take (entry_size version * count) payload ≡ flat_map entry_bytes entries → drop (entry_size version * count) payload ≡ replicate (length (drop (entry_size version * count) payload)) 0 → payload ≡ entries_bytes version entries
+entries_spelled version payload entries count size len read zeros =
+    let used : ℕ = entry_size version * count in
+    let same : used ≡ entry_size version * length entries = ap (λ (n : ℕ). entry_size version * n) (sym len) in
+    let left : length (drop used payload) ≡ 4096 - entry_size version * length entries = omega (arith, length-drop used payload, size, same) in
+    sym (take-append-drop used payload) ∙ ap (λ (bytes : List ℕ). bytes ++ drop used payload) read ∙ ap (λ (bytes : List ℕ). flat_map entry_bytes entries ++ bytes) (zeros ∙ ap (λ (n : ℕ). replicate n 0) left)
 
-entries_fit : (addr : ℕ) (entries : List Entry) → addr < 2 ^ 64 → FitsEntries addr entries → All IsEntry entries
-entries_fit addr entries addr-below fits = λ k d inside. record {
+entries_fit : (version addr : ℕ) (entries : List Entry) → addr < 2 ^ 64 → FitsEntries version addr entries → All (IsEntry version) entries
+entries_fit version addr entries addr-below fits = λ k d inside. record {
   low = omega (arith, fits.lows k d inside);
   addr = omega (arith, fits.below k d inside, addr-below);
   key = fits.keys k d inside;
 }
 
-pub entries_plain : (addr : ℕ) (entries : List Entry) → FitsEntries addr entries → ArePlain entries
-entries_plain addr entries fits = λ k d inside. (fits.keys k d inside).0
+pub entries_sized : (version addr : ℕ) (entries : List Entry) → FitsEntries version addr entries → AreSized version entries
+entries_sized version addr entries fits = λ k d inside. (fits.keys k d inside).0
+
+pub fits_read : (version addr : ℕ) (entries : List Entry) → All (IsEntry version) entries → IsStrictlyIncreasing (map (λ (e : Entry). e.low) entries) → All (λ e. e.low < 1048576) entries × All (λ e. e.addr < addr) entries × AreSized version entries → FitsEntries version addr entries
+fits_read version addr entries are ascend within = record { ascend = ascend; lows = within.0; below = within.1; keys = λ k d inside. (are k d inside).key }
 
 -- the entries that were read are those whose bytes the payload has, and zeros follow
-pub entries_known : (addr : ℕ) (payload : List ℕ) (read entries : List Entry) (count : ℕ) → addr < 2 ^ 64 → length read ≡ count → All IsEntry read → take (48 * count) payload ≡ flat_map entry_bytes read → length entries ≡ count → payload ≡ entries_bytes entries → FitsEntries addr entries → (read ≡ entries) × (drop (48 * count) payload ≡ replicate (length (drop (48 * count) payload)) 0)
-entries_known addr payload read entries count addr-below len-read are-read spelled len same fits =
-    let are = entries_fit addr entries addr-below fits in
-    let size : length (flat_map entry_bytes entries) ≡ 48 * count = omega (arith, length-entries entries are, len) in
-    let front : take (48 * count) payload ≡ flat_map entry_bytes entries = ap (take (48 * count)) same ∙ take_at (flat_map entry_bytes entries) (replicate (4096 - 48 * length entries) 0) (48 * count) size in
-    let back : drop (48 * count) payload ≡ replicate (4096 - 48 * length entries) 0 = ap (drop (48 * count)) same ∙ drop_at (flat_map entry_bytes entries) (replicate (4096 - 48 * length entries) 0) (48 * count) size in
-    let left : length (drop (48 * count) payload) ≡ 4096 - 48 * length entries = ap length back ∙ length-replicate (4096 - 48 * length entries) 0 in
-    (entries_same read entries are-read are (len-read ∙ sym len) (sym spelled ∙ front), back ∙ ap (λ (n : ℕ). replicate n 0) (sym left))
+pub entries_known : (version addr : ℕ) (payload : List ℕ) (read entries : List Entry) (count : ℕ) → addr < 2 ^ 64 → length read ≡ count → All (IsEntry version) read → take (entry_size version * count) payload ≡ flat_map entry_bytes read → length entries ≡ count → payload ≡ entries_bytes version entries → FitsEntries version addr entries → (read ≡ entries) × (drop (entry_size version * count) payload ≡ replicate (length (drop (entry_size version * count) payload)) 0)
+entries_known version addr payload read entries count addr-below len-read are-read spelled len same fits =
+    let used : ℕ = entry_size version * count in
+    let zeros : List ℕ = replicate (4096 - entry_size version * length entries) 0 in
+    let are = entries_fit version addr entries addr-below fits in
+    let size : length (flat_map entry_bytes entries) ≡ used = length-entries version entries are ∙ ap (λ (n : ℕ). entry_size version * n) len in
+    let front : take used payload ≡ flat_map entry_bytes entries = ap (take used) same ∙ take_at (flat_map entry_bytes entries) zeros used size in
+    let back : drop used payload ≡ zeros = ap (drop used) same ∙ drop_at (flat_map entry_bytes entries) zeros used size in
+    let left : length (drop used payload) ≡ 4096 - entry_size version * length entries = ap length back ∙ length-replicate (4096 - entry_size version * length entries) 0 in
+    (entries_same version read entries are-read are (len-read ∙ sym len) (sym spelled ∙ front), back ∙ ap (λ (n : ℕ). replicate n 0) (sym left))
 
 pub zeros_along : (rest bytes : List ℕ) → rest ≡ bytes → bytes ≡ replicate (length bytes) 0 → rest ≡ replicate (length rest) 0
 zeros_along rest bytes same zeros = same ∙ zeros ∙ ap (λ (b : List ℕ). replicate (length b) 0) (sym same)
+
+-- a node of each version has 64 entries at most
+pub most_at_most : (version count : ℕ) → IsVersion version → count ≤ most_entries version → count ≤ 64
+most_at_most version count is = by_version (λ (v : ℕ). count ≤ most_entries v → count ≤ 64) version is (λ h. omega (arith, h)) (λ h. omega (arith, h))
 
 -- ---- ascending lows
 
@@ -163,56 +177,56 @@ not_ascending entries a b i least inside at-a at-b not-below increasing =
 -- ---- whole records
 
 -- bytes are a record where head and payload are those of the value
-pub whole_of_parts : (addr : ℕ) (body : List ℕ) (value : Record) → HasParts addr (take 32 body) (drop 32 body) value → body ≡ record_bytes addr value
+pub whole_of_parts : (version addr : ℕ) (body : List ℕ) (value : Record) → HasParts version addr (take 32 body) (drop 32 body) value → body ≡ record_bytes version addr value
 unfolding record_bytes
-whole_of_parts addr body (DataRecord block content) parts =
+whole_of_parts version addr body (DataRecord block content) parts =
     sym (take-append-drop 32 body) ∙ ap (λ (bytes : List ℕ). bytes ++ drop 32 body) parts.0 ∙ ap (λ (bytes : List ℕ). head_bytes addr 1 0 0 block ++ bytes) parts.1
-whole_of_parts addr body (NodeRecord level entries) parts =
-    sym (take-append-drop 32 body) ∙ ap (λ (bytes : List ℕ). bytes ++ drop 32 body) parts.0 ∙ ap (λ (bytes : List ℕ). head_bytes addr 2 level (length entries) 0 ++ bytes) parts.1
+whole_of_parts version addr body (NodeRecord level entries) parts =
+    sym (take-append-drop 32 body) ∙ ap (λ (bytes : List ℕ). bytes ++ drop 32 body) parts.0 ∙ ap (λ (bytes : List ℕ). head_bytes addr (kind_of_node version) level (length entries) 0 ++ bytes) parts.1
 
-pub parts_of_whole : (addr : ℕ) (body : List ℕ) (value : Record) → body ≡ record_bytes addr value → HasParts addr (take 32 body) (drop 32 body) value
+pub parts_of_whole : (version addr : ℕ) (body : List ℕ) (value : Record) → body ≡ record_bytes version addr value → HasParts version addr (take 32 body) (drop 32 body) value
 unfolding record_bytes
-parts_of_whole addr body (DataRecord block content) same =
+parts_of_whole version addr body (DataRecord block content) same =
     let head = head_bytes addr 1 0 0 block in
     let size = length-head_bytes addr 1 0 0 block in
     (ap (take 32) same ∙ take_at head content 32 size, ap (drop 32) same ∙ drop_at head content 32 size)
-parts_of_whole addr body (NodeRecord level entries) same =
-    let head = head_bytes addr 2 level (length entries) 0 in
-    let size = length-head_bytes addr 2 level (length entries) 0 in
-    (ap (take 32) same ∙ take_at head (entries_bytes entries) 32 size, ap (drop 32) same ∙ drop_at head (entries_bytes entries) 32 size)
+parts_of_whole version addr body (NodeRecord level entries) same =
+    let head = head_bytes addr (kind_of_node version) level (length entries) 0 in
+    let size = length-head_bytes addr (kind_of_node version) level (length entries) 0 in
+    (ap (take 32) same ∙ take_at head (entries_bytes version entries) 32 size, ap (drop 32) same ∙ drop_at head (entries_bytes version entries) 32 size)
 
 -- bytes are a node's record exactly where their parts are those of one
-pub node_found : (found : Option ℕ) (items : List Entry) (addr : ℕ) (body front payload : List ℕ) → front ≡ take 32 body → payload ≡ drop 32 body → IfSome found (λ level. FitsRecord addr (NodeRecord level items) × HasParts addr front payload (NodeRecord level items)) → IfSome found (λ level. FitsRecord addr (NodeRecord level items) × (body ≡ record_bytes addr (NodeRecord level items)))
-node_found None items addr body front payload is-front is-payload h = tt
-node_found (Some level) items addr body front payload is-front is-payload h =
-    (h.0, whole_of_parts addr body (NodeRecord level items) (sym is-front ∙ h.1.0, sym is-payload ∙ h.1.1))
+pub node_found : (found : Option ℕ) (items : List Entry) (version addr : ℕ) (body front payload : List ℕ) → front ≡ take 32 body → payload ≡ drop 32 body → IfSome found (λ level. FitsRecord version addr (NodeRecord level items) × HasParts version addr front payload (NodeRecord level items)) → IfSome found (λ level. FitsRecord version addr (NodeRecord level items) × (body ≡ record_bytes version addr (NodeRecord level items)))
+node_found None items version addr body front payload is-front is-payload h = tt
+node_found (Some level) items version addr body front payload is-front is-payload h =
+    (h.0, whole_of_parts version addr body (NodeRecord level items) (sym is-front ∙ h.1.0, sym is-payload ∙ h.1.1))
 
-abbrev NodeAgain : Option ℕ → List Entry → ℕ → List ℕ → Type 0
-NodeAgain found read addr body = (level : ℕ) (items : List Entry) → FitsRecord addr (NodeRecord level items) → body ≡ record_bytes addr (NodeRecord level items) → (found ≡ Some level) × (read ≡ items)
+abbrev NodeAgain : Option ℕ → List Entry → ℕ → ℕ → List ℕ → Type 0
+NodeAgain found read version addr body = (level : ℕ) (items : List Entry) → FitsRecord version addr (NodeRecord level items) → body ≡ record_bytes version addr (NodeRecord level items) → (found ≡ Some level) × (read ≡ items)
 
-pub node_again : (found : Option ℕ) (read : List Entry) (addr : ℕ) (body front payload : List ℕ) → front ≡ take 32 body → payload ≡ drop 32 body → ((level : ℕ) (items : List Entry) → FitsRecord addr (NodeRecord level items) → HasParts addr front payload (NodeRecord level items) → (found ≡ Some level) × (read ≡ items)) → NodeAgain found read addr body
-node_again found read addr body front payload is-front is-payload again level items fits same =
-    let parts = parts_of_whole addr body (NodeRecord level items) same in
+pub node_again : (found : Option ℕ) (read : List Entry) (version addr : ℕ) (body front payload : List ℕ) → front ≡ take 32 body → payload ≡ drop 32 body → ((level : ℕ) (items : List Entry) → FitsRecord version addr (NodeRecord level items) → HasParts version addr front payload (NodeRecord level items) → (found ≡ Some level) × (read ≡ items)) → NodeAgain found read version addr body
+node_again found read version addr body front payload is-front is-payload again level items fits same =
+    let parts = parts_of_whole version addr body (NodeRecord level items) same in
     again level items fits (is-front ∙ parts.0, is-payload ∙ parts.1)
 
-pub no_node_of_again : (found : Option ℕ) (read : List Entry) (addr : ℕ) (body : List ℕ) → NodeAgain found read addr body → IfNone found ((level : ℕ) (items : List Entry) → FitsRecord addr (NodeRecord level items) → body ≡ record_bytes addr (NodeRecord level items) → ⊥)
-no_node_of_again None read addr body again = λ level items fits same. let other = (again level items fits same).0 in absurd cc
-no_node_of_again (Some found) read addr body again = tt
+pub no_node_of_again : (found : Option ℕ) (read : List Entry) (version addr : ℕ) (body : List ℕ) → NodeAgain found read version addr body → IfNone found ((level : ℕ) (items : List Entry) → FitsRecord version addr (NodeRecord level items) → body ≡ record_bytes version addr (NodeRecord level items) → ⊥)
+no_node_of_again None read version addr body again = λ level items fits same. let other = (again level items fits same).0 in absurd cc
+no_node_of_again (Some found) read version addr body again = tt
 
--- bytes are a data record exactly where their head is that of one
-pub block_found : (found : Option ℕ) (addr : ℕ) (body front : List ℕ) → front ≡ take 32 body → IsBytes 4096 (drop 32 body) → IfSome found (λ block. (block < 1048576) × (front ≡ head_bytes addr 1 0 0 block)) → IfSome found (λ block. FitsRecord addr (DataRecord block (drop 32 body)) × (body ≡ record_bytes addr (DataRecord block (drop 32 body))))
-block_found None addr body front is-front bytes h = tt
-block_found (Some block) addr body front is-front bytes h = ((h.0, bytes), whole_of_parts addr body (DataRecord block (drop 32 body)) (sym is-front ∙ h.1, refl))
+-- bytes are a data record exactly where their head is that of one, in each version
+pub block_found : (found : Option ℕ) (version addr : ℕ) (body front : List ℕ) → front ≡ take 32 body → IsBytes 4096 (drop 32 body) → IfSome found (λ block. (block < 1048576) × (front ≡ head_bytes addr 1 0 0 block)) → IfSome found (λ block. FitsRecord version addr (DataRecord block (drop 32 body)) × (body ≡ record_bytes version addr (DataRecord block (drop 32 body))))
+block_found None version addr body front is-front bytes h = tt
+block_found (Some block) version addr body front is-front bytes h = ((h.0, bytes), whole_of_parts version addr body (DataRecord block (drop 32 body)) (sym is-front ∙ h.1, refl))
 
-abbrev BlockAgain : Option ℕ → ℕ → List ℕ → Type 0
-BlockAgain found addr body = (block : ℕ) (content : List ℕ) → FitsRecord addr (DataRecord block content) → body ≡ record_bytes addr (DataRecord block content) → found ≡ Some block
+abbrev BlockAgain : Option ℕ → ℕ → ℕ → List ℕ → Type 0
+BlockAgain found version addr body = (block : ℕ) (content : List ℕ) → FitsRecord version addr (DataRecord block content) → body ≡ record_bytes version addr (DataRecord block content) → found ≡ Some block
 
-pub block_again : (found : Option ℕ) (addr : ℕ) (body front : List ℕ) → front ≡ take 32 body → ((block : ℕ) → block < 1048576 → front ≡ head_bytes addr 1 0 0 block → found ≡ Some block) → BlockAgain found addr body
-block_again found addr body front is-front again block content fits same = again block fits.0 (is-front ∙ (parts_of_whole addr body (DataRecord block content) same).0)
+pub block_again : (found : Option ℕ) (version addr : ℕ) (body front : List ℕ) → front ≡ take 32 body → ((block : ℕ) → block < 1048576 → front ≡ head_bytes addr 1 0 0 block → found ≡ Some block) → BlockAgain found version addr body
+block_again found version addr body front is-front again block content fits same = again block fits.0 (is-front ∙ (parts_of_whole version addr body (DataRecord block content) same).0)
 
-pub no_block_of_again : (found : Option ℕ) (addr : ℕ) (body : List ℕ) → BlockAgain found addr body → IfNone found ((block : ℕ) (content : List ℕ) → FitsRecord addr (DataRecord block content) → body ≡ record_bytes addr (DataRecord block content) → ⊥)
-no_block_of_again None addr body again = λ block content fits same. let other = again block content fits same in absurd cc
-no_block_of_again (Some found) addr body again = tt
+pub no_block_of_again : (found : Option ℕ) (version addr : ℕ) (body : List ℕ) → BlockAgain found version addr body → IfNone found ((block : ℕ) (content : List ℕ) → FitsRecord version addr (DataRecord block content) → body ≡ record_bytes version addr (DataRecord block content) → ⊥)
+no_block_of_again None version addr body again = λ block content fits same. let other = again block content fits same in absurd cc
+no_block_of_again (Some found) version addr body again = tt
 
 -- the numbers of two heads with the same bytes are the same
 record SameHeads (addr kind level count block addr' kind' level' count' block' : ℕ) : Type 0 where
@@ -235,96 +249,146 @@ heads_same addr kind level count block addr' kind' level' count' block' below-ad
     }
 
 -- the head of a value, at an address
-abbrev front_of : ℕ → Record → List ℕ
-front_of addr (DataRecord block content) = head_bytes addr 1 0 0 block
-front_of addr (NodeRecord level entries) = head_bytes addr 2 level (length entries) 0
+abbrev front_of : ℕ → ℕ → Record → List ℕ
+front_of version addr (DataRecord block content) = head_bytes addr 1 0 0 block
+front_of version addr (NodeRecord level entries) = head_bytes addr (kind_of_node version) level (length entries) 0
 
 -- the bytes behind the head of a value
-abbrev payload_of : Record → List ℕ
-payload_of (DataRecord block content) = content
-payload_of (NodeRecord level entries) = entries_bytes entries
+abbrev payload_of : ℕ → Record → List ℕ
+payload_of version (DataRecord block content) = content
+payload_of version (NodeRecord level entries) = entries_bytes version entries
 
-record_is : (addr : ℕ) (value : Record) → record_bytes addr value ≡ front_of addr value ++ payload_of value
+record_is : (version addr : ℕ) (value : Record) → record_bytes version addr value ≡ front_of version addr value ++ payload_of version value
 unfolding record_bytes
-record_is addr (DataRecord block content) = refl
-record_is addr (NodeRecord level entries) = refl
+record_is version addr (DataRecord block content) = refl
+record_is version addr (NodeRecord level entries) = refl
 
-length-front : (addr : ℕ) (value : Record) → length (front_of addr value) ≡ 32
-length-front addr (DataRecord block content) = length-head_bytes addr 1 0 0 block
-length-front addr (NodeRecord level entries) = length-head_bytes addr 2 level (length entries) 0
+length-front : (version addr : ℕ) (value : Record) → length (front_of version addr value) ≡ 32
+length-front version addr (DataRecord block content) = length-head_bytes addr 1 0 0 block
+length-front version addr (NodeRecord level entries) = length-head_bytes addr (kind_of_node version) level (length entries) 0
 
-values_same : (addr other : ℕ) (a b : Record) → addr < 2 ^ 64 → other < 2 ^ 64 → FitsRecord addr a → FitsRecord other b → front_of addr a ≡ front_of other b → payload_of a ≡ payload_of b → (addr ≡ other) × (a ≡ b)
-values_same addr other (DataRecord block content) (DataRecord block' content') below below' fits fits' fronts payloads =
+-- ---- two records with the same bytes
+
+-- two values are one, and of one version where they are nodes
+abbrev pub AreOne : ℕ → ℕ → Record → Record → Type 0
+AreOne version later (DataRecord block content) b = DataRecord block content ≡ b
+AreOne version later (NodeRecord level entries) b = (version ≡ later) × (NodeRecord level entries ≡ b)
+
+entries_of : (version addr level : ℕ) (entries : List Entry) → addr < 2 ^ 64 → FitsRecord version addr (NodeRecord level entries) → All (IsEntry version) entries
+entries_of version addr level entries below fits = entries_fit version addr entries below (record { ascend = fits.0.ascend; lows = fits.0.lows; below = fits.0.below; keys = fits.1 })
+
+count_below : (version addr level : ℕ) (entries : List Entry) → FitsNode version addr level entries → length entries < 2 ^ 16
+count_below version addr level entries fits = omega (arith, most_at_most version (length entries) fits.version_known fits.count)
+
+-- nodes of one version with the same heads and payloads
+nodes_same : (version addr other level level' : ℕ) (entries entries' : List Entry) → addr < 2 ^ 64 → other < 2 ^ 64 → FitsRecord version addr (NodeRecord level entries) → FitsRecord version other (NodeRecord level' entries') → level ≡ level' → length entries ≡ length entries' → entries_bytes version entries ≡ entries_bytes version entries' → NodeRecord level entries ≡ NodeRecord level' entries'
+nodes_same version addr other level level' entries entries' below below' fits fits' same-level same-count payloads =
+    let are = entries_of version addr level entries below fits in
+    let are' = entries_of version other level' entries' below' fits' in
+    let sizes : length (flat_map entry_bytes entries) ≡ length (flat_map entry_bytes entries') = length-entries version entries are ∙ ap (λ (n : ℕ). entry_size version * n) same-count ∙ sym (length-entries version entries' are') in
+    let parts = append_same (flat_map entry_bytes entries) (replicate (4096 - entry_size version * length entries) 0) (flat_map entry_bytes entries') (replicate (4096 - entry_size version * length entries') 0) sizes payloads in
+    let same-entries : entries ≡ entries' = entries_same version entries entries' are are' same-count parts.0 in
+    cc
+
+values_same : (version later addr other : ℕ) (a b : Record) → addr < 2 ^ 64 → other < 2 ^ 64 → FitsRecord version addr a → FitsRecord later other b → front_of version addr a ≡ front_of later other b → payload_of version a ≡ payload_of later b → (addr ≡ other) × AreOne version later a b
+values_same version later addr other (DataRecord block content) (DataRecord block' content') below below' fits fits' fronts payloads =
     let heads = heads_same addr 1 0 0 block other 1 0 0 block' below below' (lit< tt) (lit< tt) (omega (arith, fits.0)) (omega (arith, fits'.0)) fronts in
     let same-block : block ≡ block' = heads.same_block in
     (heads.same_addr, cc)
-values_same addr other (DataRecord block content) (NodeRecord level entries) below below' fits fits' fronts payloads =
-    let heads = heads_same addr 1 0 0 block other 2 level (length entries) 0 below below' (lit< tt) (omega (arith, fits'.0.count)) (omega (arith, fits.0)) (lit< tt) fronts in
-    absurd (omega (arith, heads.same_kind))
-values_same addr other (NodeRecord level entries) (DataRecord block content) below below' fits fits' fronts payloads =
-    let heads = heads_same addr 2 level (length entries) 0 other 1 0 0 block below below' (omega (arith, fits.0.count)) (lit< tt) (lit< tt) (omega (arith, fits'.0)) fronts in
-    absurd (omega (arith, heads.same_kind))
-values_same addr other (NodeRecord level entries) (NodeRecord level' entries') below below' fits fits' fronts payloads =
-    let heads = heads_same addr 2 level (length entries) 0 other 2 level' (length entries') 0 below below' (omega (arith, fits.0.count)) (omega (arith, fits'.0.count)) (lit< tt) (lit< tt) fronts in
-    let same-level : level ≡ level' = heads.same_level in
-    let are = entries_fit addr entries below (record { ascend = fits.0.ascend; lows = fits.0.lows; below = fits.0.below; keys = fits.1 }) in
-    let are' = entries_fit other entries' below' (record { ascend = fits'.0.ascend; lows = fits'.0.lows; below = fits'.0.below; keys = fits'.1 }) in
-    let parts = append_same (flat_map entry_bytes entries) (replicate (4096 - 48 * length entries) 0) (flat_map entry_bytes entries') (replicate (4096 - 48 * length entries') 0) (omega (arith, length-entries entries are, length-entries entries' are', heads.same_count)) payloads in
-    let same-entries : entries ≡ entries' = entries_same entries entries' are are' heads.same_count parts.0 in
-    (heads.same_addr, cc)
+values_same version later addr other (DataRecord block content) (NodeRecord level entries) below below' fits fits' fronts payloads =
+    let heads = heads_same addr 1 0 0 block other (kind_of_node later) level (length entries) 0 below below' (lit< tt) (count_below later other level entries fits'.0) (omega (arith, fits.0)) (lit< tt) fronts in
+    absurd (omega (arith, heads.same_kind, fits'.0.version_known))
+values_same version later addr other (NodeRecord level entries) (DataRecord block content) below below' fits fits' fronts payloads =
+    let heads = heads_same addr (kind_of_node version) level (length entries) 0 other 1 0 0 block below below' (count_below version addr level entries fits.0) (lit< tt) (lit< tt) (omega (arith, fits'.0)) fronts in
+    absurd (omega (arith, heads.same_kind, fits.0.version_known))
+values_same version later addr other (NodeRecord level entries) (NodeRecord level' entries') below below' fits fits' fronts payloads =
+    let heads = heads_same addr (kind_of_node version) level (length entries) 0 other (kind_of_node later) level' (length entries') 0 below below' (count_below version addr level entries fits.0) (count_below later other level' entries' fits'.0) (lit< tt) (lit< tt) fronts in
+    let same-version : version ≡ later = omega (arith, heads.same_kind) in
+    let fits-too : FitsRecord version other (NodeRecord level' entries') = subst (λ v. FitsRecord v other (NodeRecord level' entries')) (sym same-version) fits' in
+    let payloads-too : entries_bytes version entries ≡ entries_bytes version entries' = payloads ∙ ap (λ (v : ℕ). entries_bytes v entries') (sym same-version) in
+    (heads.same_addr, (same-version, nodes_same version addr other level level' entries entries' below below' fits fits-too heads.same_level heads.same_count payloads-too))
 
--- the bytes of a record decide its address and its value
-pub one_record : (addr other : ℕ) (a b : Record) → addr < 2 ^ 64 → other < 2 ^ 64 → FitsRecord addr a → FitsRecord other b → record_bytes addr a ≡ record_bytes other b → (addr ≡ other) × (a ≡ b)
-one_record addr other a b below below' fits fits' same =
-    let parts = append_same (front_of addr a) (payload_of a) (front_of other b) (payload_of b) (length-front addr a ∙ sym (length-front other b)) (sym (record_is addr a) ∙ same ∙ record_is other b) in
-    values_same addr other a b below below' fits fits' parts.0 parts.1
+-- the bytes of a record decide its address and its value, and of a node the version
+pub one_spelled : (version later addr other : ℕ) (a b : Record) → addr < 2 ^ 64 → other < 2 ^ 64 → FitsRecord version addr a → FitsRecord later other b → record_bytes version addr a ≡ record_bytes later other b → (addr ≡ other) × AreOne version later a b
+one_spelled version later addr other a b below below' fits fits' same =
+    let parts = append_same (front_of version addr a) (payload_of version a) (front_of later other b) (payload_of later b) (length-front version addr a ∙ sym (length-front later other b)) (sym (record_is version addr a) ∙ same ∙ record_is later other b) in
+    values_same version later addr other a b below below' fits fits' parts.0 parts.1
+
+value_is : (version later : ℕ) (a b : Record) → AreOne version later a b → a ≡ b
+value_is version later (DataRecord block content) b are = are
+value_is version later (NodeRecord level entries) b are = are.1
+
+-- the same of two records of one version
+pub one_record : (version addr other : ℕ) (a b : Record) → addr < 2 ^ 64 → other < 2 ^ 64 → FitsRecord version addr a → FitsRecord version other b → record_bytes version addr a ≡ record_bytes version other b → (addr ≡ other) × (a ≡ b)
+one_record version addr other a b below below' fits fits' same =
+    let one = one_spelled version version addr other a b below below' fits fits' same in
+    (one.0, value_is version version a b one.1)
 
 -- ---- what a record's bytes begin with and end with
 
 -- a record begins with the stamp and its own address
-pub record_stamp : (addr : ℕ) (value : Record) → take 16 (record_bytes addr value) ≡ codes "SDBTREC1" ++ to_be_bytes w64 addr
+pub record_stamp : (version addr : ℕ) (value : Record) → take 16 (record_bytes version addr value) ≡ codes "SDBTREC1" ++ to_be_bytes w64 addr
 unfolding record_bytes head_fields
-record_stamp addr (DataRecord block content) = refl
-record_stamp addr (NodeRecord level entries) = refl
+record_stamp version addr (DataRecord block content) = refl
+record_stamp version addr (NodeRecord level entries) = refl
 
 -- the kind byte
-pub data_kind : (addr block : ℕ) (content : List ℕ) → slice_index (record_bytes addr (DataRecord block content)) 16 ≡ 1
+pub data_kind : (version addr block : ℕ) (content : List ℕ) → slice_index (record_bytes version addr (DataRecord block content)) 16 ≡ 1
 unfolding record_bytes head_fields
-data_kind addr block content = refl
+data_kind version addr block content = refl
 
-pub node_kind : (addr level : ℕ) (entries : List Entry) → slice_index (record_bytes addr (NodeRecord level entries)) 16 ≡ 2
+pub node_kind : (version addr level : ℕ) (entries : List Entry) → slice_index (record_bytes version addr (NodeRecord level entries)) 16 ≡ kind_of_node version
 unfolding record_bytes head_fields
-node_kind addr level entries = refl
+node_kind version addr level entries = refl
 
 -- the count of a node
-pub node_count : (addr level : ℕ) (entries : List Entry) → part 18 2 (record_bytes addr (NodeRecord level entries)) ≡ to_be_bytes w16 (length entries)
+pub node_count : (version addr level : ℕ) (entries : List Entry) → part 18 2 (record_bytes version addr (NodeRecord level entries)) ≡ to_be_bytes w16 (length entries)
 unfolding record_bytes head_fields
-node_count addr level entries = refl
+node_count version addr level entries = refl
+
+-- the version of a node is read off its kind byte
+pub kind_says : (version addr level : ℕ) (entries : List Entry) (body : List ℕ) → body ≡ record_bytes version addr (NodeRecord level entries) → slice_index body 16 ≡ kind_of_node version
+kind_says version addr level entries body same = ap (λ (b : List ℕ). slice_index b 16) same ∙ node_kind version addr level entries
 
 -- the bytes behind the head
-pub data_payload : (addr block : ℕ) (content : List ℕ) → drop 32 (record_bytes addr (DataRecord block content)) ≡ content
+pub data_payload : (version addr block : ℕ) (content : List ℕ) → drop 32 (record_bytes version addr (DataRecord block content)) ≡ content
 unfolding record_bytes
-data_payload addr block content = drop_at (head_bytes addr 1 0 0 block) content 32 (length-head_bytes addr 1 0 0 block)
+data_payload version addr block content = drop_at (head_bytes addr 1 0 0 block) content 32 (length-head_bytes addr 1 0 0 block)
 
-pub node_payload : (addr level : ℕ) (entries : List Entry) → drop 32 (record_bytes addr (NodeRecord level entries)) ≡ entries_bytes entries
+pub node_payload : (version addr level : ℕ) (entries : List Entry) → drop 32 (record_bytes version addr (NodeRecord level entries)) ≡ entries_bytes version entries
 unfolding record_bytes
-node_payload addr level entries = drop_at (head_bytes addr 2 level (length entries) 0) (entries_bytes entries) 32 (length-head_bytes addr 2 level (length entries) 0)
+node_payload version addr level entries = drop_at (head_bytes addr (kind_of_node version) level (length entries) 0) (entries_bytes version entries) 32 (length-head_bytes addr (kind_of_node version) level (length entries) 0)
 
 -- a record has 4,128 bytes
-pub record_length : (addr : ℕ) (value : Record) → addr < 2 ^ 64 → FitsRecord addr value → length (record_bytes addr value) ≡ 4128
+pub record_length : (version addr : ℕ) (value : Record) → addr < 2 ^ 64 → FitsRecord version addr value → length (record_bytes version addr value) ≡ 4128
 unfolding record_bytes
-record_length addr (DataRecord block content) below fits =
+record_length version addr (DataRecord block content) below fits =
     omega (arith, length-append (head_bytes addr 1 0 0 block) content, length-head_bytes addr 1 0 0 block, fits.1.0)
-record_length addr (NodeRecord level entries) below fits =
-    let are = entries_fit addr entries below (record { ascend = fits.0.ascend; lows = fits.0.lows; below = fits.0.below; keys = fits.1 }) in
-    let zeros : List ℕ = replicate (4096 - 48 * length entries) 0 in
-    omega (arith, length-append (head_bytes addr 2 level (length entries) 0) (entries_bytes entries), length-head_bytes addr 2 level (length entries) 0, length-append (flat_map entry_bytes entries) zeros, length-entries entries are, length-replicate {A = ℕ} (4096 - 48 * length entries) 0, fits.0.count)
+record_length version addr (NodeRecord level entries) below fits =
+    let are = entries_of version addr level entries below fits in
+    let left : ℕ = 4096 - entry_size version * length entries in
+    let zeros : List ℕ = replicate left 0 in
+    let room = entries_within version (length entries) fits.0.version_known fits.0.count in
+    omega (arith, length-append (head_bytes addr (kind_of_node version) level (length entries) 0) (entries_bytes version entries), length-head_bytes addr (kind_of_node version) level (length entries) 0, length-append (flat_map entry_bytes entries) zeros, length-entries version entries are, length-replicate {A = ℕ} left 0, room)
 
 -- bytes that are neither a data record nor a node's are no record
-pub no_record : (addr : ℕ) (body : List ℕ) → ((block : ℕ) (content : List ℕ) → FitsRecord addr (DataRecord block content) → body ≡ record_bytes addr (DataRecord block content) → ⊥) → ((level : ℕ) (items : List Entry) → FitsRecord addr (NodeRecord level items) → body ≡ record_bytes addr (NodeRecord level items) → ⊥) → (value : Record) → FitsRecord addr value → body ≡ record_bytes addr value → ⊥
-no_record addr body no-block no-node (DataRecord block content) fits same = no-block block content fits same
-no_record addr body no-block no-node (NodeRecord level items) fits same = no-node level items fits same
+pub no_record : (version addr : ℕ) (body : List ℕ) → ((block : ℕ) (content : List ℕ) → FitsRecord version addr (DataRecord block content) → body ≡ record_bytes version addr (DataRecord block content) → ⊥) → ((level : ℕ) (items : List Entry) → FitsRecord version addr (NodeRecord level items) → body ≡ record_bytes version addr (NodeRecord level items) → ⊥) → (value : Record) → FitsRecord version addr value → body ≡ record_bytes version addr value → ⊥
+no_record version addr body no-block no-node (DataRecord block content) fits same = no-block block content fits same
+no_record version addr body no-block no-node (NodeRecord level items) fits same = no-node level items fits same
+
+-- the same, of what was found
+pub no_record_of : {A : Type 0} (addr : ℕ) (body : List ℕ) (found : Option A) → ((version block : ℕ) (content : List ℕ) → FitsRecord version addr (DataRecord block content) → body ≡ record_bytes version addr (DataRecord block content) → ⊥) → IfNone found ((version level : ℕ) (items : List Entry) → IsVersion version → FitsRecord version addr (NodeRecord level items) → body ≡ record_bytes version addr (NodeRecord level items) → ⊥) → IfNone found ((version : ℕ) (value : Record) → IsVersion version → FitsRecord version addr value → body ≡ record_bytes version addr value → ⊥)
+no_record_of addr body (Some found) no-block no-node = tt
+no_record_of addr body None no-block no-node = λ version value is fits same. no_record version addr body (no-block version) (λ level items. no-node version level items is) value fits same
+
+-- what holds of the node that bytes are holds of the record that they are, where they are no data record
+pub again_by_node : (addr : ℕ) (body : List ℕ) (P : ℕ → Record → Type 0) → ((version block : ℕ) (content : List ℕ) → FitsRecord version addr (DataRecord block content) → body ≡ record_bytes version addr (DataRecord block content) → ⊥) → ((version level : ℕ) (items : List Entry) → IsVersion version → FitsRecord version addr (NodeRecord level items) → body ≡ record_bytes version addr (NodeRecord level items) → P version (NodeRecord level items)) → (version : ℕ) (value : Record) → IsVersion version → FitsRecord version addr value → body ≡ record_bytes version addr value → P version value
+again_by_node addr body P no-block by-node version (DataRecord block content) is fits same = absurd (no-block version block content fits same)
+again_by_node addr body P no-block by-node version (NodeRecord level items) is fits same = by-node version level items is fits same
+
+pub node_one : (read level : ℕ) (found items : List Entry) → Some read ≡ Some level → found ≡ items → NodeRecord read found ≡ NodeRecord level items
+node_one read level found items level-same items-same = cc
 
 -- what bytes are the record of is decided
-pub only_record : (addr : ℕ) (body : List ℕ) (found value : Record) → addr < 2 ^ 64 → FitsRecord addr found → body ≡ record_bytes addr found → FitsRecord addr value → body ≡ record_bytes addr value → found ≡ value
-only_record addr body found value below fits same fits' same' = (one_record addr addr found value below below fits fits' (sym same ∙ same')).1
+pub only_record : (version addr : ℕ) (body : List ℕ) (found value : Record) → addr < 2 ^ 64 → FitsRecord version addr found → body ≡ record_bytes version addr found → FitsRecord version addr value → body ≡ record_bytes version addr value → found ≡ value
+only_record version addr body found value below fits same fits' same' = (one_record version addr addr found value below below fits fits' (sym same ∙ same')).1

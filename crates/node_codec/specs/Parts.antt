@@ -2,10 +2,10 @@
 use Rattle.std.specs.Prelude.{◌≡◌, ℕ, ◌+◌, ◌^◌, ◌<◌, ◌≤◌, List, [], ◌∷◌, All, length, map, take, drop, replicate, codes, slice_index}
 use Rattle.std.specs.List.Sorted.{IsStrictlyIncreasing}
 use Rattle.std.specs.Int.{w16, w64, to_be_bytes}
-use Rattle.sdbt_base.specs.Bytes.{IsBytes}
+use Rattle.sdbt_base.specs.Keys.{most_entries, IsKeyOf}
 use Rattle.node_codec.specs.declared.body.Entry.{Entry}
 use Rattle.node_codec.specs.declared.head.Head.{Head}
-use Rattle.node_codec.specs.Record.{Record, DataRecord, NodeRecord, head_bytes, entries_bytes}
+use Rattle.node_codec.specs.Record.{Record, DataRecord, NodeRecord, head_bytes, entries_bytes, kind_of_node}
 
 -- so many bytes, from a place on
 abbrev pub part : ℕ → ℕ → List ℕ → List ℕ
@@ -32,10 +32,10 @@ pub record SpellsHead (bytes : List ℕ) (head : Head) : Type 0 where
   pub block_below : head.block < 2 ^ 64
 
 -- what a machine can hold of an entry
-pub record IsEntry (entry : Entry) : Type 0 where
+pub record IsEntry (version : ℕ) (entry : Entry) : Type 0 where
   pub low : entry.low < 2 ^ 64
   pub addr : entry.addr < 2 ^ 64
-  pub key : IsBytes 32 entry.key
+  pub key : IsKeyOf version entry.key
 
 -- the head is that of a data record at an address
 pub record IsDataHead (own : ℕ) (head : Head) : Type 0 where
@@ -45,26 +45,26 @@ pub record IsDataHead (own : ℕ) (head : Head) : Type 0 where
   pub count : head.count ≡ 0
   pub block : head.block < 1048576
 
--- the head is that of a node at an address
-pub record IsNodeHead (own : ℕ) (head : Head) : Type 0 where
+-- the head is that of a node of a version at an address
+pub record IsNodeHead (version own : ℕ) (head : Head) : Type 0 where
   pub addr : head.addr ≡ own
-  pub kind : head.kind ≡ 2
+  pub kind : head.kind ≡ kind_of_node version
   pub level_least : 1 ≤ head.level
   pub level_most : head.level ≤ 20
-  pub count : head.count ≤ 64
+  pub count : head.count ≤ most_entries version
   pub block : head.block ≡ 0
 
--- the entries are those of a node at an address
-pub record FitsEntries (addr : ℕ) (entries : List Entry) : Type 0 where
+-- the entries are those of a node of a version at an address
+pub record FitsEntries (version addr : ℕ) (entries : List Entry) : Type 0 where
   pub ascend : IsStrictlyIncreasing (map (λ e. e.low) entries)
   pub lows : All (λ e. e.low < 1048576) entries
   pub below : All (λ e. e.addr < addr) entries
-  pub keys : All (λ e. IsBytes 32 e.key) entries
+  pub keys : All (λ e. IsKeyOf version e.key) entries
 
 -- the head and the payload are those of a value at an address
-abbrev pub HasParts : ℕ → List ℕ → List ℕ → Record → Type 0
-HasParts addr front payload (DataRecord block content) = (front ≡ head_bytes addr 1 0 0 block) × (payload ≡ content)
-HasParts addr front payload (NodeRecord level entries) = (front ≡ head_bytes addr 2 level (length entries) 0) × (payload ≡ entries_bytes entries)
+abbrev pub HasParts : ℕ → ℕ → List ℕ → List ℕ → Record → Type 0
+HasParts version addr front payload (DataRecord block content) = (front ≡ head_bytes addr 1 0 0 block) × (payload ≡ content)
+HasParts version addr front payload (NodeRecord level entries) = (front ≡ head_bytes addr (kind_of_node version) level (length entries) 0) × (payload ≡ entries_bytes version entries)
 
 -- the lows of the first entries ascend strictly
 abbrev pub AscendBelow : List Entry → ℕ → Type 0

@@ -17,6 +17,8 @@ pub struct Entry {
 pub struct NodeBody {
     /// 1 for a leaf, up to 20.
     pub level: u8,
+    /// 2 where the keys of the children have the digests of their pages, else 1.
+    pub version: u8,
     /// The entries: their lows ascend strictly.
     pub entries: ArrayVec<Entry, 64>,
 }

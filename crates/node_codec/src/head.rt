@@ -1,9 +1,11 @@
 ghost use Rattle.std.specs.Prelude.{◌≡◌, ℕ, ◌^◌, ◌<◌, ◌↔◌, [], ◌∷◌, IsTrue, IfSome, Some, length};
-ghost use Rattle.node_codec.specs.Record.{head_bytes};
+ghost use Rattle.record_versions.specs.Versions.{IsVersion};
+ghost use Rattle.node_codec.specs.Record.{head_bytes, kind_of_node};
 ghost use Rattle.node_codec.specs.Parts.{bytes_of_head, IsFramed, SpellsHead, IsDataHead, IsNodeHead};
 
 use record_fields::{are_zero, u16_of, u64_of};
-use sdbt_base::{MAX_BLOCKS, MAX_LEVEL, MAX_ORDER};
+use record_versions::most_entries;
+use sdbt_base::{MAX_BLOCKS, MAX_LEVEL};
 
 /// The size of a head.
 pub(crate) const HEAD: usize = 32;
@@ -14,8 +16,13 @@ const STAMP: [u8; 8] = *b"SDBTREC1";
 /// The kind of a data record.
 pub(crate) const DATA: u8 = 1;
 
-/// The kind of a node.
-pub(crate) const NODE: u8 = 2;
+/// The kind of a node: 2 in version 1, and 3 in version 2.
+pub(crate) fn kind_of_node(version: u8) -> u8
+    requires { IsVersion version }
+    ensures { result ≡ kind_of_node version }
+{
+    version + 1
+}
 
 /// The head of a record, but for its stamp and its zeros.
 #[derive(Clone, Copy)]
@@ -39,14 +46,17 @@ impl Head {
             && self.block < MAX_BLOCKS
     }
 
-    /// Whether this is the head of a node at `addr`.
-    pub(crate) fn is_node(&self, addr: u64) -> bool
-        ensures { IsTrue result ↔ IsNodeHead addr self.now }
+    /// Whether this is the head of a node of the version at `addr`.
+    pub(crate) fn is_node(&self, addr: u64, version: u8) -> bool
+        requires { IsVersion version }
+        ensures { IsTrue result ↔ IsNodeHead version addr self.now }
     {
+        let kind = kind_of_node(version);
+        let most = most_entries(version);
         self.addr == addr
-            && self.kind == NODE
+            && self.kind == kind
             && (1..=MAX_LEVEL).contains(&self.level)
-            && self.count <= MAX_ORDER
+            && self.count <= most
             && self.block == 0
     }
 }

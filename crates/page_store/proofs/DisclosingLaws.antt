@@ -8,6 +8,7 @@ use Rattle.platform.specs.Image.{Image, MayLeave, LeavesOnly}
 use Rattle.platform.specs.History.{History, Extends, During, image_at, moment}
 use Rattle.platform.proofs.Moments.{image_at-now, earlier-now, Extends-earlier, Extends-since}
 use Rattle.root_codec.specs.declared.root.Root.{Root}
+use Rattle.sdbt_base.specs.Keys.{bare}
 use Rattle.key_graph.specs.Chains.{Reached, KeyPremises, link}
 use Rattle.key_graph.specs.Maps.{AreFirst}
 use Rattle.key_graph.proofs.ChainLaws.{opens_later, reached_later}
@@ -94,24 +95,24 @@ deleted_goes_on keys one old mid cut new i j addr first second lost from to from
     let here = at_start cut new second.deleted.extends in
     let still = second.still start start (omega arith) (omega arith) (omega (arith, from', to')) there.root there.is addr in
     let root : IsRootOf cut.present there.root = subst (λ (x : Image). IsRootOf x there.root) here there.is in
-    let over : Reached (there.root.key ∷ []) cut.present.recorded addr = subst (λ (x : Image). Reached (there.root.key ∷ []) x.recorded addr) here (still.1 there) in
+    let over : Reached (bare there.root.key ∷ []) cut.present.recorded addr = subst (λ (x : Image). Reached (bare there.root.key ∷ []) x.recorded addr) here (still.1 there) in
     let last : IsReached mid.present addr = record {
       root = there.root;
       is = root_left mid.present cut.present there.root lost root;
-      reached = subst (λ (pages : List (List ℕ)). Reached (there.root.key ∷ []) pages addr) lost.recorded over;
+      reached = subst (λ (pages : List (List ℕ)). Reached (bare there.root.key ∷ []) pages addr) lost.recorded over;
     } in
     first.deleted.kept i (moment mid) from to (omega arith) addr (subst (λ (x : Image). IsReached x addr) (sym (image_at-now mid (moment mid) (omega arith))) last) below
 
 still_goes_on : (keys one : List (List ℕ)) (old mid cut new : History) (i j : ℕ) (root : Root) (addr : ℕ) → During old mid (Kept (keys ++ one)) → DisclosesTrees keys old mid → DisclosesTrees (keys ++ one) cut new → MayLeave mid.present cut.present
-    → moment old ≤ i → i ≤ moment mid → moment cut ≤ j → j ≤ moment new → IsRootOf (image_at mid i) root → Reached (root.key ∷ []) (image_at new j).recorded addr ↔ IsInTree (image_at mid i) addr
+    → moment old ≤ i → i ≤ moment mid → moment cut ≤ j → j ≤ moment new → IsRootOf (image_at mid i) root → Reached (bare root.key ∷ []) (image_at new j).recorded addr ↔ IsInTree (image_at mid i) addr
 still_goes_on keys one old mid cut new i j root addr kept first second lost from to from' to' is =
-    let own : Contains (keys ++ one) root.key = ((kept.each i from to).cell root is).own in
-    let listed = All-cons (Contains (keys ++ one)) root.key [] own (All-nil (Contains (keys ++ one))) in
-    let later = second.no_more.each j from' to' (root.key ∷ []) listed addr in
+    let own : Contains (keys ++ one) (bare root.key) = ((kept.each i from to).cell root is).own in
+    let listed = All-cons (Contains (keys ++ one)) (bare root.key) [] own (All-nil (Contains (keys ++ one))) in
+    let later = second.no_more.each j from' to' (bare root.key ∷ []) listed addr in
     let pages : cut.present.recorded ≡ (image_at mid (moment mid)).recorded = lost.recorded ∙ ap (λ (x : Image). x.recorded) (sym (image_at-now mid (moment mid) (omega arith))) in
     let law = first.still i (moment mid) from to (omega arith) root is addr in (
-      λ reached. law.0 (subst (λ (ps : List (List ℕ)). Reached (root.key ∷ []) ps addr) pages (later.0 reached)),
-      λ there. later.1 (subst (λ (ps : List (List ℕ)). Reached (root.key ∷ []) ps addr) (sym pages) (law.1 there)),
+      λ reached. law.0 (subst (λ (ps : List (List ℕ)). Reached (bare root.key ∷ []) ps addr) pages (later.0 reached)),
+      λ there. later.1 (subst (λ (ps : List (List ℕ)). Reached (bare root.key ∷ []) ps addr) (sym pages) (law.1 there)),
     )
 
 no_more_goes_on : (keys one : List (List ℕ)) (old mid cut new : History) → DisclosesTrees keys old mid → DisclosesTrees (keys ++ one) cut new → MayLeave mid.present cut.present → During cut new (ReachNoMore keys old.present)

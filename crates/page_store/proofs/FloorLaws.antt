@@ -6,6 +6,9 @@ use Rattle.std.specs.Int.{w64, to_be_bytes, from_be_bytes}
 use Rattle.std.proofs.lemmas.Bool.{cases_lt}
 use Rattle.std.proofs.lemmas.List.{drop_at}
 use Rattle.std.proofs.lemmas.Nat.{from_be_bytes-to_be_bytes_8}
+use Rattle.sdbt_base.specs.Keys.{bare, key_size}
+use Rattle.record_versions.specs.Versions.{IsVersion}
+use Rattle.record_versions.specs.Laws.{size_of_key, length-bare}
 use Rattle.platform.specs.Image.{Image, IsEarlier, LeavesOnly}
 use Rattle.platform.specs.History.{History, Extends, During, Turns, image_at, moment}
 use Rattle.platform.specs.Runs.{floor_at}
@@ -30,13 +33,13 @@ use Rattle.page_store.proofs.KeptLaws.{one_root_in, root_of_stands, tree_later, 
 
 -- ---- the head field
 
-pub head_is : (root : Root) → root.head ≤ 2 ^ 32 → length root.key ≡ 32 → head_in (root_bytes root) ≡ root.head
+pub head_is : (root : Root) → root.head ≤ 2 ^ 32 → IsVersion root.version → length root.key ≡ key_size root.version → head_in (root_bytes root) ≡ root.head
 unfolding root_fields
-head_is root most size =
+head_is root most is sized =
     let bytes = root_bytes root in
-    let rest : List ℕ = drop 40 bytes in
+    let size : length (bare root.key) ≡ 32 = length-bare root.key (size_of_key root.version root.key is sized) in
     let behind : take 8 (drop 80 bytes) ≡ to_be_bytes w64 root.head
-    = ap (take 8) (sym (drop-drop 40 40 bytes) ∙ (sym (drop-drop 8 32 (drop 40 bytes)) ∙ ap (drop 8) (drop_at root.key _ 32 size))) in
+    = ap (take 8) (sym (drop-drop 40 40 bytes) ∙ (sym (drop-drop 8 32 (drop 40 bytes)) ∙ ap (drop 8) (drop_at (bare root.key) _ 32 size))) in
     ap (from_be_bytes w64) behind ∙ from_be_bytes-to_be_bytes_8 root.head (omega arith)
 
 -- ---- floors, by steps of a history
@@ -148,13 +151,13 @@ place_in_tree image place is = record {
   parts = is.parts;
   is = is.is;
   tree = is.tree;
-  has = map_contains (λ (l : Link). l.addr) (links_of is.parts.places) (link place.addr place.key) (map_contains (λ (p : Place). link p.addr p.key) is.parts.places place is.has);
+  has = map_contains (λ (l : Link). l.addr) (links_of is.parts.places) (link place.addr (bare place.key)) (map_contains (λ (p : Place). link p.addr (bare p.key)) is.parts.places place is.has);
 }
 
 -- a place at an address of the tree
 pub place_at : (image : Image) (addr : ℕ) → IsInTree image addr → (place : Place) × (place.addr ≡ addr) × HasPlace image place
 place_at image addr is =
-    let spot : Place → Link = λ p. link p.addr p.key in
+    let spot : Place → Link = λ p. link p.addr (bare p.key) in
     let at = contains_map (λ (l : Link). l.addr) (map spot is.parts.places) addr is.has in
     let place = contains_map spot is.parts.places at.0 at.1 in
     (place.0, ap (λ (l : Link). l.addr) place.2 ∙ at.2, record { root = is.root; parts = is.parts; is = is.is; tree = is.tree; has = place.1 })
@@ -234,7 +237,7 @@ kept_same start new i j from order same sound = record {
 
 pub low_of_stands : (image : Image) (device : Device) (root : Root) (parts : Parts) → StandsBy image device root parts → low_of image ≡ root.head
 low_of_stands image device root parts stands =
-    ap (λ (c : Option (List ℕ)). option_map_or head_in c (length image.recorded)) stands.cell ∙ head_is root stands.in_range.head stands.key.0
+    ap (λ (c : Option (List ℕ)). option_map_or head_in c (length image.recorded)) stands.cell ∙ head_is root stands.in_range.head stands.in_range.version stands.key.0
 
 pub low_few : (image : Image) → IsSound image → image.synced ≤ length image.recorded → low_of image ≤ length image.recorded
 low_few image (None, stands) within = let a : low_of image ≡ length image.recorded = ap (λ (c : Option (List ℕ)). option_map_or head_in c (length image.recorded)) stands in omega (arith, a)
@@ -585,17 +588,17 @@ deleted_call old new forgets =
 
 -- ---- what an earlier root record reaches
 
-tree_reached : (keys longer : List (List ℕ)) (image later : Image) (device : Option Device) (root : Root) → Stands image device → Kept keys image → AreFirst image.recorded later.recorded → AreFirst later.recorded longer → HaveOwnKeys keys longer → Distinct keys → OneOpener keys longer → IsRootOf image root → (addr : ℕ) → Reached (root.key ∷ []) later.recorded addr ↔ IsInTree image addr
+tree_reached : (keys longer : List (List ℕ)) (image later : Image) (device : Option Device) (root : Root) → Stands image device → Kept keys image → AreFirst image.recorded later.recorded → AreFirst later.recorded longer → HaveOwnKeys keys longer → Distinct keys → OneOpener keys longer → IsRootOf image root → (addr : ℕ) → Reached (bare root.key ∷ []) later.recorded addr ↔ IsInTree image addr
 tree_reached keys longer image later None root stands kept first then' own distinct one is addr = absurd (let no : None ≡ Some (root_bytes root) = sym stands ∙ is.cell in cc)
 tree_reached keys longer image later (Some device) root (root', parts, stands) kept first then' own distinct one is addr =
     let here = root_of_stands image device root' parts stands in
     let roots : root' ≡ root = one_root_in image image root' root refl here is in
     let known = (kept.cell root' here).places parts stands.tree in
-    let listed : AreListed keys (links_of parts.places) = All-map (λ (l : Link). Contains keys l.key) (λ (p : Place). link p.addr p.key) parts.places known in
-    let law : ReachesExactly (root'.key ∷ []) later.recorded (links_of parts.places)
-    = earlier_map keys image.recorded later.recorded longer (root'.key ∷ []) (links_of parts.places)
+    let listed : AreListed keys (links_of parts.places) = All-map (λ (l : Link). Contains keys l.key) (λ (p : Place). link p.addr (bare p.key)) parts.places known in
+    let law : ReachesExactly (bare root'.key ∷ []) later.recorded (links_of parts.places)
+    = earlier_map keys image.recorded later.recorded longer (bare root'.key ∷ []) (links_of parts.places)
     (tree_closed image.recorded root' parts (recorded_tree image device root' parts stands)) listed first then' own distinct one in
-    let exact : ReachesExactly (root.key ∷ []) later.recorded (links_of parts.places) = subst (λ (r : Root). ReachesExactly (r.key ∷ []) later.recorded (links_of parts.places)) roots law in (
+    let exact : ReachesExactly (bare root.key ∷ []) later.recorded (links_of parts.places) = subst (λ (r : Root). ReachesExactly (bare r.key ∷ []) later.recorded (links_of parts.places)) roots law in (
       λ reached. record { root = root'; parts = parts; is = here; tree = stands.tree; has = (exact addr).0 reached },
       λ there. (exact addr).1 (tree_of_stands image device root' parts addr stands there),
     )

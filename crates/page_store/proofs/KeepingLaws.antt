@@ -5,6 +5,7 @@ use Rattle.std.specs.Option.{option_map}
 use Rattle.std.proofs.lemmas.Bool.{cases_lt}
 use Rattle.std.proofs.lemmas.Option.{slice_get_within, slice_get-get_or}
 use Rattle.std.proofs.lemmas.List.Elements.{All-contains, All-map, Contains-append_left, Contains-push}
+use Rattle.sdbt_base.specs.Keys.{bare}
 use Rattle.sdbt_base.specs.Told.{Drew}
 use Rattle.platform.specs.Image.{Image, IsEarlier, MayHavePage}
 use Rattle.platform.specs.History.{History, Extends, During, Steps, Turns}
@@ -43,13 +44,13 @@ last_page [] page read (suc addr) past there = absurd cc
 last_page (first ∷ pages) page read zero past there = absurd (omega arith)
 last_page (first ∷ pages) page read (suc addr) past there = let rest = last_page pages page read addr (omega arith) there in (ap suc rest.0, rest.1)
 
-yields_listed : (keys : List (List ℕ)) (key body other : List ℕ) (addr : ℕ) (value : Record) → FitsRecord addr value → ListsKeys keys value → masked key (masked key body) ≡ record_bytes addr value → Yields key (masked key body) other → Contains (keys ++ key ∷ []) other
-yields_listed keys key body other addr (DataRecord block content) fits listed spelled yields = absurd (data_yields key (masked key body) other addr block content spelled yields)
-yields_listed keys key body other addr (NodeRecord level entries) fits listed spelled yields =
+yields_listed : (keys : List (List ℕ)) (key body other : List ℕ) (version addr : ℕ) (value : Record) → FitsRecord version addr value → ListsKeys keys value → masked key (masked key body) ≡ record_bytes version addr value → Yields key (masked key body) other → Contains (keys ++ key ∷ []) other
+yields_listed keys key body other version addr (DataRecord block content) fits listed spelled yields = absurd (data_yields key (masked key body) other version addr block content spelled yields)
+yields_listed keys key body other version addr (NodeRecord level entries) fits listed spelled yields =
     Contains-append_left keys (key ∷ []) other
-    (All-contains (Contains keys) (map (λ (e : Entry). e.key) entries) other
-    (All-map (Contains keys) (λ (e : Entry). e.key) entries listed)
-    (node_yields key (masked key body) other addr level entries fits spelled yields))
+    (All-contains (Contains keys) (map (λ (e : Entry). bare e.key) entries) other
+    (All-map (Contains keys) (λ (e : Entry). bare e.key) entries listed)
+    (node_yields key (masked key body) other version addr level entries fits spelled yields))
 
 -- no page was added
 handed_none : (keys : List (List ℕ)) (before after : Image) → length after.recorded ≡ length before.recorded → HandedOver keys before after
@@ -60,9 +61,9 @@ handed_none keys before after size = record {
 }
 
 -- one page was added, or none
-handed_one : (key body : List ℕ) (addr : ℕ) (value : Record) (before after : Image) → length body ≡ 4128 → FitsRecord addr value → body ≡ record_bytes addr value → addr ≡ length before.recorded → MayHavePage before (masked key body) after → HandedOver (key ∷ []) before after
-handed_one key body addr value before after size fits spelled at (inl same) = handed_none (key ∷ []) before after (ap (λ (i : Image). length i.recorded) same)
-handed_one key body addr value before after size fits spelled at (inr (reads, same)) =
+handed_one : (key body : List ℕ) (version addr : ℕ) (value : Record) (before after : Image) → length body ≡ 4128 → FitsRecord version addr value → body ≡ record_bytes version addr value → addr ≡ length before.recorded → MayHavePage before (masked key body) after → HandedOver (key ∷ []) before after
+handed_one key body version addr value before after size fits spelled at (inl same) = handed_none (key ∷ []) before after (ap (λ (i : Image). length i.recorded) same)
+handed_one key body version addr value before after size fits spelled at (inr (reads, same)) =
     let pages = before.recorded in
     let page = masked key body in
     let pushed : length (pages ++ page ∷ []) ≡ length pages + 1 = simp length-append in
@@ -75,31 +76,32 @@ handed_one key body addr value before after size fits spelled at (inr (reads, sa
           record {
             key = key;
             listed = refl;
+            version = version;
             value = value;
-            in_range = subst (λ (m : ℕ). FitsRecord m value) here fits;
-            spelled = ap (masked key) (sym last.1) ∙ (masked-masked key body (omega (arith, size)) ∙ (spelled ∙ ap (λ (m : ℕ). record_bytes m value) here));
+            in_range = subst (λ (m : ℕ). FitsRecord version m value) here fits;
+            spelled = ap (masked key) (sym last.1) ∙ (masked-masked key body (omega (arith, size)) ∙ (spelled ∙ ap (λ (m : ℕ). record_bytes version m value) here));
           };
       apart = λ one other added added' same_place.
           let a = added.0 in let b = added.1 in let c = added'.0 in let d = added'.1 in omega (arith, a, b, c, d, longer);
     }
 
-pub keeps_append : (tells : Type 0) (drawn drawn_now : Option (List (List ℕ))) (key body : List ℕ) (addr : ℕ) (value : Record) (old new : History) (Done : List (List ℕ) → Type 0)
-    → length body ≡ 4128 → FitsRecord addr value → body ≡ record_bytes addr value → (tells → addr ≡ length old.present.recorded)
+pub keeps_append : (tells : Type 0) (drawn drawn_now : Option (List (List ℕ))) (key body : List ℕ) (version addr : ℕ) (value : Record) (old new : History) (Done : List (List ℕ) → Type 0)
+    → length body ≡ 4128 → FitsRecord version addr value → body ≡ record_bytes version addr value → (tells → addr ≡ length old.present.recorded)
     → Drew drawn key drawn_now → (tells → Steps old new) → (tells → MayHavePage old.present (masked key body) new.present)
     → ((keys : List (List ℕ)) → Contains keys key → Done keys) → KeepsKeys tells drawn drawn_now old new (IsNextRecord old.present value) Done
-keeps_append tells drawn drawn_now key body addr value old new Done size fits is at drew steps page done = record {
+keeps_append tells drawn drawn_now key body version addr value old new Done size fits is at drew steps page done = record {
   grew = key ∷ [];
   drew = drew;
   extends = λ told. (steps told).extends;
-  handed = λ told. handed_one key body addr value old.present new.present size fits is (at told) (page told);
+  handed = λ told. handed_one key body version addr value old.present new.present size fits is (at told) (page told);
   keeps = λ told keys kept ready.
       let next = length old.present.recorded in
-      let in_range : FitsRecord next value = subst (λ (m : ℕ). FitsRecord m value) (at told) fits in
-      let spelled : masked key (masked key body) ≡ record_bytes next value = masked-masked key body (omega (arith, size)) ∙ (is ∙ ap (λ (m : ℕ). record_bytes m value) (at told)) in
-      let opens : Opens key next (masked key body) = opens_record key (masked key body) next value spelled in
+      let in_range : FitsRecord version next value = subst (λ (m : ℕ). FitsRecord version m value) (at told) fits in
+      let spelled : masked key (masked key body) ≡ record_bytes version next value = masked-masked key body (omega (arith, size)) ∙ (is ∙ ap (λ (m : ℕ). record_bytes version m value) (at told)) in
+      let opens : Opens key next (masked key body) = opens_record key (masked key body) version next value spelled in
       let after : Kept (keys ++ key ∷ []) new.present
       = kept_append keys key (masked key body) old.present new.present ready.device ready.stands kept opens
-      (λ other yields. yields_listed keys key body other next value in_range ready.listed spelled yields) (page told) in
+      (λ other yields. yields_listed keys key body other version next value in_range ready.listed spelled yields) (page told) in
       record {
         kept = During-step old new (Kept (keys ++ key ∷ [])) (steps told) (kept_drawn keys (key ∷ []) old.present kept) after;
         done = done (keys ++ key ∷ []) (Contains-push keys key);
@@ -166,10 +168,10 @@ handed_then one two first second third ahead earlier handed handed' =
         | inl before ↦
             let was : slice_get second.recorded addr ≡ Some page = ap (λ (ps : List (List ℕ)). slice_get ps addr) (sym earlier.recorded) ∙ (first_reads n third.recorded addr before ∙ there) in
             let is = early addr page added before was in
-            record { key = is.key; listed = get_left one two (left addr) is.key is.listed; value = is.value; in_range = is.in_range; spelled = is.spelled }
+            record { key = is.key; listed = get_left one two (left addr) is.key is.listed; version = is.version; value = is.value; in_range = is.in_range; spelled = is.spelled }
         | inr after ↦
             let is = handed'.sealed addr page (after, added.1) there in
-            record { key = is.key; listed = get_right one two (handed'.position addr) ∙ is.listed; value = is.value; in_range = is.in_range; spelled = is.spelled }
+            record { key = is.key; listed = get_right one two (handed'.position addr) ∙ is.listed; version = is.version; value = is.value; in_range = is.in_range; spelled = is.spelled }
       ];
       apart = λ a b added added'. elim (cases_lt a n) as (λ e. pick e (left a) (right a) ≡ pick (cases_lt b n) (left b) (right b) → a ≡ b) [
         | inl low ↦ elim (cases_lt b n) as (λ e. left a ≡ pick e (left b) (right b) → a ≡ b) [
@@ -187,7 +189,7 @@ handed_then one two first second third ahead earlier handed handed' =
 pub handed_opened : (keys : List (List ℕ)) (before after : Image) → HandedOver keys before after → AreOpenedBy keys before.recorded after.recorded
 handed_opened keys before after handed addr page past there =
     let is = handed.sealed addr page (past, slice_get_within after.recorded addr page there) there in
-    (is.key, contains_at keys (handed.position addr) is.key is.listed, opens_record is.key page addr is.value is.spelled)
+    (is.key, contains_at keys (handed.position addr) is.key is.listed, opens_record is.key page is.version addr is.value is.spelled)
 
 pub keeps_then : (tells : Type 0) (drawn mid drawn_now : Option (List (List ℕ))) (first second third : History) (Ready Mid Mid' Then Done : List (List ℕ) → Type 0)
     → KeepsKeys tells drawn mid first second Ready Mid → KeepsKeys tells mid drawn_now second third Mid' Then
@@ -259,8 +261,8 @@ pub record IsPublished (mid X : Image) (keys : List (List ℕ)) : Type 0 where
   pub root : Root
   pub parts : Parts
   pub tree : StandsBy X next root parts
-  pub own : Contains keys root.key
-  pub listed : All (λ p. Contains keys p.key) parts.places
+  pub own : Contains keys (bare root.key)
+  pub listed : All (λ p. Contains keys (bare p.key)) parts.places
 
 pub keeps_published : (tells : Type 0) (drawn : Option (List (List ℕ))) (mid new : History) (X : Image) (Done : List (List ℕ) → Type 0) → X.recorded ≡ mid.present.recorded → (tells → length new.present.recorded ≡ length mid.present.recorded) → (tells → Turns mid new (λ image. image.cell ≡ mid.present.cell) (λ image. image ≡ X)) → (tells → (keys : List (List ℕ)) → IsPublished mid.present X keys → Done keys) → KeepsKeys tells drawn drawn mid new (IsPublished mid.present X) Done
 keeps_published tells drawn mid new X Done pages size turns done =

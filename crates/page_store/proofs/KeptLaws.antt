@@ -7,6 +7,7 @@ use Rattle.platform.specs.Image.{Image, IsEarlier, MayLeave, LeavesOnly, MayHave
 use Rattle.platform.specs.History.{History, image_at, moment, Extends, During, Turns}
 use Rattle.platform.proofs.Moments.{synced-stays, earlier-now, During-now, Extends-since}
 use Rattle.std.proofs.lemmas.Bool.{cases_lt}
+use Rattle.sdbt_base.specs.Keys.{bare}
 use Rattle.node_codec.specs.declared.body.Entry.{Entry}
 use Rattle.seal_record.specs.Sealing.{Opens}
 use Rattle.root_codec.specs.declared.root.Root.{Root}
@@ -34,22 +35,22 @@ same_some x y same = cc
 -- ---- the root record in the cell
 
 pub one_root_in : (image other : Image) (one two : Root) → other.cell ≡ image.cell → IsRootOf image one → IsRootOf other two → one ≡ two
-one_root_in image other one two same is is' = one_root one two is.in_range is'.in_range is.key.0 (same_some _ _ (sym is.cell ∙ sym same ∙ is'.cell))
+one_root_in image other one two same is is' = one_root one two is.in_range is'.in_range (same_some _ _ (sym is.cell ∙ sym same ∙ is'.cell))
 
 pub root_of_stands : (image : Image) (device : Device) (root : Root) (parts : Parts) → StandsBy image device root parts → IsRootOf image root
 root_of_stands image device root parts stands = record { cell = stands.cell; in_range = stands.in_range; key = stands.key }
 
 -- the tree that an image stands by is the one tree of its root
-knows_parts : (keys pages : List (List ℕ)) (root : Root) (parts : Parts) → FitsRoot root → Tree pages root parts → Contains keys root.key → All (λ p. Contains keys p.key) parts.places → KnowsTree keys pages root
+knows_parts : (keys pages : List (List ℕ)) (root : Root) (parts : Parts) → FitsRoot root → Tree pages root parts → Contains keys (bare root.key) → All (λ p. Contains keys (bare p.key)) parts.places → KnowsTree keys pages root
 knows_parts keys pages root parts fits tree own places = record {
   own = own;
-  places = λ other is. subst (λ (p : Parts). All (λ q. Contains keys q.key) p.places) (one_tree pages root parts other fits tree is) places;
+  places = λ other is. subst (λ (p : Parts). All (λ q. Contains keys (bare q.key)) p.places) (one_tree pages root parts other fits tree is) places;
 }
 
 knows_more : (keys more pages : List (List ℕ)) (root : Root) → KnowsTree keys pages root → KnowsTree (keys ++ more) pages root
 knows_more keys more pages root knows = record {
-  own = Contains-append_left keys more root.key knows.own;
-  places = λ parts tree. All-weaker (λ (p : Place). Contains keys p.key) (λ (p : Place). Contains (keys ++ more) p.key) (λ p. Contains-append_left keys more p.key) parts.places (knows.places parts tree);
+  own = Contains-append_left keys more (bare root.key) knows.own;
+  places = λ parts tree. All-weaker (λ (p : Place). Contains keys (bare p.key)) (λ (p : Place). Contains (keys ++ more) (bare p.key)) (λ p. Contains-append_left keys more (bare p.key)) parts.places (knows.places parts tree);
 }
 
 -- another image with the same cell, where the tree reads as before
@@ -101,7 +102,7 @@ pub kept_cleared : (keys : List (List ℕ)) (image : Image) → Kept keys image 
 kept_cleared keys image kept = record { pages = kept.pages; cell = λ root is. absurd (let no : None ≡ Some (root_bytes root) = is.cell in cc) }
 
 -- another root record, whose tree's keys are listed
-pub kept_swapped : (keys : List (List ℕ)) (image : Image) (device : Device) (root : Root) (parts : Parts) → Kept keys image → StandsBy (with_cell image (Some (root_bytes root))) device root parts → Contains keys root.key → All (λ p. Contains keys p.key) parts.places → Kept keys (with_cell image (Some (root_bytes root)))
+pub kept_swapped : (keys : List (List ℕ)) (image : Image) (device : Device) (root : Root) (parts : Parts) → Kept keys image → StandsBy (with_cell image (Some (root_bytes root))) device root parts → Contains keys (bare root.key) → All (λ p. Contains keys (bare p.key)) parts.places → Kept keys (with_cell image (Some (root_bytes root)))
 kept_swapped keys image device root parts kept stands own places =
     let after = with_cell image (Some (root_bytes root)) in
     record {
@@ -133,11 +134,11 @@ reaches_tree keys longer image (Some device) (root', parts, stands) kept first o
     let here = root_of_stands image device root' parts stands in
     let roots : root' ≡ root = one_root_in image image root' root refl here is in
     let known = (kept.cell root' here).places parts stands.tree in
-    let listed : AreListed keys (links_of parts.places) = All-map (λ (l : Link). Contains keys l.key) (λ (p : Place). link p.addr p.key) parts.places known in
-    subst (λ (r : Root). (parts : Parts) × Tree image.readable r parts × ReachesExactly (r.key ∷ []) image.recorded (links_of parts.places)) roots (
+    let listed : AreListed keys (links_of parts.places) = All-map (λ (l : Link). Contains keys l.key) (λ (p : Place). link p.addr (bare p.key)) parts.places known in
+    subst (λ (r : Root). (parts : Parts) × Tree image.readable r parts × ReachesExactly (bare r.key ∷ []) image.recorded (links_of parts.places)) roots (
       parts,
       stands.tree,
-      reaches_exactly keys image.recorded longer (root'.key ∷ []) (links_of parts.places)
+      reaches_exactly keys image.recorded longer (bare root'.key ∷ []) (links_of parts.places)
           (tree_closed image.recorded root' parts (recorded_tree image device root' parts stands)) listed first own distinct opener,
     )
 
@@ -181,7 +182,7 @@ kept_later keys more image later device stands kept earlier cell own = record {
 }
 
 -- an image that stands keeps the keys of its pages, if its tree's are among them
-pub kept_stands : (keys : List (List ℕ)) (image : Image) (device : Device) (root : Root) (parts : Parts) → HaveOwnKeys keys image.recorded → StandsBy image device root parts → Contains keys root.key → All (λ p. Contains keys p.key) parts.places → Kept keys image
+pub kept_stands : (keys : List (List ℕ)) (image : Image) (device : Device) (root : Root) (parts : Parts) → HaveOwnKeys keys image.recorded → StandsBy image device root parts → Contains keys (bare root.key) → All (λ p. Contains keys (bare p.key)) parts.places → Kept keys image
 kept_stands keys image device root parts pages stands own places = record {
   pages = pages;
   cell = λ other is.
@@ -190,12 +191,12 @@ kept_stands keys image device root parts pages stands own places = record {
 }
 
 -- the same for a tree of one leaf
-pub kept_leaf : (keys : List (List ℕ)) (image : Image) (device : Device) (root : Root) (entries : List Entry) (contents : List (List ℕ)) → HaveOwnKeys keys image.recorded → StandsByLeaf image device root entries contents → Contains keys root.key → All (λ e. Contains keys e.key) entries → Kept keys image
+pub kept_leaf : (keys : List (List ℕ)) (image : Image) (device : Device) (root : Root) (entries : List Entry) (contents : List (List ℕ)) → HaveOwnKeys keys image.recorded → StandsByLeaf image device root entries contents → Contains keys (bare root.key) → All (λ e. Contains keys (bare e.key)) entries → Kept keys image
 kept_leaf keys image device root entries contents pages stands own listed =
     let place : Entry → Place = λ e. record { addr = e.addr; key = e.key; trace = DataOf e.low } in
     kept_stands keys image device root (leaf_parts root.addr root.key entries contents) pages (stands_by_leaf image device root entries contents stands) own
-    (All-cons (λ (p : Place). Contains keys p.key) (record { addr = root.addr; key = root.key; trace = NodeOver (map (λ (e : Entry). e.addr) entries) }) (map place entries) own
-    (All-map (λ (p : Place). Contains keys p.key) place entries listed))
+    (All-cons (λ (p : Place). Contains keys (bare p.key)) (record { addr = root.addr; key = root.key; trace = NodeOver (map (λ (e : Entry). e.addr) entries) }) (map place entries) own
+    (All-map (λ (p : Place). Contains keys (bare p.key)) place entries listed))
 
 -- where no page was added, the pages of each moment are those from before
 pub same_pages : (old new : History) (i : ℕ) → Extends old new → length new.present.recorded ≡ length old.present.recorded → moment old ≤ i → i ≤ moment new → (image_at new i).recorded ≡ old.present.recorded

@@ -18,7 +18,7 @@ use Rattle.sdbt_base.specs.Traces.{DataOf, NodeOver}
 use Rattle.page_store.specs.Tree.{Place, Parts}
 use Rattle.page_store.specs.Stands.{pairs_of, StandsBy}
 use Rattle.page_store.specs.Leaf.{leaf_parts, IsLeaf, StandsByLeaf}
-use Rattle.page_store.proofs.RecordLaws.{one_record, record_appended}
+use Rattle.page_store.proofs.RecordLaws.{one_record, plain_appended}
 use Rattle.page_store.proofs.LeafLaws.{leaf_tree, tree_leaf, data_stay, length-mapped_by}
 
 -- the place of a data record
@@ -63,6 +63,7 @@ stands_by_leaf image device root entries contents stands =
       in_range = stands.in_range;
       key = stands.key;
       version = stands.version;
+      first = stands.first;
       order = stands.order;
       blocks = stands.blocks;
       number = stands.number;
@@ -90,6 +91,7 @@ leaf_of_stands image device root parts level stands =
         in_range = stands.in_range;
         key = stands.key;
         version = stands.version;
+        first = stands.first;
         level = level;
         order = stands.order;
         blocks = stands.blocks;
@@ -124,9 +126,9 @@ leaf_wanted root entries level most lows = record {
   first = λ inner. absurd (omega (arith, inner));
 }
 
--- a leaf that is sealed and appended behind its data records is the tree of its root
-pub leaf_appended : (pages : List (List ℕ)) (root : Root) (entries : List Entry) (contents : List (List ℕ)) → FitsRoot root → root.addr ≡ length pages → FitsRecord root.addr (NodeRecord 1 entries) → IsNodeWanted (root_want root) 1 entries → AllZip (λ e c. IsRecordAt pages e.addr e.key (DataRecord e.low c)) entries contents → IsLeaf (pages ++ masked root.key (record_bytes root.addr (NodeRecord 1 entries)) ∷ []) root entries contents
-leaf_appended pages root entries contents fits at in_range wanted records = record {
-  leaf = (record_appended pages root.addr root.key (NodeRecord 1 entries) (omega (arith, fits.addr, fits.head)) at in_range, wanted);
-  records = data_stay pages (masked root.key (record_bytes root.addr (NodeRecord 1 entries)) ∷ []) entries contents records;
+-- a leaf that is sealed and appended behind its data records is the tree of its root, whose key has no digest
+pub leaf_appended : (pages : List (List ℕ)) (root : Root) (entries : List Entry) (contents : List (List ℕ)) → FitsRoot root → length root.key ≡ 32 → root.addr ≡ length pages → FitsRecord 1 root.addr (NodeRecord 1 entries) → IsNodeWanted (root_want root) 1 entries → AllZip (λ e c. IsRecordAt pages e.addr e.key (DataRecord e.low c)) entries contents → IsLeaf (pages ++ masked root.key (record_bytes 1 root.addr (NodeRecord 1 entries)) ∷ []) root entries contents
+leaf_appended pages root entries contents fits plain at in_range wanted records = record {
+  leaf = (plain_appended pages root.addr root.key (NodeRecord 1 entries) (omega (arith, fits.addr, fits.head)) at plain in_range, wanted);
+  records = data_stay pages (masked root.key (record_bytes 1 root.addr (NodeRecord 1 entries)) ∷ []) entries contents records;
 }

@@ -10,3 +10,4 @@ pub mod KeptLaws
 pub mod KeepingLaws
 pub mod FloorLaws
 pub mod DisclosingLaws
+pub mod FetchLaws

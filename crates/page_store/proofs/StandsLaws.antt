@@ -22,7 +22,7 @@ same_some x y same = cc
 -- an image stands by one root and one tree at most
 pub one_root_of : (image : Image) (device other : Device) (root root' : Root) (parts parts' : Parts) → StandsBy image device root parts → StandsBy image other root' parts' → root ≡ root'
 one_root_of image device other root root' parts parts' stands stands' =
-    one_root root root' stands.in_range stands'.in_range stands.key.0 (same_some _ _ (sym stands.cell ∙ stands'.cell))
+    one_root root root' stands.in_range stands'.in_range (same_some _ _ (sym stands.cell ∙ stands'.cell))
 
 pub one_parts_of : (image : Image) (device other : Device) (root root' : Root) (parts parts' : Parts) → StandsBy image device root parts → StandsBy image other root' parts' → parts ≡ parts'
 one_parts_of image device other root root' parts parts' stands stands' =
@@ -41,7 +41,7 @@ one_device image (Some device) (Some other) (root, parts, stands) (root', parts'
     let roots = one_root_of image device other root root' parts parts' stands stands' in
     let all = one_parts_of image device other root root' parts parts' stands stands' in
     ap (λ (d : Device). Some d) (same_device device other
-    (stands.version ∙ sym stands'.version)
+    (sym stands.version ∙ ap (λ (r : Root). r.version) roots ∙ stands'.version)
     (sym stands.blocks ∙ ap (λ (r : Root). r.blocks) roots ∙ stands'.blocks)
     (sym stands.order ∙ ap (λ (r : Root). r.order) roots ∙ stands'.order)
     (sym stands.number ∙ ap (λ (r : Root). r.commit) roots ∙ stands'.number)
@@ -56,6 +56,7 @@ stands_kept image other device root parts stands cell head readable recorded = r
   in_range = stands.in_range;
   key = stands.key;
   version = stands.version;
+  first = stands.first;
   order = stands.order;
   blocks = stands.blocks;
   number = stands.number;

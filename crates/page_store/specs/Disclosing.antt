@@ -1,5 +1,6 @@
 -- What the pages of a run disclose to whoever has its root records.
 use Rattle.std.specs.Prelude.{◌≤◌, ◌<◌, ◌↔◌, ℕ, List, [], ◌∷◌, ◌++◌, All, Contains}
+use Rattle.sdbt_base.specs.Keys.{bare}
 use Rattle.platform.specs.Image.{Image, LeavesOnly}
 use Rattle.platform.specs.History.{History, During, image_at, moment}
 use Rattle.root_codec.specs.declared.root.Root.{Root}
@@ -37,5 +38,5 @@ pub record DisclosesOn (keys one : List (List ℕ)) (old mid cut new : History) 
       → (addr : ℕ) → IsReached (image_at new j) addr → addr < floor_of old mid i → IsInTree (image_at mid i) addr
   pub still : (i j : ℕ) → moment old ≤ i → i ≤ moment mid → moment cut ≤ j → j ≤ moment new
       → (root : Root) → IsRootOf (image_at mid i) root
-      → (addr : ℕ) → Reached (root.key ∷ []) (image_at new j).recorded addr ↔ IsInTree (image_at mid i) addr
+      → (addr : ℕ) → Reached (bare root.key ∷ []) (image_at new j).recorded addr ↔ IsInTree (image_at mid i) addr
   pub no_more : During cut new (ReachNoMore keys old.present)

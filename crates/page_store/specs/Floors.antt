@@ -2,6 +2,7 @@
 use Rattle.std.specs.Prelude.{◌≡◌, ◌≤◌, ◌<◌, ◌-◌, ◌↔◌, ◌⊎◌, ℕ, List, [], ◌∷◌, Contains, length, take, drop}
 use Rattle.std.specs.Option.{option_map_or}
 use Rattle.std.specs.Int.{w64, from_be_bytes}
+use Rattle.sdbt_base.specs.Keys.{bare}
 use Rattle.platform.specs.Image.{Image}
 use Rattle.platform.specs.History.{History, During, Turns, image_at, moment}
 use Rattle.platform.specs.Runs.{floor_at, StaysDeleted}
@@ -24,7 +25,7 @@ pub record IsInTree (image : Image) (addr : ℕ) : Type 0 where
 pub record IsReached (image : Image) (addr : ℕ) : Type 0 where
   pub root : Root
   pub is : IsRootOf image root
-  pub reached : Reached (root.key ∷ []) image.recorded addr
+  pub reached : Reached (bare root.key ∷ []) image.recorded addr
 
 -- the head field of a root record's bytes
 abbrev pub head_in : List ℕ → ℕ
@@ -79,4 +80,4 @@ NeverReached old new = StaysDeleted old new (floor_of old new) IsReached IsInTre
 abbrev pub ReachesStill : History → History → Type 0
 ReachesStill old new =
     (i j : ℕ) → moment old ≤ i → i ≤ j → j ≤ moment new → (root : Root) → IsRootOf (image_at new i) root
-    → (addr : ℕ) → Reached (root.key ∷ []) (image_at new j).recorded addr ↔ IsInTree (image_at new i) addr
+    → (addr : ℕ) → Reached (bare root.key ∷ []) (image_at new j).recorded addr ↔ IsInTree (image_at new i) addr

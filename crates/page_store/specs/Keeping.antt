@@ -1,6 +1,7 @@
 -- What a call does to the keys that an image keeps.
 use Rattle.std.specs.Prelude.{◌≡◌, ◌<◌, ◌≤◌, ℕ, List, ◌++◌, Option, Some, All, Contains, length, slice_get}
 use Rattle.std.specs.Option.{option_map}
+use Rattle.sdbt_base.specs.Keys.{bare}
 use Rattle.platform.specs.Image.{Image}
 use Rattle.platform.specs.History.{History, Extends, During}
 use Rattle.seal_record.specs.Sealing.{masked}
@@ -13,13 +14,14 @@ use Rattle.page_store.specs.Kept.{Kept}
 abbrev pub DrewAll : Option (List (List ℕ)) → List (List ℕ) → Option (List (List ℕ)) → Type 0
 DrewAll drawn keys drawn_now = drawn_now ≡ option_map (λ before. before ++ keys) drawn
 
--- the page is a record of its address, sealed under the key at this position of the list
+-- the page is a record of its address, in any version, sealed under the key at this position of the list
 pub record IsSealedRecord (keys : List (List ℕ)) (position addr : ℕ) (page : List ℕ) : Type 0 where
   pub key : List ℕ
   pub listed : slice_get keys position ≡ Some key
+  pub version : ℕ
   pub value : Record
-  pub in_range : FitsRecord addr value
-  pub spelled : masked key page ≡ record_bytes addr value
+  pub in_range : FitsRecord version addr value
+  pub spelled : masked key page ≡ record_bytes version addr value
 
 -- a page of the later image that isn't one of the earlier
 abbrev pub IsAdded : Image → Image → ℕ → Type 0
@@ -45,10 +47,10 @@ pub record KeepsKeys (tells : Type 0) (drawn drawn_now : Option (List (List ℕ)
   pub handed : tells → HandedOver grew old.present new.present
   pub keeps : tells → (keys : List (List ℕ)) → Kept keys old.present → Ready keys → Keeps keys grew old new Done
 
--- every key that a record holds is listed
+-- every key that a record holds is listed, without its digest
 abbrev pub ListsKeys : List (List ℕ) → Record → Type 0
 ListsKeys keys (DataRecord block content) = Unit {0}
-ListsKeys keys (NodeRecord level entries) = All (λ e. Contains keys e.key) entries
+ListsKeys keys (NodeRecord level entries) = All (λ e. Contains keys (bare e.key)) entries
 
 -- the image stands, and the record that its next page is to be has no key that isn't listed
 pub record IsNextRecord (image : Image) (value : Record) (keys : List (List ℕ)) : Type 0 where

@@ -2,7 +2,7 @@
 use Rattle.std.specs.Prelude.{◌≡◌, ◌≢◌, ◌≤◌, ℕ, List, [], ◌∷◌, Some, All, AllPairs, length, map, slice_get}
 use Rattle.std.specs.List.{AllZip, zip}
 use Rattle.std.specs.FinMap.{from_entries}
-use Rattle.sdbt_base.specs.Bytes.{IsBytes}
+use Rattle.sdbt_base.specs.Keys.{IsKeyOf}
 use Rattle.platform.specs.Image.{Image}
 use Rattle.node_codec.specs.declared.body.Entry.{Entry}
 use Rattle.node_codec.specs.Record.{DataRecord, NodeRecord}
@@ -37,8 +37,9 @@ pub record IsLeaf (pages : List (List ℕ)) (root : Root) (entries : List Entry)
 pub record StandsByLeaf (image : Image) (device : Device) (root : Root) (entries : List Entry) (contents : List (List ℕ)) : Type 0 where
   pub cell : image.cell ≡ Some (root_bytes root)
   pub in_range : FitsRoot root
-  pub key : IsBytes 32 root.key
-  pub version : device.version ≡ 1
+  pub key : IsKeyOf root.version root.key
+  pub version : root.version ≡ device.version
+  pub first : device.version ≡ 1
   pub level : root.level ≡ 1
   pub order : root.order ≡ device.order
   pub blocks : root.blocks ≡ device.blocks

@@ -1,17 +1,21 @@
 -- What a page says under a key, and what is wanted where.
 use Rattle.std.specs.Prelude.{◌≡◌, ◌==◌, ◌<◌, ◌≤◌, ◌/◌, ℕ, List, Some, All, IfSome, if◌then◌else◌, length, slice_get}
+use Rattle.sdbt_base.specs.Keys.{version_of}
 use Rattle.seal_record.specs.Sealing.{masked}
+use Rattle.page_digest.specs.Digest.{FitsDigest}
 use Rattle.node_codec.specs.declared.body.Entry.{Entry}
 use Rattle.node_codec.specs.Record.{Record, DataRecord, NodeRecord, FitsRecord, record_bytes}
 use Rattle.root_codec.specs.declared.root.Root.{Root}
 use Rattle.page_store.specs.declared.wants.Want.{Want}
 
--- the page at an address is, under a key, the record of that address with this value
+-- the page at an address is, under a key, the record of that address with this value, in the version of the key; and where the key names
+-- the digest of its page, it is the page's
 pub record IsRecordAt (pages : List (List ℕ)) (addr : ℕ) (key : List ℕ) (value : Record) : Type 0 where
   pub page : List ℕ
   pub reads : slice_get pages addr ≡ Some page
-  pub in_range : FitsRecord addr value
-  pub spelled : masked key page ≡ record_bytes addr value
+  pub in_range : FitsRecord (version_of key) addr value
+  pub spelled : masked key page ≡ record_bytes (version_of key) addr value
+  pub digested : FitsDigest key page
 
 -- a node of the level, with as many entries as may be, whose lows are within the bounds; an inner node begins at the lower bound
 pub record IsNodeWanted (want : Want) (level : ℕ) (entries : List Entry) : Type 0 where
@@ -27,10 +31,10 @@ abbrev pub IsWanted : Want → Record → Type 0
 IsWanted want (DataRecord block content) = (want.level ≡ 0) × (block ≡ want.low)
 IsWanted want (NodeRecord level entries) = IsNodeWanted want level entries
 
--- the bytes are a record that is wanted
-pub record IsWantedRecord (want : Want) (body : List ℕ) (value : Record) : Type 0 where
-  pub in_range : FitsRecord want.addr value
-  pub spelled : body ≡ record_bytes want.addr value
+-- the bytes are a record of the version that is wanted
+pub record IsWantedRecord (version : ℕ) (want : Want) (body : List ℕ) (value : Record) : Type 0 where
+  pub in_range : FitsRecord version want.addr value
+  pub spelled : body ≡ record_bytes version want.addr value
   pub wanted : IsWanted want value
 
 -- the page at the place is, under the key, a record that is wanted there

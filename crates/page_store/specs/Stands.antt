@@ -1,7 +1,7 @@
 -- Which device an image stands for.
 use Rattle.std.specs.Prelude.{◌≡◌, ◌≢◌, ◌<◌, ◌≤◌, ℕ, List, Option, None, Some, All, AllPairs, length, map, slice_get}
 use Rattle.std.specs.FinMap.{from_entries}
-use Rattle.sdbt_base.specs.Bytes.{IsBytes}
+use Rattle.sdbt_base.specs.Keys.{IsKeyOf}
 use Rattle.platform.specs.Image.{Image}
 use Rattle.root_codec.specs.declared.root.Root.{Root}
 use Rattle.root_codec.specs.RootRecord.{FitsRoot, root_bytes}
@@ -16,8 +16,9 @@ pairs_of parts = map (λ m. (m.block, m.content)) parts.mapped
 pub record StandsBy (image : Image) (device : Device) (root : Root) (parts : Parts) : Type 0 where
   pub cell : image.cell ≡ Some (root_bytes root)
   pub in_range : FitsRoot root
-  pub key : IsBytes 32 root.key
-  pub version : device.version ≡ 1
+  pub key : IsKeyOf root.version root.key
+  pub version : root.version ≡ device.version
+  pub first : device.version ≡ 1
   pub order : root.order ≡ device.order
   pub blocks : root.blocks ≡ device.blocks
   pub number : root.commit ≡ device.number

@@ -1,6 +1,7 @@
-ghost use Rattle.std.specs.Prelude.{◌≡◌, ◌<◌, All, Contains, IfOk, IsErrOf, length};
+ghost use Rattle.std.specs.Prelude.{◌≡◌, ◌<◌, ℕ, All, Contains, IfOk, IsErrOf, length};
 ghost use Rattle.sdbt_base.specs.Faults.{TellsOf};
 ghost use Rattle.sdbt_base.specs.Bytes.{IsBytes};
+ghost use Rattle.sdbt_base.specs.Keys.{bare};
 ghost use Rattle.seal_record.specs.Sealing.{masked};
 ghost use Rattle.node_codec.specs.Record.{Record, FitsRecord, record_bytes};
 ghost use Rattle.page_store.specs.Appending.{IsPlaced, MayBePlaced, AddsOne};
@@ -41,11 +42,11 @@ impl Buffers {
 
         // Where the body is a record of the next address: a page that was handed over is that record, sealed under the key that
         // was drawn, and with this key each moment keeps the keys that the image kept before.
-        ensures keeps { (value : Record) → FitsRecord (P.head platform.old) value
-            → self.old.body ≡ record_bytes (P.head platform.old) value
+        ensures keeps { (version : ℕ) (value : Record) → FitsRecord version (P.head platform.old) value
+            → self.old.body ≡ record_bytes version (P.head platform.old) value
             → KeepsKeys P.tells (T.drawn tape.old) (T.drawn tape.new) (P.history platform.old) (P.history platform.new)
             (IsNextRecord (P.history platform.old).present value)
-            (λ keys. IfOk result (λ placed. Contains keys placed.key)) }
+            (λ keys. IfOk result (λ placed. Contains keys (bare placed.key))) }
 
         ensures adds { AddsOne P.Platform T.Tape platform.old platform.new tape.old tape.new }
         ensures body { self.new.body ≡ self.old.body }

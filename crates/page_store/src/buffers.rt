@@ -1,12 +1,14 @@
-ghost use Rattle.std.specs.Prelude.{◌≡◌, ◌<◌, ◌≤◌, ◌+◌, ◌-◌, Some, IfOk, OnOk, drop, length, replicate, slice_get};
+ghost use Rattle.std.specs.Prelude.{◌≡◌, ◌↔◌, ◌<◌, ◌≤◌, ◌+◌, ◌-◌, ℕ, Some, IsTrue, IfOk, OnOk, drop, length, replicate, slice_get};
 ghost use Rattle.sdbt_base.specs.Faults.{Tells};
 ghost use Rattle.seal_record.specs.Sealing.{masked};
+ghost use Rattle.page_digest.specs.Digest.{FitsDigest};
 ghost use Rattle.node_codec.specs.Record.{DataRecord, NodeRecord, FitsNode, record_bytes};
 ghost use Rattle.page_store.specs.Buffer.{Held, content_of, IsBlank};
 ghost use Rattle.page_store.specs.Reading.{ReadsPage};
 ghost use Rattle.sdbt_base.specs.Arrays.{padded};
 
 use node_codec::{Entry, encode_block_over, encode_node};
+use page_digest::fits_digest;
 use platform::Platform;
 use sdbt_base::{Key, Memory, PlatformFault, RECORD};
 use seal_record::unseal;
@@ -70,23 +72,30 @@ impl Buffers {
     pub fn put_block(&mut self, addr: u64, block: u64, content: &[u8])
         requires block { block < 1048576 }
         requires content { length content.now ≤ 4096 }
-        ensures { self.new ≡ record self.old {
-          body = record_bytes addr (DataRecord block (padded content.now));
+        ensures { (version : ℕ) → self.new ≡ record self.old {
+          body = record_bytes version addr (DataRecord block (padded content.now));
         } }
     {
         encode_block_over(addr, block, content, self.zeros, &mut self.body);
         self.zeros = HEAD + content.len();
     }
 
-    /// Makes the body the node of `level` with these entries at `addr`.
-    pub fn put_node(&mut self, addr: u64, level: u8, entries: &[Entry])
-        requires { FitsNode addr level entries.now }
+    /// Makes the body the node of `level` with these entries at `addr`, in the version.
+    pub fn put_node(&mut self, addr: u64, level: u8, version: u8, entries: &[Entry])
+        requires { FitsNode version addr level entries.now }
         ensures { self.new ≡ record self.old {
-          body = record_bytes addr (NodeRecord level entries.now);
+          body = record_bytes version addr (NodeRecord level entries.now);
         } }
     {
-        encode_node(addr, level, entries, &mut self.body);
+        encode_node(addr, level, version, entries, &mut self.body);
         self.zeros = RECORD;
+    }
+
+    /// Whether the page that was read last has the digest that a key names, if it names one. This hashes the page.
+    pub(crate) fn has_digest_of(&self, key: &Key) -> bool
+        ensures { IsTrue result ↔ FitsDigest key.now self.now.page }
+    {
+        fits_digest(key, &self.page)
     }
 
     /// Reads the page at `addr` and unseals it under the key. After a fault the buffers may hold anything.

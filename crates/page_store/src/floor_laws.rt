@@ -1,5 +1,7 @@
 //! Laws of what is deleted. The functions do nothing: each has its law as its contract.
 ghost use Rattle.std.specs.Prelude.{◌≡◌, ◌≤◌, ◌^◌, ℕ, List, Option, length};
+ghost use Rattle.sdbt_base.specs.Keys.{key_size};
+ghost use Rattle.record_versions.specs.Versions.{IsVersion};
 ghost use Rattle.platform.specs.Image.{LeavesOnly};
 ghost use Rattle.key_graph.specs.Chains.{Distinct, OneOpener};
 ghost use Rattle.sdbt_base.specs.Arrays.{Device};
@@ -12,7 +14,7 @@ ghost use Rattle.page_store.specs.Floors.{head_in, Forgets, KeepsDeleted, NeverR
 
 /// The head field of a root record.
 pub fn head_of_root()
-    ensures { (root : Root) → root.head ≤ 2 ^ 32 → length root.key ≡ 32 → head_in (root_bytes root) ≡ root.head }
+    ensures { (root : Root) → root.head ≤ 2 ^ 32 → IsVersion root.version → length root.key ≡ key_size root.version → head_in (root_bytes root) ≡ root.head }
 {}
 
 /// A run of calls, each of which forgets, keeps deleted what was deleted.

@@ -1,5 +1,6 @@
 //! Laws of images and keys. The functions do nothing: each has its law as its contract.
 ghost use Rattle.std.specs.Prelude.{◌≡◌, ℕ, List, Option, None, Some, [], ◌∷◌, ◌++◌, All, Contains, length};
+ghost use Rattle.sdbt_base.specs.Keys.{bare};
 ghost use Rattle.platform.specs.Image.{Image, MayLeave, MayHavePage, LeavesOnly, with_cell, all_synced};
 ghost use Rattle.platform.specs.History.{History, During};
 ghost use Rattle.seal_record.specs.Sealing.{Opens};
@@ -17,7 +18,7 @@ ghost use Rattle.page_store.specs.Kept.{links_of, Kept, ReachesTree};
 /// A tree gives a map from addresses to keys that opening does not lead out of, from the key of its root record.
 pub fn tree_is_closed()
     ensures { (pages : List (List ℕ)) (root : Root) (parts : Parts) → Tree pages root parts →
-        IsClosed pages (root.key ∷ []) (links_of parts.places) }
+        IsClosed pages (bare root.key ∷ []) (links_of parts.places) }
 {}
 
 /// What keeps the keys of an image.
@@ -32,8 +33,8 @@ pub fn keeps_keys()
     ensures synced { (keys : List (List ℕ)) (image : Image) → Kept keys image → Kept keys (all_synced image) }
     ensures cleared { (keys : List (List ℕ)) (image : Image) → Kept keys image → Kept keys (with_cell image None) }
     ensures swapped { (keys : List (List ℕ)) (image : Image) (device : Device) (root : Root) (parts : Parts) → Kept keys image →
-        StandsBy (with_cell image (Some (root_bytes root))) device root parts → Contains keys root.key →
-        All (λ p. Contains keys p.key) parts.places → Kept keys (with_cell image (Some (root_bytes root))) }
+        StandsBy (with_cell image (Some (root_bytes root))) device root parts → Contains keys (bare root.key) →
+        All (λ p. Contains keys (bare p.key)) parts.places → Kept keys (with_cell image (Some (root_bytes root))) }
     // What a loss of power leaves is what the next run begins with.
     ensures left { (keys : List (List ℕ)) (image left : Image) (device : Option Device) →
         Stands image device → Kept keys image → MayLeave image left → Kept keys left }

@@ -1,17 +1,16 @@
 -- How many data records a seizure counts of an image that stands for a device: as many as blocks are mapped, under the premises on keys.
-use Rattle.sdbt_base.specs.Keys.{bare}
-use Rattle.sdbt_base.proofs.KeyLaws.{bare_plain}
-use Rattle.std.proofs.Common.{◌≡◌, ◌==◌, ◌<◌, true, Bool, ℕ, zero, suc, List, [], ◌∷◌, ◌++◌, Some, map, length, refl, sym, ◌∙◌, ap, subst, arith}
+use Rattle.sdbt_base.specs.Keys.{bare, version_of}
+use Rattle.std.proofs.Common.{◌≡◌, ◌==◌, ◌<◌, ◌+◌, true, false, Bool, if◌then◌else◌, ℕ, zero, suc, List, [], ◌∷◌, ◌++◌, Some, map, length, refl, sym, ◌∙◌, ap, subst, arith}
 use Rattle.std.specs.Prelude.{◌≢◌, All, AllPairs, Contains, slice_get}
 use Rattle.std.specs.List.{filter}
-use Rattle.std.proofs.lemmas.Bool.{eqb-true, eq-eqb}
+use Rattle.std.proofs.lemmas.Bool.{eqb-true}
 use Rattle.std.proofs.lemmas.List.{map-append, get_or-map, length-map}
 use Rattle.std.proofs.lemmas.List.Elements.{All-nil, All-cons, All-map, All-append, All-contains, filter-append, filter_passes}
 use Rattle.std.proofs.lemmas.List.Kept.{AllPairs-filter}
 use Rattle.platform.specs.Image.{Image}
 use Rattle.seal_record.specs.Sealing.{masked}
 use Rattle.node_codec.specs.declared.body.Entry.{Entry}
-use Rattle.node_codec.specs.Record.{DataRecord, NodeRecord, head_fields, record_bytes}
+use Rattle.node_codec.specs.Record.{DataRecord, NodeRecord, record_bytes}
 use Rattle.root_codec.specs.declared.root.Root.{Root}
 use Rattle.sdbt_base.specs.Arrays.{Device}
 use Rattle.sdbt_base.specs.Traces.{TraceEntry, DataOf, NodeOver}
@@ -27,6 +26,7 @@ use Rattle.page_store.specs.Tree.{Place, Mapped, Parts, joined, bound_of, EachCh
 use Rattle.page_store.specs.Kept.{IsRootOf, Kept, links_of}
 use Rattle.page_store.specs.Stands.{StandsBy}
 use Rattle.page_store.proofs.TreeMaps.{tree_closed}
+use Rattle.page_store.proofs.RecordYields.{masked_bare, data_kind, node_kind}
 use Rattle.seizure.specs.Opened.{count_of_kind}
 use Rattle.seizure.specs.Report.{Seized, IsSeizure}
 use Rattle.seizure.proofs.CountLaws.{counted, kept_inside, inside_kept}
@@ -36,28 +36,32 @@ same_some x y same = cc
 
 -- ---- which kinds of records a tree has
 
-data_kind : (addr block : ℕ) (content : List ℕ) → kind_of (record_bytes addr (DataRecord block content)) ≡ 1
-unfolding record_bytes head_fields
-data_kind addr block content = refl
+-- the record that a trace tells of is a data record
+abbrev is_data : TraceEntry → Bool
+is_data (DataOf block) = true
+is_data (NodeOver children) = false
 
-node_kind : (addr level : ℕ) (entries : List Entry) → kind_of (record_bytes addr (NodeRecord level entries)) ≡ 2
-unfolding record_bytes head_fields
-node_kind addr level entries = refl
-
--- the kind of a record that a trace tells of
-abbrev kind_in : TraceEntry → ℕ
-kind_in (DataOf block) = 1
-kind_in (NodeOver children) = 2
-
--- the page at a place is, under the place's key, of the kind that its trace tells
+-- the page at a place is, under the place's key, a data record exactly where its trace tells of one
 record IsOfKind (pages : List (List ℕ)) (place : Place) : Type 0 where
   page : List ℕ
   there : slice_get pages place.addr ≡ Some page
-  kind : kind_of (masked place.key page) ≡ kind_in place.trace
+  kind : (kind_of (masked (bare place.key) page) == 1) ≡ is_data place.trace
+
+-- no node is of the kind of a data record
+no_data_kind : (is_long : Bool) → ((if is_long then 2 else 1) + 1 == 1) ≡ false
+no_data_kind true = refl
+no_data_kind false = refl
+
+data_is : (key page : List ℕ) (version addr block : ℕ) (content : List ℕ) → masked key page ≡ record_bytes version addr (DataRecord block content) → (kind_of (masked (bare key) page) == 1) ≡ true
+data_is key page version addr block content spelled = ap (λ (body : List ℕ). kind_of body == 1) (masked_bare key page ∙ spelled) ∙ ap (λ (kind : ℕ). kind == 1) (data_kind version addr block content)
+
+node_is : (key page : List ℕ) (addr level : ℕ) (entries : List Entry) → masked key page ≡ record_bytes (version_of key) addr (NodeRecord level entries) → (kind_of (masked (bare key) page) == 1) ≡ false
+node_is key page addr level entries spelled =
+    ap (λ (body : List ℕ). kind_of body == 1) (masked_bare key page ∙ spelled) ∙ ap (λ (kind : ℕ). kind == 1) (node_kind (version_of key) addr level entries) ∙ no_data_kind (length key == 64)
 
 -- the places of data records among these
 abbrev data_among : List Place → List Place
-data_among places = filter (λ p. kind_in p.trace == 1) places
+data_among places = filter (λ p. is_data p.trace) places
 
 -- the place of a mapped block's data record
 abbrev place_of : Mapped → Place
@@ -78,7 +82,7 @@ each_data pages Below order level high (entry ∷ entries) (parts ∷ children) 
     let rest = each_data pages Below order level high entries children below each.1 in
     record {
       kinds = All-append (IsOfKind pages) parts.places (joined children).places first.kinds rest.kinds;
-      blocks = filter-append (λ (p : Place). kind_in p.trace == 1) parts.places (joined children).places
+      blocks = filter-append (λ (p : Place). is_data p.trace) parts.places (joined children).places
           ∙ (λ i. first.blocks i ++ rest.blocks i)
           ∙ sym (map-append place_of parts.mapped (joined children).mapped);
     }
@@ -88,12 +92,12 @@ unfolding Subtree
 subtree_data pages order zero want key parts is =
     let fits = is.fits.0 in
     let here : Place = record { addr = want.addr; key = key; trace = DataOf want.low } in
-    let kind : IsOfKind pages here = record { page = fits.page; there = fits.reads; kind = ap kind_of fits.spelled ∙ data_kind want.addr want.low is.content } in
+    let kind : IsOfKind pages here = record { page = fits.page; there = fits.reads; kind = data_is key fits.page (version_of key) want.addr want.low is.content fits.spelled } in
     subst (HasData pages) (sym is.has) (record { kinds = All-cons (IsOfKind pages) here [] kind (All-nil (IsOfKind pages)); blocks = refl })
 subtree_data pages order (suc level) want key parts is =
     let fits = is.fits.0 in
     let here : Place = record { addr = want.addr; key = key; trace = NodeOver (map (λ (e : Entry). e.addr) is.entries) } in
-    let kind : IsOfKind pages here = record { page = fits.page; there = fits.reads; kind = ap kind_of fits.spelled ∙ node_kind want.addr (suc level) is.entries } in
+    let kind : IsOfKind pages here = record { page = fits.page; there = fits.reads; kind = node_is key fits.page want.addr (suc level) is.entries fits.spelled } in
     let below = each_data pages (Subtree pages order level) order level want.high is.entries is.children (subtree_data pages order level) is.each in
     subst (HasData pages) (sym is.has) (record { kinds = All-cons (IsOfKind pages) here (joined is.children).places kind below.kinds; blocks = below.blocks })
 
@@ -148,32 +152,34 @@ module _ (keys pages roots : List (List ℕ)) (parts : Parts) (known : IsKnown k
   -- a body of kind 1 is that of a data record
   body_place : (addr block : ℕ) → ReachedBody roots pages addr 1 block → (place : Place) × Contains (data_among parts.places) place × (place.addr ≡ addr)
   body_place addr block body =
-      let found = contains_map (λ (p : Place). link p.addr p.key) parts.places (link addr body.key) (ends_inside (link addr body.key) body.ends) in
+      let found = contains_map (λ (p : Place). link p.addr (bare p.key)) parts.places (link addr body.key) (ends_inside (link addr body.key) body.ends) in
       let place : Place = found.0 in
       let is : IsOfKind pages place = All-contains (IsOfKind pages) parts.places place known.has.kinds found.1 in
       let at : place.addr ≡ addr = ap (λ (l : Link). l.addr) found.2 in
-      let key : place.key ≡ body.key = ap (λ (l : Link). l.key) found.2 in
+      let key : bare place.key ≡ body.key = ap (λ (l : Link). l.key) found.2 in
       let page : is.page ≡ body.page = same_some _ _ (sym is.there ∙ ap (slice_get pages) at ∙ body.there) in
-      let kind : kind_in place.trace ≡ 1 = sym is.kind ∙ ap (λ (k : List ℕ). kind_of (masked k is.page)) key ∙ ap (λ (p : List ℕ). kind_of (masked body.key p)) page ∙ sym body.kind_is in
-      (place, inside_kept (λ (p : Place). kind_in p.trace == 1) parts.places place found.1 (eq-eqb (kind_in place.trace) 1 kind), at)
+      let one : kind_of (masked (bare place.key) is.page) ≡ 1 = ap (λ (k : List ℕ). kind_of (masked k is.page)) key ∙ ap (λ (p : List ℕ). kind_of (masked body.key p)) page ∙ sym body.kind_is in
+      let kind : is_data place.trace ≡ true = sym is.kind ∙ ap (λ (n : ℕ). n == 1) one in
+      (place, inside_kept (λ (p : Place). is_data p.trace) parts.places place found.1 kind, at)
 
   -- the body of a data record is reached
   place_body : (place : Place) → Contains (data_among parts.places) place → (block : ℕ) × ReachedBody roots pages place.addr 1 block
   place_body place has =
-      let test : Place → Bool = λ p. kind_in p.trace == 1 in
+      let test : Place → Bool = λ p. is_data p.trace in
       let inside : Contains parts.places place = kept_inside test parts.places place has in
-      let linked : Contains (links_of parts.places) (link place.addr place.key) = map_contains (λ (p : Place). link p.addr p.key) parts.places place inside in
+      let linked : Contains (links_of parts.places) (link place.addr (bare place.key)) = map_contains (λ (p : Place). link p.addr (bare p.key)) parts.places place inside in
       let is : IsOfKind pages place = All-contains (IsOfKind pages) parts.places place known.has.kinds inside in
-      let kind : kind_in place.trace ≡ 1 = eqb-true (kind_in place.trace) 1 (All-contains (λ (p : Place). test p ≡ true) (data_among parts.places) place (filter_passes test parts.places) has) in
-      let reached = All-contains (λ (l : Link). Reached roots pages l.addr) (links_of parts.places) (link place.addr place.key) known.closed.reached linked in
-      let key : reached.0 ≡ place.key = one_key place.addr reached.0 place.key (ends_inside (link place.addr reached.0) reached.1) linked in (
-        block_of (masked place.key is.page),
+      let holds : is_data place.trace ≡ true = All-contains (λ (p : Place). test p ≡ true) (data_among parts.places) place (filter_passes test parts.places) has in
+      let kind : kind_of (masked (bare place.key) is.page) ≡ 1 = eqb-true (kind_of (masked (bare place.key) is.page)) 1 (is.kind ∙ holds) in
+      let reached = All-contains (λ (l : Link). Reached roots pages l.addr) (links_of parts.places) (link place.addr (bare place.key)) known.closed.reached linked in
+      let key : reached.0 ≡ bare place.key = one_key place.addr reached.0 (bare place.key) (ends_inside (link place.addr reached.0) reached.1) linked in (
+        block_of (masked (bare place.key) is.page),
         record {
-          key = place.key;
+          key = bare place.key;
           page = is.page;
           ends = subst (λ (k : List ℕ). ChainEnds roots pages (link place.addr k)) key reached.1;
           there = is.there;
-          kind_is = sym (is.kind ∙ kind);
+          kind_is = sym kind;
           block_is = refl;
         },
       )
@@ -194,7 +200,7 @@ addresses_apart places apart i j d below inside same =
 known_counted : (keys pages roots : List (List ℕ)) (parts : Parts) (seized : Seized) → IsKnown keys pages roots parts → IsSeizure roots pages seized → count_of_kind 1 seized.opened ≡ length parts.mapped
 known_counted keys pages roots parts seized known is =
     let places : List Place = data_among parts.places in
-    let apart = AllPairs-filter (λ p q. p.addr ≢ q.addr) (λ (p : Place). kind_in p.trace == 1) parts.places known.apart in
+    let apart = AllPairs-filter (λ p q. p.addr ≢ q.addr) (λ (p : Place). is_data p.trace) parts.places known.apart in
     counted roots pages seized 1 (map (λ (p : Place). p.addr) places) is (addresses_apart places apart)
     (λ addr. (
       λ has.
@@ -212,14 +218,14 @@ known_counted keys pages roots parts seized known is =
 -- ---- an image that stands for a device
 
 is_known : (keys : List (List ℕ)) (image : Image) (device : Device) (root : Root) (parts : Parts) → StandsBy image device root parts → Kept keys image → KeyPremises keys image.recorded
-    → image.readable ≡ image.recorded → IsKnown keys image.readable (root.key ∷ []) parts
+    → image.readable ≡ image.recorded → IsKnown keys image.readable (bare root.key ∷ []) parts
 is_known keys image device root parts stands kept premises same =
     let is : IsRootOf image root = record { cell = stands.cell; in_range = stands.in_range; key = stands.key } in
     record {
       has = subtree_data image.readable root.order root.level (root_want root) root.key parts stands.tree;
       apart = stands.apart;
       closed = tree_closed image.readable root parts stands.tree;
-      listed = All-map (λ (l : Link). Contains keys l.key) (λ (p : Place). link p.addr p.key) parts.places ((kept.cell root is).places parts stands.tree);
+      listed = All-map (λ (l : Link). Contains keys l.key) (λ (p : Place). link p.addr (bare p.key)) parts.places ((kept.cell root is).places parts stands.tree);
       own = subst (HaveOwnKeys keys) (sym same) kept.pages;
       premises = subst (KeyPremises keys) (sym same) premises;
     }
@@ -227,5 +233,4 @@ is_known keys image device root parts stands kept premises same =
 pub mapped_counted : (keys : List (List ℕ)) (image : Image) (device : Device) (root : Root) (parts : Parts) (seized : Seized) → StandsBy image device root parts → Kept keys image
     → KeyPremises keys image.recorded → image.readable ≡ image.recorded → IsSeizure (bare root.key ∷ []) image.readable seized → count_of_kind 1 seized.opened ≡ length parts.mapped
 mapped_counted keys image device root parts seized stands kept premises same is =
-    known_counted keys image.readable (root.key ∷ []) parts seized (is_known keys image device root parts stands kept premises same)
-    (subst (λ (k : List ℕ). IsSeizure (k ∷ []) image.readable seized) (bare_plain root.key stands.key.0) is)
+    known_counted keys image.readable (bare root.key ∷ []) parts seized (is_known keys image device root parts stands kept premises same) is

@@ -60,12 +60,12 @@ body_reached roots pages addr key found opens = record {
 yields_there : (pages : List (List ℕ)) (addr : ℕ) (key other : List ℕ) → OpensAt pages (link addr key) → HasKey (body_at pages key addr) other → YieldsAt pages (link addr key) other
 yields_there pages addr key other opens has =
     let is = subst (λ (body : List ℕ). HasKey body other) (page_is pages key addr opens.page opens.there) has in
-    record { page = opens.page; there = opens.there; opens = opens.opens; yields = record { entry = is.entry; node = is.node; within = is.within; here = is.here } }
+    record { page = opens.page; there = opens.there; opens = opens.opens; yields = record { entry = is.1.entry; size = is.0; node = is.1.node; within = is.1.within; here = is.1.here } }
 
 has_there : (pages : List (List ℕ)) (at : Link) (other : List ℕ) → YieldsAt pages at other → HasKey (body_at pages at.key at.addr) other
 has_there pages at other yields =
     subst (λ (body : List ℕ). HasKey body other) (sym (page_is pages at.key at.addr yields.page yields.there))
-    (record { entry = yields.yields.entry; node = yields.yields.node; within = yields.yields.within; here = yields.yields.here })
+    (yields.yields.size, record { entry = yields.yields.entry; node = yields.yields.node; within = yields.yields.within; here = yields.yields.here })
 
 opens_there : (pages : List (List ℕ)) (at : Link) (other : List ℕ) → YieldsAt pages at other → OpensAt pages at
 opens_there pages at other yields = record { page = yields.page; there = yields.there; opens = yields.opens }

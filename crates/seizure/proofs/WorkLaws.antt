@@ -1,5 +1,5 @@
 -- The set of keys beside their list, and what the list gains.
-use Rattle.std.proofs.Common.{◌≡◌, ◌⊎◌, ◌↔◌, ◌<◌, ◌+◌, inl, inr, true, false, not, Bool, ℕ, List, [], ◌∷◌, ◌++◌, take, length, get_or, refl, sym, ap, ap₂, map, subst, ◌∙◌, arith, append-nil, append_assoc}
+use Rattle.std.proofs.Common.{◌≡◌, ◌⊎◌, ◌↔◌, ◌<◌, ◌≤◌, ◌+◌, ◌*◌, inl, inr, true, false, not, Bool, ℕ, List, [], ◌∷◌, ◌++◌, take, length, get_or, refl, sym, ap, ap₂, map, subst, ◌∙◌, arith, append-nil, append_assoc}
 use Rattle.std.specs.Prelude.{◌≢◌, Contains, IsTrue}
 use Rattle.std.specs.Ordering.{nat_cmp}
 use Rattle.std.specs.Cmp.Lexicographic.{slice_cmp}
@@ -13,7 +13,7 @@ use Rattle.std.proofs.lemmas.List.Elements.{All-nil, All-cons, All-weaker, All-a
 use Rattle.std.proofs.lemmas.Map.Lookups.{exact_bytes}
 use Rattle.std.proofs.lemmas.Map.Views.{tells_apart}
 use Rattle.key_graph.specs.Chains.{Distinct}
-use Rattle.key_graph.specs.Opening.{kind_of, key_in}
+use Rattle.key_graph.specs.Opening.{kind_of, IsNodeKind, count_of, key_in}
 use Rattle.seizure.specs.declared.opened.Opened.{Opened}
 use Rattle.seizure.specs.declared.work.Work.{Work}
 use Rattle.seizure.specs.Opened.{told_of}
@@ -97,22 +97,49 @@ gains_listed a b c keys i x within is one other =
     (λ key has. elim (Contains-push_cases (take i keys) x key has) [ inl before ↦ inl before | inr same ↦ inr (sym same) ]))
 
 -- the key in each entry of a node, in turn
-pub gains_entry : (a b c : List (List ℕ)) (body : List ℕ) (i : ℕ) → kind_of body ≡ 2 → Gains a b (HasBelow body i) → Gains b c (λ key. key ≡ key_in body i) → Gains a c (HasBelow body (i + 1))
-gains_entry a b c body i node one other = gains_then a b c (HasBelow body i) (λ key. key ≡ key_in body i) (HasBelow body (i + 1)) one other
+pub gains_entry : (a b c : List (List ℕ)) (body : List ℕ) (size i : ℕ) → IsNodeKind (kind_of body) size → Gains a b (HasBelow body size i) → Gains b c (λ key. key ≡ key_in size body i) → Gains a c (HasBelow body size (i + 1))
+gains_entry a b c body size i node one other = gains_then a b c (HasBelow body size i) (λ key. key ≡ key_in size body i) (HasBelow body size (i + 1)) one other
     (λ key has. record { entry = has.entry; node = node; within = omega (arith, has.within); here = has.here })
     (λ key same. record { entry = i; node = node; within = omega arith; here = same })
     (λ key has. elim (cases_lt has.entry i) [
       | inl before ↦ inl (record { entry = has.entry; node = node; within = before; here = has.here })
-      | inr most ↦ let at : has.entry ≡ i = omega (arith, has.within) in inr (has.here ∙ ap (key_in body) at)
+      | inr most ↦ let at : has.entry ≡ i = omega (arith, has.within) in inr (has.here ∙ ap (key_in size body) at)
     ])
 
 -- no key is in an entry before the first
-pub gains_no_entry : (keys : List (List ℕ)) (body : List ℕ) → Gains keys keys (HasBelow body 0)
-gains_no_entry keys body = gains_none keys (HasBelow body 0) (λ key has. absurd (omega (arith, has.within)))
+pub gains_no_entry : (keys : List (List ℕ)) (body : List ℕ) (size : ℕ) → Gains keys keys (HasBelow body size 0)
+gains_no_entry keys body size = gains_none keys (HasBelow body size 0) (λ key has. absurd (omega (arith, has.within)))
 
 -- nor in what is no node
-pub gains_no_node : (keys : List (List ℕ)) (body : List ℕ) (count : ℕ) → (kind_of body ≡ 2 → ⊥) → Gains keys keys (HasBelow body count)
-gains_no_node keys body count other = gains_none keys (HasBelow body count) (λ key has. absurd (other has.node))
+pub gains_no_node : (keys : List (List ℕ)) (body : List ℕ) → ((size : ℕ) → IsNodeKind (kind_of body) size → ⊥) → Gains keys keys (HasKey body)
+gains_no_node keys body other = gains_none keys (HasKey body) (λ key has. absurd (other has.0 has.1.node))
+
+-- the size of an entry goes with the kind
+pub one_size : (kind one other : ℕ) → IsNodeKind kind one → IsNodeKind kind other → other ≡ one
+one_size kind one other is is' = omega (arith, is, is')
+
+-- the keys in all entries of a node
+pub gains_all_entries : (old new : List (List ℕ)) (body : List ℕ) (size count : ℕ) → IsNodeKind (kind_of body) size → count ≡ count_of size body → Gains old new (HasBelow body size count) → Gains old new (HasKey body)
+gains_all_entries old new body size count node all gains = record {
+  more = gains.more;
+  gained = gains.gained;
+  some = All-weaker (HasBelow body size count) (HasKey body)
+      (λ key has. (size, record { entry = has.entry; node = has.node; within = omega (arith, has.within, all); here = has.here })) gains.more gains.some;
+  each = λ key has.
+      let mine = subst (λ (s : ℕ). HasBelow body s (count_of s body) key) (one_size (kind_of body) size has.0 node has.1.node) has.1 in
+      gains.each key (record { entry = mine.entry; node = mine.node; within = omega (arith, mine.within, all); here = mine.here });
+}
+
+-- an entry of a node lies within the body
+pub entry_within : (body : List ℕ) (size entry : ℕ) → IsNodeKind (kind_of body) size → entry < count_of size body → size * entry + 80 ≤ 4128
+entry_within body size entry node below = elim node [
+  | inl two ↦
+      let few : entry < count_of 48 body = subst (λ (s : ℕ). entry < count_of s body) two.1 below in
+      subst (λ (s : ℕ). s * entry + 80 ≤ 4128) (sym two.1) (omega (arith, few))
+  | inr three ↦
+      let few : entry < count_of 80 body = subst (λ (s : ℕ). entry < count_of s body) three.1 below in
+      subst (λ (s : ℕ). s * entry + 80 ≤ 4128) (sym three.1) (omega (arith, few))
+]
 
 -- ---- keys that were tried
 

@@ -1,5 +1,5 @@
 -- What is told of a page that was opened, and in which order.
-use Rattle.std.specs.Prelude.{◌≡◌, ◌==◌, ◌<◌, ◌⊎◌, ◌↔◌, ℕ, List, AllPairs, Contains, length}
+use Rattle.std.specs.Prelude.{◌≡◌, ◌==◌, ◌<◌, ◌⊎◌, ◌↔◌, ◌||◌, Bool, ℕ, List, AllPairs, Contains, length}
 use Rattle.std.specs.List.{filter}
 use Rattle.key_graph.specs.Opening.{kind_of, block_of}
 use Rattle.seizure.specs.declared.opened.Opened.{Opened}
@@ -11,6 +11,14 @@ told_of addr body = record { addr = addr; kind = kind_of body; block = block_of 
 -- how many of them are of a kind
 abbrev pub count_of_kind : ℕ → List Opened → ℕ
 count_of_kind kind opened = length (filter (λ o. o.kind == kind) opened)
+
+-- the kind of a node, in either version
+abbrev pub is_node_kind : ℕ → Bool
+is_node_kind kind = (kind == 2) || (kind == 3)
+
+-- how many of them are nodes
+abbrev pub count_of_nodes : List Opened → ℕ
+count_of_nodes opened = length (filter (λ o. is_node_kind o.kind) opened)
 
 -- one comes before another: by address, then by kind, then by block field
 abbrev pub IsBefore : Opened → Opened → Type 0

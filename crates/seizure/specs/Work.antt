@@ -4,7 +4,7 @@ use Rattle.std.specs.Ordering.{nat_cmp}
 use Rattle.std.specs.Cmp.Lexicographic.{slice_cmp}
 use Rattle.std.specs.BTreeSet.{contains}
 use Rattle.seal_record.specs.Sealing.{masked}
-use Rattle.key_graph.specs.Opening.{kind_of, count_of, key_in}
+use Rattle.key_graph.specs.Opening.{kind_of, IsNodeKind, count_of, key_in}
 use Rattle.key_graph.specs.Chains.{Distinct, ReachedBody}
 use Rattle.seizure.specs.declared.opened.Opened.{Opened}
 use Rattle.seizure.specs.declared.work.Work.{Work}
@@ -22,16 +22,16 @@ pub record Gains (old new : List (List ℕ)) (IsOne : List ℕ → Type 0) : Typ
   pub some : All IsOne more
   pub each : (key : List ℕ) → IsOne key → Contains new key
 
--- a body is of the kind of a node, and one of its first entries has the key
-pub record HasBelow (body : List ℕ) (count : ℕ) (key : List ℕ) : Type 0 where
+-- a body is of the kind of a node with entries of this size, and one of the first so many has the key
+pub record HasBelow (body : List ℕ) (size count : ℕ) (key : List ℕ) : Type 0 where
   pub entry : ℕ
-  pub node : kind_of body ≡ 2
+  pub node : IsNodeKind (kind_of body) size
   pub within : entry < count
-  pub here : key ≡ key_in body entry
+  pub here : key ≡ key_in size body entry
 
 -- one of its entries has the key
 abbrev pub HasKey : List ℕ → List ℕ → Type 0
-HasKey body key = HasBelow body (count_of body) key
+HasKey body key = (size : ℕ) × HasBelow body size (count_of size body) key
 
 -- what a key unmasks at an address
 abbrev pub body_at : List (List ℕ) → List ℕ → ℕ → List ℕ

@@ -1,8 +1,8 @@
 //! The report of a seizure.
 ghost use Rattle.std.specs.Prelude.{◌≡◌};
-ghost use Rattle.seizure.specs.Opened.{count_of_kind};
+ghost use Rattle.seizure.specs.Opened.{count_of_kind, count_of_nodes};
 
-use crate::opened::{Opened, count_of_kind};
+use crate::opened::{Opened, count_of_kind, count_of_nodes};
 use std::marker::Model;
 
 /// How many pages there are, and what was opened of them. It holds no key and no content.
@@ -42,11 +42,11 @@ impl Report {
         &self.opened
     }
 
-    /// How many of them are of kind 2, as nodes are.
+    /// How many of them are of kind 2 or 3, as nodes are.
     pub fn nodes(&self) -> u64
-        ensures { result ≡ count_of_kind 2 self.now.opened }
+        ensures { result ≡ count_of_nodes self.now.opened }
     {
-        count_of_kind(&self.opened, 2)
+        count_of_nodes(&self.opened)
     }
 
     /// How many of them are of kind 1, as data records are.

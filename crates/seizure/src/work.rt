@@ -1,7 +1,7 @@
 //! What a search has found: keys to try, and bodies that were opened.
-ghost use Rattle.std.specs.Prelude.{◌≡◌, ◌<◌, ◌++◌, ◌∷◌, [], Contains, OnOk, length, map};
+ghost use Rattle.std.specs.Prelude.{◌≡◌, ◌≤◌, ◌+◌, ◌*◌, ◌++◌, ◌∷◌, ℕ, [], Contains, IfSome, IfNone, OnOk, length, map};
 ghost use Rattle.sdbt_base.specs.Keys.{bare};
-ghost use Rattle.key_graph.specs.Opening.{kind_of, count_of, key_in};
+ghost use Rattle.key_graph.specs.Opening.{kind_of, IsNodeKind, count_of, key_in};
 ghost use Rattle.seizure.specs.Opened.{told_of, IsOrderOf};
 ghost use Rattle.seizure.specs.Work.{KnowsItsKeys, Gains, HasKey};
 
@@ -11,12 +11,6 @@ use key_graph::KeyList;
 use sdbt_base::{Key, Listed, Memory, RECORD};
 use std::alloc::Global;
 use std::collections::BTreeSet;
-
-/// The kind of a node.
-const NODE: u8 = 2;
-
-/// The most entries that a record has room for.
-const MOST: usize = 85;
 
 /// The keys that were found, each once, in the order in which they are tried, and what was opened.
 #[derive(Drop)]
@@ -77,24 +71,23 @@ impl Work {
     {
         let told = told(addr, body);
         self.opened.push(told)?;
-        if told.kind == NODE {
-            self.want_entries(body)
-        } else {
-            Ok(())
+        match entry_size(told.kind) {
+            Some(size) => self.want_entries(body, size),
+            None => Ok(()),
         }
     }
 
-    /// The keys in the entries of a node are to be tried.
-    fn want_entries(&mut self, body: &[u8]) -> Result<(), Memory>
+    /// The keys in the entries of a node, each of this size, are to be tried.
+    fn want_entries(&mut self, body: &[u8], size: usize) -> Result<(), Memory>
         requires size { length body.now ≡ RECORD }
-        requires node { kind_of body.now ≡ 2 }
+        requires node { IsNodeKind (kind_of body.now) size }
         requires known { KnowsItsKeys self.old }
         ensures known { OnOk result (KnowsItsKeys self.new) }
         ensures opened { self.new.opened ≡ self.old.opened }
         ensures keys { OnOk result (Gains self.old.keys self.new.keys (HasKey body.now)) }
     {
-        for entry in 0..count(body) {
-            self.want(&key_at(body, entry))?;
+        for entry in 0..count(body, size) {
+            self.want(&key_at(body, size, entry))?;
         }
         Ok(())
     }
@@ -124,23 +117,38 @@ fn told(addr: u64, body: &[u8]) -> Opened
     }
 }
 
-/// How many entries a body has by its count: as many as there is room for, at most.
-fn count(body: &[u8]) -> usize
-    requires { length body.now ≡ RECORD }
-    ensures { result ≡ count_of body.now }
+/// How many bytes an entry of a node of this kind has: with the digests of the second version, more. Other kinds are no
+/// nodes.
+fn entry_size(kind: u8) -> Option<usize>
+    ensures node { IfSome result (λ size. IsNodeKind kind size) }
+    ensures other { IfNone result ((size : ℕ) → ¬ (IsNodeKind kind size)) }
 {
-    let count = u16::from_be_bytes([body[18], body[19]]);
-    MOST.min(count as usize)
+    match kind {
+        2 => Some(48),
+        3 => Some(80),
+        _ => None,
+    }
 }
 
-/// The key in an entry of a body.
-fn key_at(body: &[u8], entry: usize) -> Key
+/// How many entries of this size a body has by its count: as many as there is room for, at most.
+fn count(body: &[u8], size: usize) -> usize
+    requires { length body.now ≡ RECORD }
+    ensures { result ≡ count_of size body.now }
+{
+    let count = u16::from_be_bytes([body[18], body[19]]);
+    let most = if size == 80 { 51 } else { 85 };
+    most.min(count as usize)
+}
+
+/// The key in an entry of a body. A digest behind it is left out.
+fn key_at(body: &[u8], size: usize, entry: usize) -> Key
     requires size { length body.now ≡ RECORD }
-    requires within { entry < MOST }
-    ensures value { result ≡ key_in body.now entry }
+    requires within { size * entry + 80 ≤ RECORD }
+    ensures value { result ≡ key_in size body.now entry }
     ensures plain { length result ≡ 32 }
 {
+    let at = size * entry + 48;
     let mut bytes = [0; 32];
-    bytes.copy_from_slice(&body[48 * entry + 48..48 * entry + 80]);
+    bytes.copy_from_slice(&body[at..at + 32]);
     Key::from_bytes(bytes)
 }

@@ -4,6 +4,7 @@ use Rattle.std.specs.Prelude.{Option, Some, Contains, slice_get}
 use Rattle.std.specs.List.{AllByRecursion}
 use Rattle.std.proofs.lemmas.List.{map-append, length-map}
 use Rattle.std.proofs.lemmas.List.Elements.{All-contains, All-map, All-from_recursion, Contains-append_left, Contains-append_right, Contains-push, Contains-push_cases, Contains-append_cases}
+use Rattle.sdbt_base.specs.Keys.{bare}
 use Rattle.platform.specs.Image.{Image, IsEither, all_synced}
 use Rattle.platform.specs.History.{History, CellStays, image_at}
 use Rattle.platform.proofs.Moments.{Extends-since, earlier-now}
@@ -17,7 +18,7 @@ use Rattle.key_graph.specs.OwnKeys.{HaveOwnKeys}
 use Rattle.key_graph.proofs.OwnLaws.{own_more, own_first, own_page}
 use Rattle.page_store.specs.Kept.{Kept}
 use Rattle.page_store.specs.Keeping.{DrewAll, IsSealedRecord, HandedOver, Keeps, KeepsKeys}
-use Rattle.page_store.proofs.RecordYields.{opens_record, node_yields}
+use Rattle.page_store.proofs.RecordYields.{masked_bare, opens_record, node_yields}
 use Rattle.page_store.proofs.KeptLaws.{kept_later}
 use Rattle.btree_twigs.specs.declared.twigs.Child.{Child, Child-F, out-Child}
 use Rattle.btree_twigs.specs.declared.twigs.Child.TheOpen.{Kept as KeptChild, Grown}
@@ -31,18 +32,18 @@ use Rattle.shadow_commit.proofs.ApartLaws.{get_behind}
 -- ---- keys of nodes
 
 abbrev pub keys_in : List Sealed → List (List ℕ)
-keys_in ns = map (λ (n : Sealed). n.key) ns
+keys_in ns = map (λ (n : Sealed). bare n.key) ns
 
 -- every key of these entries is listed
 abbrev pub AreListed : List (List ℕ) → List Entry → Type 0
-AreListed keys es = AllByRecursion (λ (e : Entry). Contains keys e.key) es
+AreListed keys es = AllByRecursion (λ (e : Entry). Contains keys (bare e.key)) es
 
 abbrev pub Within : List (List ℕ) → List (List ℕ) → Type 0
 Within keys more = (key : List ℕ) → Contains keys key → Contains more key
 
 pub listed_more : (keys more : List (List ℕ)) (es : List Entry) → Within keys more → AreListed keys es → AreListed more es
 listed_more keys more [] f h = tt
-listed_more keys more (e ∷ es) f h = (f e.key h.0, listed_more keys more es f h.1)
+listed_more keys more (e ∷ es) f h = (f (bare e.key) h.0, listed_more keys more es f h.1)
 
 push_within : (keys more : List (List ℕ)) (key : List ℕ) → Within keys more → Within (keys ++ key ∷ []) (more ++ key ∷ [])
 push_within keys more key f x c = go (Contains-push_cases keys key x c)
@@ -60,38 +61,38 @@ append_within a b c f g x h = go (Contains-append_cases a b x h)
 
 pub keys_more : (keys more : List (List ℕ)) (ns : List Sealed) → Within keys more → KeysAreFrom keys ns → KeysAreFrom more ns
 keys_more keys more [] f h = tt
-keys_more keys more (n ∷ ns) f h = (listed_more keys more n.entries f h.0, keys_more (keys ++ n.key ∷ []) (more ++ n.key ∷ []) ns (push_within keys more n.key f) h.1)
+keys_more keys more (n ∷ ns) f h = (listed_more keys more n.entries f h.0, keys_more (keys ++ bare n.key ∷ []) (more ++ bare n.key ∷ []) ns (push_within keys more (bare n.key) f) h.1)
 
 pub keys_append : (keys : List (List ℕ)) (xs ys : List Sealed) → KeysAreFrom keys xs → KeysAreFrom (keys ++ keys_in xs) ys → KeysAreFrom keys (xs ++ ys)
 keys_append keys [] ys h k = subst (λ ks. KeysAreFrom ks ys) (append-nil keys) k
 keys_append keys (x ∷ xs) ys h k =
-    let at : keys ++ (x.key ∷ keys_in xs) ≡ (keys ++ x.key ∷ []) ++ keys_in xs = sym (append_assoc keys (x.key ∷ []) (keys_in xs)) in
-    (h.0, keys_append (keys ++ x.key ∷ []) xs ys h.1 (subst (λ ks. KeysAreFrom ks ys) at k))
+    let at : keys ++ (bare x.key ∷ keys_in xs) ≡ (keys ++ bare x.key ∷ []) ++ keys_in xs = sym (append_assoc keys (bare x.key ∷ []) (keys_in xs)) in
+    (h.0, keys_append (keys ++ bare x.key ∷ []) xs ys h.1 (subst (λ ks. KeysAreFrom ks ys) at k))
 
 -- ---- keys of places
 
 pub in_places_left : (xs ys : List Stub) → Within (keys_at xs) (keys_at (xs ++ ys))
-in_places_left xs ys x has = subst (λ ks. Contains ks x) (sym (map-append (λ (s : Stub). s.key) xs ys)) (Contains-append_left (keys_at xs) (keys_at ys) x has)
+in_places_left xs ys x has = subst (λ ks. Contains ks x) (sym (map-append (λ (s : Stub). bare s.key) xs ys)) (Contains-append_left (keys_at xs) (keys_at ys) x has)
 
 pub in_places_right : (xs ys : List Stub) → Within (keys_at ys) (keys_at (xs ++ ys))
-in_places_right xs ys x has = subst (λ ks. Contains ks x) (sym (map-append (λ (s : Stub). s.key) xs ys)) (Contains-append_right (keys_at xs) (keys_at ys) x has)
+in_places_right xs ys x has = subst (λ ks. Contains ks x) (sym (map-append (λ (s : Stub). bare s.key) xs ys)) (Contains-append_right (keys_at xs) (keys_at ys) x has)
 
 -- ---- keys of what is sealed
 
 -- the keys in nodes and in the entry that names the topmost
 pub record KnowsChild (keys : List (List ℕ)) (ns : List Sealed) (e : Entry) : Type 0 where
   pub nodes : KeysAreFrom keys ns
-  pub own : Contains (keys ++ keys_in ns) e.key
+  pub own : Contains (keys ++ keys_in ns) (bare e.key)
 
 -- and in the entries that name children
 pub record KnowsChildren (keys : List (List ℕ)) (ns : List Sealed) (es : List Entry) : Type 0 where
   pub nodes : KeysAreFrom keys ns
   pub own : AreListed (keys ++ keys_in ns) es
 
-kept_known : (keys : List (List ℕ)) (low addr : ℕ) (key : List ℕ) (ns : List Sealed) (e : Entry) → Contains keys key → SealsKept low addr key ns e → KnowsChild keys ns e
+kept_known : (keys : List (List ℕ)) (low addr : ℕ) (key : List ℕ) (ns : List Sealed) (e : Entry) → Contains keys (bare key) → SealsKept low addr key ns e → KnowsChild keys ns e
 kept_known keys low addr key ns e has h = record {
   nodes = subst (KeysAreFrom keys) (sym h.none) tt;
-  own = Contains-append_left keys (keys_in ns) e.key (subst (Contains keys) (sym (ap (λ (e : Entry). e.key) h.entry_is)) has);
+  own = Contains-append_left keys (keys_in ns) (bare e.key) (subst (Contains keys) (sym (ap (λ (e : Entry). bare e.key) h.entry_is)) has);
 }
 
 children_known : (level : ℕ) → ((first high : ℕ) (c : Child) (ns : List Sealed) (e : Entry) → Seals level first c ns e → KnowsChild (keys_at (stubs level high c)) ns e) →
@@ -107,9 +108,9 @@ children_known level one first high (c ∷ cs) ns es h =
     let kB = keys_at B in
     let here = one first (start_by low_of cs high) c h.here h.entry h.one in
     let rest = children_known level one (first + length h.here) high cs h.rest h.others h.more in
-    let both : keys_at (A ++ B) ≡ kA ++ kB = map-append (λ (s : Stub). s.key) A B in
+    let both : keys_at (A ++ B) ≡ kA ++ kB = map-append (λ (s : Stub). bare s.key) A B in
     let all = (kA ++ kB) ++ keys_in (h.here ++ h.rest) in
-    let in_nodes : keys_in (h.here ++ h.rest) ≡ keys_in h.here ++ keys_in h.rest = map-append (λ (n : Sealed). n.key) h.here h.rest in
+    let in_nodes : keys_in (h.here ++ h.rest) ≡ keys_in h.here ++ keys_in h.rest = map-append (λ (n : Sealed). bare n.key) h.here h.rest in
     let a_in : Within kA all = λ x c. Contains-append_left (kA ++ kB) (keys_in (h.here ++ h.rest)) x (Contains-append_left kA kB x c) in
     let b_in : Within kB all = λ x c. Contains-append_left (kA ++ kB) (keys_in (h.here ++ h.rest)) x (Contains-append_right kA kB x c) in
     let here_in : Within (keys_in h.here) all = λ x c. Contains-append_right (kA ++ kB) (keys_in (h.here ++ h.rest)) x (subst (λ ks. Contains ks x) (sym in_nodes) (Contains-append_left (keys_in h.here) (keys_in h.rest) x c)) in
@@ -118,7 +119,7 @@ children_known level one first high (c ∷ cs) ns es h =
     keys_append (kA ++ kB) h.here h.rest (keys_more kA (kA ++ kB) h.here (λ x. Contains-append_left kA kB x) here.nodes)
     (keys_more kB ((kA ++ kB) ++ keys_in h.here) h.rest (λ x c. Contains-append_left (kA ++ kB) (keys_in h.here) x (Contains-append_right kA kB x c)) rest.nodes) in
     let own : AreListed all (h.entry ∷ h.others) = (
-      append_within kA (keys_in h.here) all a_in here_in h.entry.key here.own,
+      append_within kA (keys_in h.here) all a_in here_in (bare h.entry.key) here.own,
       listed_more (kB ++ keys_in h.rest) all h.others (append_within kB (keys_in h.rest) all b_in rest_in) rest.own,
     ) in
     subst (λ ks. KnowsChildren ks ns es) (sym both) (record {
@@ -127,11 +128,11 @@ children_known level one first high (c ∷ cs) ns es h =
     })
 
 -- a node over children
-node_known : (keys : List (List ℕ)) (below ns : List Sealed) (n : Sealed) (es : List Entry) → ns ≡ below ++ n ∷ [] → n.entries ≡ es → KnowsChildren keys below es → KeysAreFrom keys ns × Contains (keys ++ keys_in ns) n.key
+node_known : (keys : List (List ℕ)) (below ns : List Sealed) (n : Sealed) (es : List Entry) → ns ≡ below ++ n ∷ [] → n.entries ≡ es → KnowsChildren keys below es → KeysAreFrom keys ns × Contains (keys ++ keys_in ns) (bare n.key)
 node_known keys below ns n es is entries h = (
   subst (KeysAreFrom keys) (sym is) (keys_append keys below (n ∷ []) h.nodes (subst (AreListed (keys ++ keys_in below)) (sym entries) h.own, tt)),
-  subst (λ ms. Contains (keys ++ keys_in ms) n.key) (sym is)
-      (Contains-append_right keys (keys_in (below ++ n ∷ [])) n.key (subst (λ ks. Contains ks n.key) (sym (map-append (λ (n : Sealed). n.key) below (n ∷ []))) (Contains-push (keys_in below) n.key))),
+  subst (λ ms. Contains (keys ++ keys_in ms) (bare n.key)) (sym is)
+      (Contains-append_right keys (keys_in (below ++ n ∷ [])) (bare n.key) (subst (λ ks. Contains ks (bare n.key)) (sym (map-append (λ (n : Sealed). bare n.key) below (n ∷ []))) (Contains-push (keys_in below) (bare n.key)))),
 )
 
 pub child_known : (level first high : ℕ) (c : Child) (ns : List Sealed) (e : Entry) → Seals level first c ns e → KnowsChild (keys_at (stubs level high c)) ns e
@@ -139,13 +140,13 @@ unfolding Seals stubs
 child_known zero first high c ns e h = here (out-Child c) h
   where
     here : (x : Child-F Child Twig) → SealsDatum x ns e → KnowsChild (keys_at (datum_in x)) ns e
-    here (KeptChild low addr key) h = kept_known (key ∷ []) low addr key ns e (Contains-push [] key) h
+    here (KeptChild low addr key) h = kept_known (bare key ∷ []) low addr key ns e (Contains-push [] (bare key)) h
     here (Grown low twig) h = absurd h
 child_known (suc level) first high c ns e h = here (λ first high c ns e h. child_known level first high c ns e h) (out-Child c) h
   where
     here : ((first high : ℕ) (c : Child) (ns : List Sealed) (e : Entry) → Seals level first c ns e → KnowsChild (keys_at (stubs level high c)) ns e) →
         (x : Child-F Child Twig) → SealsIn (Seals level) level first x ns e → KnowsChild (keys_at (stubs_in (stubs level) (suc level) high x)) ns e
-    here one (KeptChild low addr key) h = kept_known (key ∷ []) low addr key ns e (Contains-push [] key) h
+    here one (KeptChild low addr key) h = kept_known (bare key ∷ []) low addr key ns e (Contains-push [] (bare key)) h
     here one (Grown low twig) h =
         let below = children_known level one first high (children_of twig) h.node.below h.node.entries h.node.each in
         let n : Sealed = record { addr = e.addr; key = e.key; level = suc level; entries = h.node.entries } in
@@ -163,8 +164,8 @@ node_keys level first high cs ns addr key h =
 -- ---- what the medium keeps
 
 -- the page of a sealed node is a record of its address under its key
-page_is : (n : Sealed) → n.addr < 2 ^ 64 → Fits n → masked n.key (page_of n) ≡ record_bytes n.addr (NodeRecord n.level n.entries)
-page_is n small fits = masked-masked n.key (record_bytes n.addr (NodeRecord n.level n.entries)) (omega (arith, record_length n.addr (NodeRecord n.level n.entries) small fits))
+page_is : (n : Sealed) → n.addr < 2 ^ 64 → Fits n → masked (bare n.key) (page_of n) ≡ record_bytes 1 n.addr (NodeRecord n.level n.entries)
+page_is n small fits = masked_bare n.key (page_of n) ∙ masked-masked n.key (record_bytes 1 n.addr (NodeRecord n.level n.entries)) (omega (arith, record_length 1 n.addr (NodeRecord n.level n.entries) small fits.0))
 
 sealed_at : (first i : ℕ) (ns : List Sealed) (more : List (List ℕ)) (page : List ℕ) → AreFrom first ns → AllByRecursion Fits ns → first + length ns ≤ 2 ^ 32 → slice_get (map page_of ns) i ≡ Some page →
     IsSealedRecord (keys_in ns ++ more) i (first + i) page
@@ -173,11 +174,12 @@ sealed_at first zero (n ∷ ns) more page from fits small there =
     let is : page_of n ≡ page = cc in
     let here : n.addr ≡ first + 0 = omega (arith, from.0) in
     record {
-      key = n.key;
+      key = bare n.key;
       listed = refl;
+      version = 1;
       value = NodeRecord n.level n.entries;
-      in_range = subst (λ a. FitsRecord a (NodeRecord n.level n.entries)) here fits.0;
-      spelled = ap (masked n.key) (sym is) ∙ page_is n (omega (arith, from.0, small)) fits.0 ∙ ap (λ a. record_bytes a (NodeRecord n.level n.entries)) here;
+      in_range = subst (λ a. FitsRecord 1 a (NodeRecord n.level n.entries)) here fits.0.0;
+      spelled = ap (masked (bare n.key)) (sym is) ∙ page_is n (omega (arith, from.0, small)) fits.0 ∙ ap (λ a. record_bytes 1 a (NodeRecord n.level n.entries)) here;
     }
 sealed_at first (suc i) (n ∷ ns) more page from fits small there =
     let rest = sealed_at (suc first) i ns more page from.1 fits.1 (omega (arith, small)) there in
@@ -185,9 +187,10 @@ sealed_at first (suc i) (n ∷ ns) more page from fits small there =
     record {
       key = rest.key;
       listed = rest.listed;
+      version = rest.version;
       value = rest.value;
-      in_range = subst (λ a. FitsRecord a rest.value) at rest.in_range;
-      spelled = rest.spelled ∙ ap (λ a. record_bytes a rest.value) at;
+      in_range = subst (λ a. FitsRecord rest.version a rest.value) at rest.in_range;
+      spelled = rest.spelled ∙ ap (λ a. record_bytes rest.version a rest.value) at;
     }
 
 handed_nodes : (ns : List Sealed) (more : List (List ℕ)) (before after : Image) → after.recorded ≡ before.recorded ++ map page_of ns → AreInOrder (length before.recorded) ns → length before.recorded + length ns ≤ 2 ^ 32 →
@@ -209,27 +212,28 @@ own_nodes keys pages (n ∷ ns) own from fits known small =
     let page = page_of n in
     let value = NodeRecord n.level n.entries in
     let is = page_is n (omega (arith, from.0, small)) fits.0 in
-    let opens = subst (λ a. Opens n.key a page) from.0 (opens_record n.key page n.addr value is) in
-    let yields : (other : List ℕ) → Yields n.key page other → Contains (keys ++ n.key ∷ []) other = λ other y.
-    Contains-append_left keys (n.key ∷ []) other
-    (All-contains (Contains keys) (map (λ (e : Entry). e.key) n.entries) other
-    (All-map (Contains keys) (λ (e : Entry). e.key) n.entries (All-from_recursion (λ (e : Entry). Contains keys e.key) n.entries known.0))
-    (node_yields n.key page other n.addr n.level n.entries fits.0 is y)) in
-    let one = own_page keys pages n.key page own opens yields in
+    let key = bare n.key in
+    let opens = subst (λ a. Opens key a page) from.0 (opens_record key page 1 n.addr value is) in
+    let yields : (other : List ℕ) → Yields key page other → Contains (keys ++ key ∷ []) other = λ other y.
+    Contains-append_left keys (key ∷ []) other
+    (All-contains (Contains keys) (map (λ (e : Entry). bare e.key) n.entries) other
+    (All-map (Contains keys) (λ (e : Entry). bare e.key) n.entries (All-from_recursion (λ (e : Entry). Contains keys (bare e.key)) n.entries known.0))
+    (node_yields key page other 1 n.addr n.level n.entries fits.0.0 is y)) in
+    let one = own_page keys pages key page own opens yields in
     let next : suc (length pages) ≡ length (pages ++ page ∷ []) = omega (arith, length-append pages (page ∷ [])) in
-    let rest = own_nodes (keys ++ n.key ∷ []) (pages ++ page ∷ []) ns one (subst (λ m. AreFrom m ns) next from.1) fits.1 known.1 (omega (arith, next, small)) in
-    subst (λ ks. HaveOwnKeys ks (pages ++ (page ∷ map page_of ns))) (append_assoc keys (n.key ∷ []) (keys_in ns))
-    (subst (HaveOwnKeys ((keys ++ n.key ∷ []) ++ keys_in ns)) (append_assoc pages (page ∷ []) (map page_of ns)) rest)
+    let rest = own_nodes (keys ++ key ∷ []) (pages ++ page ∷ []) ns one (subst (λ m. AreFrom m ns) next from.1) fits.1 known.1 (omega (arith, next, small)) in
+    subst (λ ks. HaveOwnKeys ks (pages ++ (page ∷ map page_of ns))) (append_assoc keys (key ∷ []) (keys_in ns))
+    (subst (HaveOwnKeys ((keys ++ key ∷ []) ++ keys_in ns)) (append_assoc pages (page ∷ []) (map page_of ns)) rest)
 
-pub listed_at : (keys : List (List ℕ)) (places : List Stub) → AllByRecursion (λ s. Contains keys s.key) places → Within (keys_at places) keys
-listed_at keys places h x c = All-contains (Contains keys) (keys_at places) x (All-map (Contains keys) (λ (s : Stub). s.key) places (All-from_recursion (λ (s : Stub). Contains keys s.key) places h)) c
+pub listed_at : (keys : List (List ℕ)) (places : List Stub) → AllByRecursion (λ s. Contains keys (bare s.key)) places → Within (keys_at places) keys
+listed_at keys places h x c = All-contains (Contains keys) (keys_at places) x (All-map (Contains keys) (λ (s : Stub). bare s.key) places (All-from_recursion (λ (s : Stub). Contains keys (bare s.key)) places h)) c
 
-pub known_within : (keys : List (List ℕ)) (ns : List Sealed) → AllByRecursion (λ (n : Sealed). Contains keys n.key) ns → Within (keys_in ns) keys
-known_within keys ns h x c = All-contains (Contains keys) (keys_in ns) x (All-map (Contains keys) (λ (n : Sealed). n.key) ns (All-from_recursion (λ (n : Sealed). Contains keys n.key) ns h)) c
+pub known_within : (keys : List (List ℕ)) (ns : List Sealed) → AllByRecursion (λ (n : Sealed). Contains keys (bare n.key)) ns → Within (keys_in ns) keys
+known_within keys ns h x c = All-contains (Contains keys) (keys_in ns) x (All-map (Contains keys) (λ (n : Sealed). bare n.key) ns (All-from_recursion (λ (n : Sealed). Contains keys (bare n.key)) ns h)) c
 
-all_in : (keys : List (List ℕ)) (ns : List Sealed) → Within (keys_in ns) keys → AllByRecursion (λ (n : Sealed). Contains keys n.key) ns
+all_in : (keys : List (List ℕ)) (ns : List Sealed) → Within (keys_in ns) keys → AllByRecursion (λ (n : Sealed). Contains keys (bare n.key)) ns
 all_in keys [] f = tt
-all_in keys (n ∷ ns) f = (f n.key (Contains-append_left (n.key ∷ []) (keys_in ns) n.key (Contains-push [] n.key)), all_in keys ns (λ x c. f x (Contains-append_right (n.key ∷ []) (keys_in ns) x c)))
+all_in keys (n ∷ ns) f = (f (bare n.key) (Contains-append_left (bare n.key ∷ []) (keys_in ns) (bare n.key) (Contains-push [] (bare n.key))), all_in keys ns (λ x c. f x (Contains-append_right (bare n.key ∷ []) (keys_in ns) x c)))
 
 -- what was handed over, once that is told
 pub record HandsOver (grew : List (List ℕ)) (old new : History) (places : List Stub) (Done : List (List ℕ) → Type 0) : Type 0 where
@@ -238,7 +242,7 @@ pub record HandsOver (grew : List (List ℕ)) (old new : History) (places : List
 
 -- every node's key is listed
 abbrev pub AreKnown : List Sealed → List (List ℕ) → Type 0
-AreKnown ns keys = AllByRecursion (λ (n : Sealed). Contains keys n.key) ns
+AreKnown ns keys = AllByRecursion (λ (n : Sealed). Contains keys (bare n.key)) ns
 
 -- the pages of nodes in order, and perhaps keys were drawn for which there is no page
 hands_over : (old new : History) (places : List Stub) (ns : List Sealed) (more : List (List ℕ)) → CellStays old new → new.present.recorded ≡ old.present.recorded ++ map page_of ns → length new.present.recorded ≤ 2 ^ 32 →
@@ -289,7 +293,7 @@ fits_front (x ∷ xs) ys h = (h.0, fits_front xs ys h.1)
 
 keys_front : (keys : List (List ℕ)) (xs ys : List Sealed) → KeysAreFrom keys (xs ++ ys) → KeysAreFrom keys xs
 keys_front keys [] ys h = tt
-keys_front keys (x ∷ xs) ys h = (h.0, keys_front (keys ++ x.key ∷ []) xs ys h.1)
+keys_front keys (x ∷ xs) ys h = (h.0, keys_front (keys ++ bare x.key ∷ []) xs ys h.1)
 
 -- the pages that there are after a fault: those of all nodes, or of all but the last
 data Pages (old new : Image) (nodes last : List Sealed) : Type 0 where
@@ -333,7 +337,7 @@ keeps_stopped tells drawn drawn_now old new head places cell size small stops =
         let nodes = stops.stops.nodes in
         let last = stops.stops.last in
         let o = order told in
-        subst (λ ks. HandsOver ks old new places (λ keys. Unit {0})) (sym (map-append (λ (n : Sealed). n.key) nodes last))
+        subst (λ ks. HandsOver ks old new places (λ keys. Unit {0})) (sym (map-append (λ (n : Sealed). bare n.key) nodes last))
         (weaken (keys_in nodes ++ keys_in last) nodes
         (hands_over old new places nodes (keys_in last) (cell told) (same new.present (stops.synced told) ∙ is) (small told)
         (record { from = from_front (length old.present.recorded) nodes last o.from; fits = fits_front nodes last o.fits }) (keys_front (keys_at places) nodes last stops.stops.are.keys)))
@@ -342,6 +346,6 @@ keeps_stopped tells drawn drawn_now old new head places cell size small stops =
         subst (λ ks. HandsOver ks old new places (λ keys. Unit {0})) (append-nil (keys_in all))
         (weaken (keys_in all ++ []) all (hands_over old new places all [] (cell told) (same new.present (stops.synced told) ∙ is) (small told) (order told) stops.stops.are.keys))
 
-pub places_more_keys : (keys more : List (List ℕ)) (places : List Stub) → AllByRecursion (λ s. Contains keys s.key) places → AllByRecursion (λ s. Contains (keys ++ more) s.key) places
+pub places_more_keys : (keys more : List (List ℕ)) (places : List Stub) → AllByRecursion (λ s. Contains keys (bare s.key)) places → AllByRecursion (λ s. Contains (keys ++ more) (bare s.key)) places
 places_more_keys keys more [] h = tt
-places_more_keys keys more (s ∷ ss) h = (Contains-append_left keys more s.key h.0, places_more_keys keys more ss h.1)
+places_more_keys keys more (s ∷ ss) h = (Contains-append_left keys more (bare s.key) h.0, places_more_keys keys more ss h.1)

@@ -7,7 +7,7 @@ use Rattle.std.proofs.lemmas.List.Elements.{All-from_recursion, Contains-append_
 use Rattle.sdbt_base.specs.Bytes.{IsBytes}
 use Rattle.node_codec.specs.declared.body.Entry.{Entry}
 use Rattle.node_codec.specs.Record.{NodeRecord, FitsNode}
-use Rattle.page_store.proofs.RecordLaws.{record_appended, record_stays}
+use Rattle.page_store.proofs.RecordLaws.{plain_appended, record_stays}
 use Rattle.btree_twigs.specs.declared.twigs.Child.{Child, Child-F, out-Child}
 use Rattle.btree_twigs.specs.declared.twigs.Child.TheOpen.{Kept, Grown}
 use Rattle.btree_twigs.specs.declared.twigs.Twig.{Twig}
@@ -49,9 +49,9 @@ node_in_order_by : (order level head : ℕ) → ChildFits order level head → (
 node_in_order_by order level head one least first low high addr key twig ns h shaped most deep blocks below le =
     let under = children_fit_by order level head one first high (children_of twig) h.below h.entries h.each shaped.node.each most (omega (arith, deep)) blocks below le in
     let are = entries_are level first head high (children_of twig) h.below h.entries h.each below le in
-    let fits = subst (λ n. FitsNode n (suc level) h.entries) (sym h.addr_is) (node_fits order level least low high first head twig h.below h.entries shaped most deep blocks below le h.each) in
+    let fits = subst (λ n. FitsNode 1 n (suc level) h.entries) (sym h.addr_is) (node_fits order level least low high first head twig h.below h.entries shaped most deep blocks below le h.each) in
     order_append first h.below (record { addr = addr; key = key; level = suc level; entries = h.entries } ∷ []) ns h.is under
-    (record { from = (h.addr_is, tt); fits = ((fits, All-from_recursion (λ (e : Entry). IsBytes 32 e.key) h.entries are.keys), tt) })
+    (record { from = (h.addr_is, tt); fits = (((fits, All-from_recursion (λ (e : Entry). IsBytes 32 e.key) h.entries are.keys), h.key_is.0), tt) })
 
 pub child_in_order : (order level head : ℕ) → ChildFits order level head
 unfolding Seals IsChild stubs
@@ -77,7 +77,7 @@ records_at first pages [] at from fits small = tt
 records_at first pages (n ∷ ns) at from fits small =
     let page = page_of n in
     let assoc : (pages ++ page ∷ []) ++ map page_of ns ≡ pages ++ (page ∷ map page_of ns) = append_assoc pages (page ∷ []) (map page_of ns) in
-    let there = record_appended pages n.addr n.key (NodeRecord n.level n.entries) (omega (arith, from.0, small)) (from.0 ∙ at) fits.0 in
+    let there = plain_appended pages n.addr n.key (NodeRecord n.level n.entries) (omega (arith, from.0, small)) (from.0 ∙ at) fits.0.1 fits.0.0 in
     let here = record_stays (pages ++ page ∷ []) (map page_of ns) n.addr n.key (NodeRecord n.level n.entries) there in
     let rest = records_at (suc first) (pages ++ page ∷ []) ns (omega (arith, at, length-append pages (page ∷ []))) from.1 fits.1 (omega (arith, small)) in
     subst (λ all. IsNodeAt all n × AllByRecursion (IsNodeAt all) ns) assoc (here, rest)

@@ -10,6 +10,8 @@ use Rattle.std.proofs.lemmas.List.Sorted.{All-permutation, Contains-permutation,
 use Rattle.std.specs.List.Sorted.{IsPermutation}
 use Rattle.sdbt_base.specs.Bytes.{IsBytes}
 use Rattle.platform.specs.Image.{Image, IsWhole, all_synced, with_cell}
+use Rattle.sdbt_base.specs.Keys.{bare, key_size, most_entries, IsKeyOf}
+use Rattle.node_codec.specs.Laws.{most_at_most}
 use Rattle.root_codec.specs.declared.root.Root.{Root}
 use Rattle.root_codec.specs.RootRecord.{FitsRoot, root_bytes}
 use Rattle.page_store.specs.declared.wants.Want.{Want}
@@ -81,7 +83,7 @@ can_root head capacity root mapped top twig at s = record {
   low = 0;
   high = root.blocks;
   shaped = s.shaped;
-  order_most = at.in_range.order_most;
+  order_most = most_at_most root.version root.order at.in_range.version at.in_range.order_most;
   level_most = at.level_most;
   blocks = at.in_range.blocks_most;
   below = s.under;
@@ -101,11 +103,11 @@ fresh_below first end (p ∷ ps) h = (h.0.1, fresh_below first end ps h.1)
 
 -- the tree of the next root record
 pub stands_with : (old new : Image) (root next : Root) (mapped level head : ℕ) (top : Child) (twig : Twig) (ns : List Sealed) (each : List Parts) → IsWhole old → head ≡ length old.recorded →
-    FitsRoot root → level < 20 → IsRootTwig root.order root.blocks level head top twig → SealsNode (Seals level) level head (children_of twig) ns next.addr next.key → head + length ns ≤ 2 ^ 32 →
-    IsNextRoot root mapped (suc level) (head + length ns) next → FitsRoot next → IsBytes 32 next.key → new ≡ all_synced (with_nodes old ns) →
+    FitsRoot root → root.version ≡ 1 → level < 20 → IsRootTwig root.order root.blocks level head top twig → SealsNode (Seals level) level head (children_of twig) ns next.addr next.key → head + length ns ≤ 2 ^ 32 →
+    IsNextRoot root mapped (suc level) (head + length ns) next → FitsRoot next → IsKeyOf next.version next.key → new ≡ all_synced (with_nodes old ns) →
     Stand old root.order (stubs (suc level) root.blocks top) each mapped → StandsWith new next ns each
-stands_with old new root next mapped level head top twig ns each whole head_is fits deep s sealed small next_is next_fits key_is new_is h =
-    let in_order = node_in_order root.order level (top_least level) head head 0 root.blocks next.addr next.key twig ns sealed s.shaped fits.order_most deep fits.blocks_most s.under (omega arith) in
+stands_with old new root next mapped level head top twig ns each whole head_is fits first deep s sealed small next_is next_fits key_is new_is h =
+    let in_order = node_in_order root.order level (top_least level) head head 0 root.blocks next.addr next.key twig ns sealed s.shaped (most_at_most root.version root.order fits.version fits.order_most) deep fits.blocks_most s.under (omega arith) in
     let more = map page_of ns in
     let at = records_at head old.readable ns (head_is ∙ sym whole.as_many) in_order.from in_order.fits (omega (arith, small)) in
     let has = has_stays old.readable more root.order (stubs_below level root.blocks twig) each (subst (λ ss. HasEach old.readable root.order ss each) s.places h.has) in
@@ -143,7 +145,8 @@ stands_with old new root next mapped level head top twig ns each whole head_is f
         cell = refl;
         in_range = next_fits;
         key = key_is;
-        version = refl;
+        version = next_is.version ∙ first;
+        first = refl;
         order = refl;
         blocks = refl;
         number = refl;
@@ -164,11 +167,12 @@ stands_with old new root next mapped level head top twig ns each whole head_is f
     }
 
 -- the next root record is in range
-pub next_fits : (root next : Root) (mapped level head count : ℕ) → FitsRoot root → root.head ≤ head → mapped ≤ root.blocks → level < 20 → IsNextRoot root mapped (suc level) (head + count) next → 1 ≤ count → head + count ≤ 2 ^ 32 → length next.key ≡ 32 → FitsRoot next
-next_fits root next mapped level head count fits within most deep is some small plain = record {
+pub next_fits : (root next : Root) (mapped level head count : ℕ) → FitsRoot root → root.version ≡ 1 → root.head ≤ head → mapped ≤ root.blocks → level < 20 → IsNextRoot root mapped (suc level) (head + count) next → 1 ≤ count → head + count ≤ 2 ^ 32 → length next.key ≡ 32 → FitsRoot next
+next_fits root next mapped level head count fits first within most deep is some small plain = record {
+  version = inl (is.version ∙ first);
   order_even = subst (λ (n : ℕ). n % 2 ≡ 0) (sym is.order) fits.order_even;
   order_least = omega (arith, is.order, fits.order_least);
-  order_most = omega (arith, is.order, fits.order_most);
+  order_most = subst (λ v. next.order ≤ most_entries v) (sym (is.version ∙ first)) (omega (arith, is.order, subst (λ v. root.order ≤ most_entries v) first fits.order_most));
   level_least = omega (arith, is.level_is);
   level_most = omega (arith, is.level_is, deep);
   blocks_least = omega (arith, is.blocks, fits.blocks_least);
@@ -177,7 +181,7 @@ next_fits root next mapped level head count fits within most deep is some small 
   addr = omega (arith, is.addr, is.head_is);
   mapped = omega (arith, is.mapped_is, is.blocks, most);
   head = omega (arith, is.head_is, small);
-  plain = plain;
+  sized = plain ∙ ap key_size (sym (is.version ∙ first));
 }
 
 pub one_more : (level first : ℕ) (cs : List Child) (ns : List Sealed) (addr : ℕ) (key : List ℕ) → SealsNode (Seals level) level first cs ns addr key → addr + 1 ≡ first + length ns
@@ -213,6 +217,7 @@ same_places head root mapped grove top can same = ap (stubs (suc (grove.level - 
 abbrev pub can_top : (head capacity : ℕ) (root : Root) (mapped : ℕ) (grove : Grove) (top : Child) → top ≡ grove.top → CanPrepare head root mapped grove → head + grown_in grove ≤ capacity → CanSealTop head capacity root mapped top
 can_top head capacity root mapped grove top same can room = record {
   in_range = can.in_range;
+  version = can.version;
   within = can.within;
   most = can.most;
   level = grove.level - 1;
@@ -238,7 +243,7 @@ can_twig head at capacity root mapped grove top twig at_is same can s room = rec
   low = 0;
   high = root.blocks;
   shaped = s.shaped;
-  order_most = can.in_range.order_most;
+  order_most = most_at_most root.version root.order can.in_range.version can.in_range.order_most;
   level_most = omega (arith, can.level_most, level_is grove can.sound);
   blocks = can.in_range.blocks_most;
   below = s.under;
@@ -263,6 +268,7 @@ sealed_as tells old new head head_now drawn drawn_now cache cache' cache_now roo
   cached = s.cached ∙ ap (λ (c : Cached). with_sealed c s.adds.nodes) same_cache;
   synced = s.synced;
   next_is = record {
+    version = s.next_is.version;
     order = s.next_is.order;
     blocks = s.next_is.blocks;
     commit = s.next_is.commit;
@@ -309,25 +315,25 @@ certifies_same commit commit' base head head' node added added' gone gone' never
 
 -- ---- the keys of the new tree
 
-sealed_known : (keys : List (List ℕ)) (ns : List Sealed) → AllByRecursion (λ (n : Sealed). Contains keys n.key) ns → AllByRecursion (λ (p : Place). Contains keys p.key) (map place_of ns)
+sealed_known : (keys : List (List ℕ)) (ns : List Sealed) → AllByRecursion (λ (n : Sealed). Contains keys (bare n.key)) ns → AllByRecursion (λ (p : Place). Contains keys (bare p.key)) (map place_of ns)
 sealed_known keys [] h = tt
 sealed_known keys (n ∷ ns) h = (h.0, sealed_known keys ns h.1)
 
 pub knows_new_tree : (tells : Type 0) (old new : Image) (head head_now : ℕ) (drawn drawn_now : Option (List (List ℕ))) (cache cache_now : Cached) (root : Root) (mapped level : ℕ) (top : Child) (next : Root)
     (high : ℕ) (is : IsSealed tells old new head head_now drawn drawn_now cache cache_now root mapped level top (stubs level high top) next) (keys : List (List ℕ)) → tells →
-    AllByRecursion (λ s. Contains keys s.key) (stubs level high top) → AreKnown is.adds.nodes keys → ListsNewTree old new root.order (stubs level high top) mapped next keys
+    AllByRecursion (λ s. Contains keys (bare s.key)) (stubs level high top) → AreKnown is.adds.nodes keys → ListsNewTree old new root.order (stubs level high top) mapped next keys
 knows_new_tree tells old new head head_now drawn drawn_now cache cache_now root mapped level top next high is keys told places nodes each stand below =
     let ns = is.adds.nodes in
     let with = is.stands told each stand in
     let own = child_known level head high top ns (record { low = 0; addr = next.addr; key = next.key }) is.adds.is in
     let listed = listed_at keys (stubs level high top) places in
-    let all : All (λ p. Contains keys p.key) with.parts.places =
-    All-permutation (λ (p : Place). Contains keys p.key) (map place_of ns ++ (joined each).places) with.parts.places with.are.places
-    (All-from_recursion (λ (p : Place). Contains keys p.key) (map place_of ns ++ (joined each).places)
-    (all_append (λ (p : Place). Contains keys p.key) (map place_of ns) (joined each).places (sealed_known keys ns nodes) (recursion_from_All (λ (p : Place). Contains keys p.key) (joined each).places below))) in
+    let all : All (λ p. Contains keys (bare p.key)) with.parts.places =
+    All-permutation (λ (p : Place). Contains keys (bare p.key)) (map place_of ns ++ (joined each).places) with.parts.places with.are.places
+    (All-from_recursion (λ (p : Place). Contains keys (bare p.key)) (map place_of ns ++ (joined each).places)
+    (all_append (λ (p : Place). Contains keys (bare p.key)) (map place_of ns) (joined each).places (sealed_known keys ns nodes) (recursion_from_All (λ (p : Place). Contains keys (bare p.key)) (joined each).places below))) in
     record {
-      own = append_within (keys_at (stubs level high top)) (keys_in ns) keys listed (known_within keys ns nodes) next.key own.own;
-      places = λ parts tree. subst (λ (p : Parts). All (λ q. Contains keys q.key) p.places) (one_tree new.readable next with.parts parts is.in_range with.stands.tree tree) all;
+      own = append_within (keys_at (stubs level high top)) (keys_in ns) keys listed (known_within keys ns nodes) (bare next.key) own.own;
+      places = λ parts tree. subst (λ (p : Parts). All (λ q. Contains keys (bare q.key)) p.places) (one_tree new.readable next with.parts parts is.in_range with.stands.tree tree) all;
     }
 
 -- ---- a commit that was not begun

@@ -1,5 +1,5 @@
 -- What the sealing of nodes gives.
-use Rattle.std.proofs.Common.{◌≡◌, ℕ, zero, suc, ◌+◌, ◌<◌, ◌≤◌, List, [], ◌∷◌, ◌++◌, length, map, take, drop, refl, sym, ap, subst, ◌∙◌, arith, append_assoc, append-nil, length-append}
+use Rattle.std.proofs.Common.{◌≡◌, ℕ, zero, suc, ◌+◌, ◌<◌, ◌≤◌, List, [], ◌∷◌, ◌++◌, length, map, take, drop, refl, inl, sym, ap, subst, ◌∙◌, arith, append_assoc, append-nil, length-append}
 use Rattle.std.specs.Prelude.{slice_index}
 use Rattle.std.specs.List.{AllByRecursion}
 use Rattle.std.specs.List.Sorted.{IsStrictlyIncreasing}
@@ -157,7 +157,7 @@ count_is cs es is = sym (length-map es (λ (e : Entry). e.low)) ∙ ap length is
 -- ---- the node's record is in range
 
 pub node_fits : (order level least low high first head : ℕ) (twig : Twig) (ns : List Sealed) (es : List Entry) → IsTwig order level least order low high twig → order ≤ 64 → level < 20 → high ≤ 1048576 →
-    AreBelow head (stubs_below level high twig) → head ≤ first → SealsEach (Seals level) first (children_of twig) ns es → FitsNode (first + length ns) (suc level) es
+    AreBelow head (stubs_below level high twig) → head ≤ first → SealsEach (Seals level) first (children_of twig) ns es → FitsNode 1 (first + length ns) (suc level) es
 node_fits order level least low high first head twig ns es shaped most deep blocks below le h =
     let are = entries_are level first head high (children_of twig) ns es h below le in
     let each = shaped.node.each in
@@ -168,7 +168,8 @@ node_fits order level least low high first head twig ns es shaped most deep bloc
       ascend = subst IsStrictlyIncreasing (sym are.lows) (ascends (IsChild order level) high (children_of twig) each);
       lows = All-from_recursion (λ (e : Entry). e.low < 1048576) es (lows_all high 1048576 es blocks (subst (AllByRecursion (λ n. n < high)) (sym are.lows) (lows_below (IsChild order level) high (children_of twig) each)));
       below = All-from_recursion (λ (e : Entry). e.addr < first + length ns) es are.below;
-      plain = λ k d inside. (All-from_recursion (λ (e : Entry). IsBytes 32 e.key) es are.keys k d inside).0;
+      version_known = inl refl;
+      sized = λ k d inside. (All-from_recursion (λ (e : Entry). IsBytes 32 e.key) es are.keys k d inside).0;
     }
 
 -- ---- entries behind those that were there

@@ -10,6 +10,7 @@ use Rattle.platform.proofs.Moments.{During-start, During-step, During-now, Durin
 use Rattle.std.specs.Option.{option_map}
 use Rattle.std.proofs.lemmas.List.{map-append, take_more}
 use Rattle.platform.specs.Image.{Image, with_page, MayHavePage}
+use Rattle.sdbt_base.specs.Keys.{bare}
 use Rattle.node_codec.specs.declared.body.Entry.{Entry}
 use Rattle.node_codec.specs.Record.{NodeRecord, FitsNode, record_bytes}
 use Rattle.seal_record.specs.Sealing.{masked}
@@ -66,12 +67,12 @@ adds_then Is Js Ks tells old mid new head head' head'' drawn drawn' drawn'' f h 
   is = f h.nodes k.nodes h.head h.is k.is;
   image = λ told. k.image told ∙ ap (λ (image : Image). with_nodes image k.nodes) (h.image told) ∙ more_nodes old h.nodes k.nodes;
   head = omega (arith, h.head, k.head, length-append h.nodes k.nodes);
-  drew = subst (λ keys. DrewAll drawn keys drawn'') (sym (map-append (λ (n : Sealed). n.key) h.nodes k.nodes)) (more_keys drawn drawn' drawn'' (map (λ (n : Sealed). n.key) h.nodes) (map (λ (n : Sealed). n.key) k.nodes) h.drew k.drew);
+  drew = subst (λ keys. DrewAll drawn keys drawn'') (sym (map-append (λ (n : Sealed). bare n.key) h.nodes k.nodes)) (more_keys drawn drawn' drawn'' (map (λ (n : Sealed). bare n.key) h.nodes) (map (λ (n : Sealed). bare n.key) k.nodes) h.drew k.drew);
 }
 
 -- one page
 pub adds_page : (tells : Type 0) (old new : Image) (head head' : ℕ) (drawn drawn' : Option (List (List ℕ))) (node : Sealed) (body : List ℕ) →
-    body ≡ record_bytes node.addr (NodeRecord node.level node.entries) → (tells → new ≡ with_page old (masked node.key body) (masked node.key body)) → head' ≡ head + 1 → Drew drawn node.key drawn' →
+    body ≡ record_bytes 1 node.addr (NodeRecord node.level node.entries) → (tells → new ≡ with_page old (masked node.key body) (masked node.key body)) → head' ≡ head + 1 → Drew drawn (bare node.key) drawn' →
     Adds (λ ns. ns ≡ node ∷ []) tells old new head head' drawn drawn'
 adds_page tells old new head head' drawn drawn' node body is image up drew = record {
   nodes = node ∷ [];
@@ -246,11 +247,11 @@ pub if_ok : {A E : Type 0} (Q : A → Type 0) (r : Result A E) → ((x : A) → 
 if_ok Q (Ok x) f = f x refl
 if_ok Q (Err e) f = tt
 
-pub fits_as : (addr addr' level level' : ℕ) (es es' : List Entry) → addr ≡ addr' → level ≡ level' → es ≡ es' → FitsNode addr level es → FitsNode addr' level' es'
-fits_as addr addr' level level' es es' a l e h = subst (FitsNode addr' level') e (subst (λ m. FitsNode addr' m es) l (subst (λ n. FitsNode n level es) a h))
+pub fits_as : (addr addr' level level' : ℕ) (es es' : List Entry) → addr ≡ addr' → level ≡ level' → es ≡ es' → FitsNode 1 addr level es → FitsNode 1 addr' level' es'
+fits_as addr addr' level level' es es' a l e h = subst (FitsNode 1 addr' level') e (subst (λ m. FitsNode 1 addr' m es) l (subst (λ n. FitsNode 1 n level es) a h))
 
-pub body_as : (addr addr' level level' : ℕ) (es es' : List Entry) → addr ≡ addr' → level ≡ level' → es ≡ es' → record_bytes addr (NodeRecord level es) ≡ record_bytes addr' (NodeRecord level' es')
-body_as addr addr' level level' es es' a l e = λ i. record_bytes (a i) (NodeRecord (l i) (e i))
+pub body_as : (addr addr' level level' : ℕ) (es es' : List Entry) → addr ≡ addr' → level ≡ level' → es ≡ es' → record_bytes 1 addr (NodeRecord level es) ≡ record_bytes 1 addr' (NodeRecord level' es')
+body_as addr addr' level level' es es' a l e = λ i. record_bytes 1 (a i) (NodeRecord (l i) (e i))
 
 -- ---- levels
 
@@ -281,8 +282,8 @@ adds_stops Is Are All tells old mid new head head' drawn drawn' drawn'' h f k =
       last = k.last;
       are = subst All (sym assoc) (f (k.nodes ++ k.last) k.are);
       image = λ told. subst (λ (i : Image). MayHave i k.last new) (ap (λ (image : Image). with_nodes image k.nodes) (h.image told) ∙ more_nodes old h.nodes k.nodes) (k.image told);
-      drew = subst (λ keys. DrewAll drawn keys drawn'') (sym (map-append (λ (n : Sealed). n.key) h.nodes (k.nodes ++ k.last)) ∙ ap (map (λ (n : Sealed). n.key)) (sym assoc))
-          (more_keys drawn drawn' drawn'' (map (λ (n : Sealed). n.key) h.nodes) (map (λ (n : Sealed). n.key) (k.nodes ++ k.last)) h.drew k.drew);
+      drew = subst (λ keys. DrewAll drawn keys drawn'') (sym (map-append (λ (n : Sealed). bare n.key) h.nodes (k.nodes ++ k.last)) ∙ ap (map (λ (n : Sealed). bare n.key)) (sym assoc))
+          (more_keys drawn drawn' drawn'' (map (λ (n : Sealed). bare n.key) h.nodes) (map (λ (n : Sealed). bare n.key) (k.nodes ++ k.last)) h.drew k.drew);
     }
 
 pub stops_as : (Are All : List Sealed → Type 0) (tells : Type 0) (old new : Image) (drawn drawn' : Option (List (List ℕ))) → ((ms : List Sealed) → Are ms → All ms) → Stops Are tells old new drawn drawn' → Stops All tells old new drawn drawn'
@@ -293,8 +294,8 @@ pub stops_none : (Are : List Sealed → Type 0) (tells : Type 0) (old new : Imag
 stops_none Are tells old new drawn drawn' are same undrawn = record { nodes = []; last = []; are = are; image = λ told. same told ∙ no_nodes old; drew = undrawn ∙ no_keys drawn }
 
 -- of one node the page may have been
-pub stops_one : (Are : List Sealed → Type 0) (tells : Type 0) (old new : Image) (drawn drawn' : Option (List (List ℕ))) (n : Sealed) (body : List ℕ) → Are (n ∷ []) → body ≡ record_bytes n.addr (NodeRecord n.level n.entries) →
-    (tells → MayHavePage old (masked n.key body) new) → Drew drawn n.key drawn' → Stops Are tells old new drawn drawn'
+pub stops_one : (Are : List Sealed → Type 0) (tells : Type 0) (old new : Image) (drawn drawn' : Option (List (List ℕ))) (n : Sealed) (body : List ℕ) → Are (n ∷ []) → body ≡ record_bytes 1 n.addr (NodeRecord n.level n.entries) →
+    (tells → MayHavePage old (masked n.key body) new) → Drew drawn (bare n.key) drawn' → Stops Are tells old new drawn drawn'
 stops_one Are tells old new drawn drawn' n body are is may drew = record {
   nodes = [];
   last = n ∷ [];

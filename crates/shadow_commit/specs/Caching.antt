@@ -6,7 +6,7 @@ use Rattle.shadow_commit.specs.Sealed.{Sealed}
 
 -- a sealed node as a cache keeps it
 abbrev pub cached_as : Sealed → CachedNode
-cached_as n = cached_node n.addr n.key (node_of n.level n.entries)
+cached_as n = cached_node n.addr n.key (node_of n.level 1 n.entries)
 
 -- the cache once these nodes were put, one after the other
 abbrev pub with_sealed : Cached → List Sealed → Cached

@@ -2,6 +2,7 @@
 use Rattle.std.specs.Prelude.{◌≡◌, ◌≤◌, ◌+◌, ℕ, List, [], ◌∷◌, ◌++◌, Option, Contains, length, map}
 use Rattle.std.specs.List.{AllByRecursion}
 use Rattle.sdbt_base.specs.Arrays.{Device}
+use Rattle.sdbt_base.specs.Keys.{bare}
 use Rattle.sdbt_base.specs.declared.tapes.Tape.{Ghosts as TapeGhosts}
 use Rattle.platform.specs.Image.{Image, IsEither, MayHavePage, all_synced}
 use Rattle.platform.specs.History.{CellStays}
@@ -18,7 +19,7 @@ pub record Adds (Are : List Sealed → Type 0) (tells : Type 0) (old new : Image
   pub is : Are nodes
   pub image : tells → new ≡ with_nodes old nodes
   pub head : new_head ≡ old_head + length nodes
-  pub drew : DrewAll drawn (map (λ n. n.key) nodes) drawn_now
+  pub drew : DrewAll drawn (map (λ n. bare n.key) nodes) drawn_now
 
 -- the image as it was, or, with a last node, as it may be after a fault of its append
 abbrev pub MayHave : Image → List Sealed → Image → Type 0
@@ -31,7 +32,7 @@ pub record Stops (Are : List Sealed → Type 0) (tells : Type 0) (old new : Imag
   pub last : List Sealed
   pub are : Are (nodes ++ last)
   pub image : tells → MayHave (with_nodes old nodes) last new
-  pub drew : DrewAll drawn (map (λ n. n.key) (nodes ++ last)) drawn_now
+  pub drew : DrewAll drawn (map (λ n. bare n.key) (nodes ++ last)) drawn_now
 
 -- a fault came in a sealing from this address on over these places, or in the sync after it
 pub record StopsFrom (head : ℕ) (places : List Stub) (tells : Type 0) (old new : Image) (drawn drawn_now : Option (List (List ℕ))) : Type 0 where
@@ -52,4 +53,4 @@ pub record OnlyAdds {S R : Type 0} (P : PlatformGhosts S) (T : TapeGhosts R) (pl
 pub record KnowsPlaces (image : Image) (places : List Stub) (keys : List (List ℕ)) : Type 0 where
   pub device : Option Device
   pub stands : Stands image device
-  pub listed : AllByRecursion (λ s. Contains keys s.key) places
+  pub listed : AllByRecursion (λ s. Contains keys (bare s.key)) places

@@ -1,7 +1,8 @@
 -- The tree that sealed nodes and what is below them make.
-use Rattle.std.specs.Prelude.{◌≡◌, ℕ, suc, List, [], ◌∷◌, ◌++◌, Contains, map}
+use Rattle.std.specs.Prelude.{◌≡◌, ℕ, suc, List, [], ◌∷◌, ◌++◌, Contains, length, map}
 use Rattle.std.specs.List.{AllByRecursion}
 use Rattle.std.specs.List.Sorted.{IsPermutation}
+use Rattle.sdbt_base.specs.Keys.{bare}
 use Rattle.sdbt_base.specs.Traces.{NodeOver}
 use Rattle.node_codec.specs.declared.body.Entry.{Entry}
 use Rattle.node_codec.specs.Record.{NodeRecord, FitsRecord}
@@ -28,23 +29,23 @@ abbrev pub AreFrom : ℕ → List Sealed → Type 0
 AreFrom first [] = Unit {0}
 AreFrom first (n ∷ ns) = (n.addr ≡ first) × AreFrom (suc first) ns
 
--- a sealed node's record is in range
+-- a sealed node's record is in range, and its key has no digest
 abbrev pub Fits : Sealed → Type 0
-Fits n = FitsRecord n.addr (NodeRecord n.level n.entries)
+Fits n = FitsRecord 1 n.addr (NodeRecord n.level n.entries) × (length n.key ≡ 32)
 
 -- nodes have consecutive addresses, and their records are in range
 pub record AreInOrder (first : ℕ) (ns : List Sealed) : Type 0 where
   pub from : AreFrom first ns
   pub fits : AllByRecursion Fits ns
 
--- every key in a node's entries is one of these, or that of a node before it
+-- every key in a node's entries is, without its digest, one of these, or that of a node before it
 abbrev pub KeysAreFrom : List (List ℕ) → List Sealed → Type 0
 KeysAreFrom keys [] = Unit {0}
-KeysAreFrom keys (n ∷ ns) = AllByRecursion (λ (e : Entry). Contains keys e.key) n.entries × KeysAreFrom (keys ++ n.key ∷ []) ns
+KeysAreFrom keys (n ∷ ns) = AllByRecursion (λ (e : Entry). Contains keys (bare e.key)) n.entries × KeysAreFrom (keys ++ bare n.key ∷ []) ns
 
--- the keys of places
+-- the keys of places, without digests
 abbrev pub keys_at : List Stub → List (List ℕ)
-keys_at places = map (λ (s : Stub). s.key) places
+keys_at places = map (λ (s : Stub). bare s.key) places
 
 -- nodes in order, and every key in their entries is that of one of these places or of a node before
 pub record AreNodesOver (first : ℕ) (places : List Stub) (ns : List Sealed) : Type 0 where

@@ -3,6 +3,7 @@ use Rattle.std.specs.Prelude.{◌≡◌, ◌≢◌, ◌-◌, ℕ, suc, ◌+◌, 
 use Rattle.std.specs.FinMap.{from_entries}
 use Rattle.sdbt_base.specs.Arrays.{Device}
 use Rattle.sdbt_base.specs.Faults.{Rose}
+use Rattle.sdbt_base.specs.Keys.{bare}
 use Rattle.sdbt_base.specs.Traces.{Traced}
 use Rattle.sdbt_base.specs.declared.lists.Unkept.{Unkept}
 use Rattle.sdbt_base.specs.declared.tapes.Tape.{Ghosts as TapeGhosts}
@@ -36,10 +37,11 @@ use Rattle.shadow_commit.specs.declared.prepared.Prepared.{Prepared}
 use Rattle.shadow_commit.specs.declared.refusals.CommitRefusal.{CommitRefusal}
 use Rattle.shadow_commit.specs.declared.refusals.CommitRefusal.TheVariants as refused
 
--- the tree is that of a root record with changes: its root node is in memory, and all that it has on the medium is below the head
+-- the tree is that of a root record with changes, which so far is of version 1: its root node is in memory, and all that it has on the medium is below the head
 pub record CanPrepare (head : ℕ) (root : Root) (mapped : ℕ) (grove : Grove) : Type 0 where
   pub sound : IsSound grove
   pub in_range : FitsRoot root
+  pub version : root.version ≡ 1
   pub order : grove.order ≡ root.order
   pub blocks : grove.blocks ≡ root.blocks
   pub level_most : grove.level ≤ 20
@@ -51,6 +53,7 @@ pub record CanPrepare (head : ℕ) (root : Root) (mapped : ℕ) (grove : Grove) 
 -- a root node in memory that can be sealed, with changes to the tree of a root record
 pub record CanSealTop (head capacity : ℕ) (root : Root) (mapped : ℕ) (top : Child) : Type 0 where
   pub in_range : FitsRoot root
+  pub version : root.version ≡ 1
   pub within : root.head ≤ head
   pub most : mapped ≤ root.blocks
   pub level : ℕ
@@ -69,6 +72,7 @@ pub record Stand (image : Image) (order : ℕ) (places : List Stub) (each : List
 
 -- the root record that follows another by a commit: it names the last of so many pages
 pub record IsNextRoot (root : Root) (mapped level head : ℕ) (next : Root) : Type 0 where
+  pub version : next.version ≡ root.version
   pub order : next.order ≡ root.order
   pub blocks : next.blocks ≡ root.blocks
   pub commit : next.commit ≡ root.commit + 1
@@ -122,7 +126,7 @@ pub record IsReady (tells : Type 0) (old new : Image) (head head_now : ℕ) (dra
 -- with the keys below its kept places the keys of the new tree are listed
 abbrev pub ListsNewTree : Image → Image → ℕ → List Stub → ℕ → Root → List (List ℕ) → Type 0
 ListsNewTree old new order places mapped next keys =
-    (each : List Parts) → Stand old order places each mapped → All (λ p. Contains keys p.key) (joined each).places → KnowsTree keys new.readable next
+    (each : List Parts) → Stand old order places each mapped → All (λ p. Contains keys (bare p.key)) (joined each).places → KnowsTree keys new.readable next
 
 -- there was room for the nodes in memory exactly where it isn't full; want of room and of memory leave all as it was; and but for the object that an
 -- answer names none failed

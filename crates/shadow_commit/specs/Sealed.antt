@@ -17,9 +17,9 @@ pub record Sealed : Type 0 where
   pub level : ℕ
   pub entries : List Entry
 
--- its page: the node's record under its key
+-- its page: the node's record, of version 1, under its key
 abbrev pub page_of : Sealed → List ℕ
-page_of node = masked node.key (record_bytes node.addr (NodeRecord node.level node.entries))
+page_of node = masked node.key (record_bytes 1 node.addr (NodeRecord node.level node.entries))
 
 -- the image with the pages of these nodes more
 abbrev pub with_nodes : Image → List Sealed → Image

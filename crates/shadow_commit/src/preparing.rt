@@ -107,6 +107,7 @@ fn seal_all<P: Platform, T: Tape>(
         return Err(AppendFault::PlatformFault);
     };
     Ok(Root {
+        version: root.version,
         order: root.order,
         level: twig.level,
         blocks: root.blocks,

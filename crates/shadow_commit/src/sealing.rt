@@ -17,6 +17,9 @@ use page_store::{AppendFault, Placed};
 use platform::Platform;
 use sdbt_base::{Key, Tape};
 
+/// The version of the records that are sealed, so far.
+const VERSION: u8 = 1;
+
 /// Seals the nodes in memory, each after all below it, has the cache keep them, and answers where the topmost is. After a fault
 /// each page that was handed over is one of theirs, in order. `entries` has room for those of a node of each level, behind what is
 /// there; that stays.
@@ -48,11 +51,13 @@ pub(crate) fn seal_twig<P: Platform, T: Tape>(
         add(entries, entry);
     }
     let (_, own) = entries.split_at(begin);
-    reader.buffers.put_node(platform.head(), twig.level, own);
+    reader
+        .buffers
+        .put_node(platform.head(), twig.level, VERSION, own);
     let placed = reader.buffers.append(platform, tape)?;
     reader
         .cache
-        .put_node(placed.addr, &placed.key, twig.level, own);
+        .put_node(placed.addr, &placed.key, twig.level, VERSION, own);
     entries.truncate(begin);
     Ok(placed)
 }

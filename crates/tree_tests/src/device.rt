@@ -68,11 +68,11 @@ impl Device {
 
     /// Appends a node, whatever the addresses of its children are. Answers its own.
     pub(crate) fn node(&mut self, level: u8, entries: &[Entry]) -> Option<u64> {
-        if !fits_node(u64::MAX, level, entries) {
+        if !fits_node(u64::MAX, level, 1, entries) {
             return None;
         }
         let mut record = [0; RECORD];
-        encode_node(u64::MAX, level, entries, &mut record);
+        encode_node(u64::MAX, level, 1, entries, &mut record);
         record[8..16].copy_from_slice(&self.platform.head().to_be_bytes());
         self.place(&record)
     }

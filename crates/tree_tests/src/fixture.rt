@@ -47,6 +47,7 @@ impl Fixture {
         addr: u64,
     ) -> Option<Fixture> {
         let root = Root {
+            version: 1,
             order: size.0,
             level,
             blocks: size.1,

@@ -34,6 +34,7 @@ impl Walker {
     /// The root record of a tree of order 4 over 8 blocks, whose root node is at an address and of a level.
     fn root(&self, addr: u64, level: u8) -> Option<Root> {
         let root = Root {
+            version: 1,
             order: 4,
             level,
             blocks: 8,

@@ -80,7 +80,7 @@ array_held image head session table entry held = record { at = held.at; pages = 
 
 -- the root record in the cell is of all the pages that there are, where it says how many there are
 of_all : (image : Image) (root : Root) (head : ℕ) → FitsRoot root → image.cell ≡ Some (root_bytes root) → root.head ≡ head → length image.recorded ≡ head → IsOfAll image
-of_all image root head fits cell names pages = ap (λ (c : Option (List ℕ)). option_map_or head_in c (length image.recorded)) cell ∙ head_is root fits.head fits.plain ∙ names ∙ sym pages
+of_all image root head fits cell names pages = ap (λ (c : Option (List ℕ)). option_map_or head_in c (length image.recorded)) cell ∙ head_is root fits.head fits.version fits.sized ∙ names ∙ sym pages
 
 -- what was answered: the state behind it, or that it is short
 pub data Committing (capacity : ℕ) (old new : Outside) (table : List Volume) (now : Session) (entry : Held) (reply : CommitReply) : Type 0 where

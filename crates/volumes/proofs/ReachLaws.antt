@@ -11,6 +11,7 @@ use Rattle.std.specs.FinMap.{find, get-from_entries}
 use Rattle.std.proofs.lemmas.List.Elements.{All-append, All-cons, All-contains, All-head, All-nil, All-tail, All-weaker}
 use Rattle.sdbt_base.specs.Arrays.{Device}
 use Rattle.sdbt_base.specs.Traces.{DataOf, NodeOver}
+use Rattle.sdbt_base.specs.Keys.{bare, version_of}
 use Rattle.platform.specs.Image.{Image}
 use Rattle.platform.specs.History.{History, image_at, moment}
 use Rattle.platform.specs.Runs.{floor_at}
@@ -18,7 +19,9 @@ use Rattle.platform.proofs.Moments.{earlier-now}
 use Rattle.key_graph.specs.Chains.{KeyPremises, OpensAt, link}
 use Rattle.key_graph.proofs.ChainLaws.{map_contains}
 use Rattle.node_codec.specs.declared.body.Entry.{Entry}
-use Rattle.node_codec.specs.Record.{DataRecord, NodeRecord}
+use Rattle.seal_record.specs.Sealing.{masked}
+use Rattle.node_codec.specs.Record.{Record, DataRecord, NodeRecord, record_bytes}
+use Rattle.node_codec.specs.Laws.{AreOne, one_spelled}
 use Rattle.root_codec.specs.declared.root.Root.{Root}
 use Rattle.root_codec.specs.RootRecord.{FitsRoot, root_bytes}
 use Rattle.page_store.specs.declared.wants.Want.{Want}
@@ -31,17 +34,32 @@ use Rattle.page_store.specs.Tree.{EachChild, Mapped, Parts, Place, Subtree, Tree
 use Rattle.page_store.proofs.FloorLaws.{place_at, place_of_stands}
 use Rattle.page_store.proofs.KeptLaws.{recorded_tree, root_of_stands}
 use Rattle.page_store.proofs.DisclosingLaws.{first_premises}
-use Rattle.page_store.proofs.RecordLaws.{one_record}
-use Rattle.page_store.proofs.RecordYields.{opens_record}
+use Rattle.page_store.proofs.RecordYields.{masked_bare, opens_record}
 use Rattle.page_store.proofs.TreeMaps.{tree_closed}
 use Rattle.volume_desk.specs.Turns.{IsOfAll}
 use Rattle.volumes.specs.Destroyed.{IsDataPage}
 
 -- ---- a tree without a block
 
--- under its key the page at a place is no data record of the block
+-- under its key, with whatever digest, the page at a place is no data record of the block
 abbrev pub IsOther : List (List ℕ) → ℕ → Place → Type 0
-IsOther pages block place = (content : List ℕ) → IsRecordAt pages place.addr place.key (DataRecord block content) → ⊥
+IsOther pages block place = (key content : List ℕ) → bare key ≡ bare place.key → IsRecordAt pages place.addr key (DataRecord block content) → ⊥
+
+same_some : {A : Type 0} (x y : A) → Some x ≡ Some y → x ≡ y
+same_some x y same = cc
+
+value_same : (version later : ℕ) (one other : Record) → AreOne version later one other → one ≡ other
+value_same version later (DataRecord block content) other are = are
+value_same version later (NodeRecord level entries) other are = are.1
+
+-- a page is one record at most under keys that differ in their digests alone
+same_value : (pages : List (List ℕ)) (addr : ℕ) (key same_key : List ℕ) (one other : Record) → addr < 2 ^ 64 → bare same_key ≡ bare key → IsRecordAt pages addr key one → IsRecordAt pages addr same_key other → one ≡ other
+same_value pages addr key same_key one other small same is is' =
+    let page : is.page ≡ is'.page = same_some _ _ (sym is.reads ∙ is'.reads) in
+    let body : masked key is.page ≡ masked same_key is'.page
+    = sym (masked_bare key is.page) ∙ ap (λ (k : List ℕ). masked k is.page) (sym same) ∙ masked_bare same_key is.page ∙ ap (masked same_key) page in
+    value_same (version_of key) (version_of same_key) one other
+    (one_spelled (version_of key) (version_of same_key) addr addr one other small small is.in_range is'.in_range (sym is.spelled ∙ body ∙ is'.spelled)).1
 
 -- none of these is the block
 abbrev pub AreOthers : ℕ → List Mapped → Type 0
@@ -82,13 +100,13 @@ subtree_other pages block order zero want key parts small is lacks =
     let here : Place = record { addr = want.addr; key = key; trace = DataOf want.low } in
     let low : want.low ≢ block = (subst (λ (p : Parts). AreOthers block p.mapped) is.has lacks).0 in
     subst (λ (p : Parts). All (IsOther pages block) p.places) (sym is.has) (All-cons (IsOther pages block) here []
-    (λ content there. low (same_block want.low block is.content content (one_record pages want.addr key (DataRecord want.low is.content) (DataRecord block content) small is.fits.0 there))) (All-nil (IsOther pages block)))
+    (λ k content same there. low (same_block want.low block is.content content (same_value pages want.addr key k (DataRecord want.low is.content) (DataRecord block content) small same is.fits.0 there))) (All-nil (IsOther pages block)))
 subtree_other pages block order (suc level) want key parts small is lacks =
     let here : Place = record { addr = want.addr; key = key; trace = NodeOver (map (λ (e : Entry). e.addr) is.entries) } in
     let below = each_other pages block (Subtree pages order level) order level want.high is.entries is.children (subtree_other pages block order level) (small_children pages want key (suc level) is.entries small is.fits) is.each
     (subst (λ (p : Parts). AreOthers block p.mapped) is.has lacks) in
     subst (λ (p : Parts). All (IsOther pages block) p.places) (sym is.has) (All-cons (IsOther pages block) here (joined is.children).places
-    (λ content there. no_node (suc level) block is.entries content (one_record pages want.addr key (NodeRecord (suc level) is.entries) (DataRecord block content) small is.fits.0 there)) below)
+    (λ k content same there. no_node (suc level) block is.entries content (same_value pages want.addr key k (NodeRecord (suc level) is.entries) (DataRecord block content) small same is.fits.0 there)) below)
 
 tree_other : (pages : List (List ℕ)) (block : ℕ) (root : Root) (parts : Parts) → FitsRoot root → Tree pages root parts → AreOthers block parts.mapped → All (IsOther pages block) parts.places
 tree_other pages block root parts fits is lacks = subtree_other pages block root.order root.level (root_want root) root.key parts (omega (arith, fits.addr, fits.head)) is lacks
@@ -126,20 +144,20 @@ floor_full old new i bytes from full =
 -- ---- a moment at which each page lies below the floor
 
 -- the keys of places open their pages
-place_opens : (pages : List (List ℕ)) (root : Root) (parts : Parts) (place : Place) → Tree pages root parts → Contains parts.places place → OpensAt pages (link place.addr place.key)
+place_opens : (pages : List (List ℕ)) (root : Root) (parts : Parts) (place : Place) → Tree pages root parts → Contains parts.places place → OpensAt pages (link place.addr (bare place.key))
 place_opens pages root parts place tree has =
-    All-contains (OpensAt pages) (links_of parts.places) (link place.addr place.key) (tree_closed pages root parts tree).opens (map_contains (λ (p : Place). link p.addr p.key) parts.places place has)
+    All-contains (OpensAt pages) (links_of parts.places) (link place.addr (bare place.key)) (tree_closed pages root parts tree).opens (map_contains (λ (p : Place). link p.addr (bare p.key)) parts.places place has)
 
--- the key of a place of the tree is the one that is listed and opens its page
+-- the key of a place of the tree is, but for its digest, the one that is listed and opens its page
 place_key : (keys : List (List ℕ)) (image : Image) (there : Device) (root : Root) (parts : Parts) (place : Place) (addr block : ℕ) → StandsBy image there root parts → Kept keys image → KeyPremises keys image.recorded → Contains parts.places place → place.addr ≡ addr
-    → (page : IsDataPage keys image.recorded addr block) → IsRecordAt image.recorded place.addr place.key (DataRecord block page.content)
+    → (page : IsDataPage keys image.recorded addr block) → bare page.key ≡ bare place.key
 place_key keys image there root parts place addr block stands kept premises has same page =
-    let known : All (λ p. Contains keys p.key) parts.places = (kept.cell root (root_of_stands image there root parts stands)).places parts stands.tree in
-    let mine : Contains keys place.key = All-contains (λ (p : Place). Contains keys p.key) parts.places place known has in
-    let opens : OpensAt image.recorded (link addr place.key) = subst (λ (a : ℕ). OpensAt image.recorded (link a place.key)) same (place_opens image.recorded root parts place (recorded_tree image there root parts stands) has) in
-    let opened : OpensAt image.recorded (link addr page.key) = record { page = page.is.page; there = page.is.reads; opens = opens_record page.key page.is.page addr (DataRecord block page.content) page.is.spelled } in
-    let one : page.key ≡ place.key = premises.one_opener addr page.key place.key page.listed mine opened opens in
-    subst (λ (a : ℕ). IsRecordAt image.recorded a place.key (DataRecord block page.content)) (sym same) (subst (λ (k : List ℕ). IsRecordAt image.recorded addr k (DataRecord block page.content)) one page.is)
+    let known : All (λ p. Contains keys (bare p.key)) parts.places = (kept.cell root (root_of_stands image there root parts stands)).places parts stands.tree in
+    let mine : Contains keys (bare place.key) = All-contains (λ (p : Place). Contains keys (bare p.key)) parts.places place known has in
+    let opens : OpensAt image.recorded (link addr (bare place.key)) = subst (λ (a : ℕ). OpensAt image.recorded (link a (bare place.key))) same (place_opens image.recorded root parts place (recorded_tree image there root parts stands) has) in
+    let spelled : masked (bare page.key) page.is.page ≡ record_bytes (version_of page.key) addr (DataRecord block page.content) = masked_bare page.key page.is.page ∙ page.is.spelled in
+    let opened : OpensAt image.recorded (link addr (bare page.key)) = record { page = page.is.page; there = page.is.reads; opens = opens_record (bare page.key) page.is.page (version_of page.key) addr (DataRecord block page.content) spelled } in
+    premises.one_opener addr (bare page.key) (bare place.key) page.listed mine opened opens
 
 -- of a block that the device doesn't have no data page is in the tree
 pub never_in_tree : (keys : List (List ℕ)) (image : Image) (there : Device) (block addr : ℕ) → Stands image (Some there) → maps.get there.contents block ≡ None → Kept keys image → KeyPremises keys image.recorded
@@ -147,8 +165,9 @@ pub never_in_tree : (keys : List (List ℕ)) (image : Image) (there : Device) (b
 never_in_tree keys image there block addr (root, parts, stands) none kept premises page in_tree =
     let it = place_at image addr in_tree in
     let has : Contains parts.places it.0 = place_of_stands image there root parts it.0 stands it.2 in
-    All-contains (IsOther image.recorded block) parts.places it.0 (stands_other image there root parts block stands none) has page.content
+    All-contains (IsOther image.recorded block) parts.places it.0 (stands_other image there root parts block stands none) has page.key page.content
     (place_key keys image there root parts it.0 addr block stands kept premises has it.1 page)
+    (subst (λ (a : ℕ). IsRecordAt image.recorded a page.key (DataRecord block page.content)) (sym it.1) page.is)
 
 -- where the root record is of all pages each page lies below the floor
 pub below_floor : (old new : History) (at : ℕ) (there : Device) (keys : List (List ℕ)) (addr block : ℕ) → moment old ≤ at → Stands (image_at new at) (Some there) → IsOfAll (image_at new at)

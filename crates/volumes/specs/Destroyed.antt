@@ -1,5 +1,6 @@
 -- What is left of a volume that was destroyed.
 use Rattle.std.specs.Prelude.{◌≤◌, ◌++◌, ℕ, List, [], ◌∷◌, Some, Contains}
+use Rattle.sdbt_base.specs.Keys.{bare}
 use Rattle.platform.specs.Image.{Image}
 use Rattle.platform.specs.History.{History, image_at, moment}
 use Rattle.key_graph.specs.Chains.{KeyPremises}
@@ -14,10 +15,10 @@ use Rattle.volume_terms.specs.Destroyed.{IfDestroyed, IsFreeUntilTaken, LeavesNo
 use Rattle.volume_terms.specs.Volumes.{IsBlockOf}
 use Rattle.volume_desk.specs.Turns.{IsOfAll}
 
--- the page at the address is, under one of these keys, a data record of the block
+-- the page at the address is, under one of these keys, with whatever digest, a data record of the block
 pub record IsDataPage (keys : List (List ℕ)) (pages : List (List ℕ)) (addr block : ℕ) : Type 0 where
   pub key : List ℕ
-  pub listed : Contains keys key
+  pub listed : Contains keys (bare key)
   pub content : List ℕ
   pub is : IsRecordAt pages addr key (DataRecord block content)
 

@@ -16,7 +16,7 @@ use Rattle.btree_update.specs.Held.{AreBelow}
 use Rattle.btree_update.proofs.OpenLaws.{IsOnWay, on_way, child_is, has_least}
 use Rattle.btree_update.proofs.GroveLaws.{above_it}
 use Rattle.btree_update.proofs.FewLaws.{few_none, few_more, few_read, few_beside}
-use Rattle.btree_update.proofs.HoldLaws.{no_way, leaf_way, one_way, below_child, read_as, way_grown, held_grown, way_lt, way_read, way_held, held_for}
+use Rattle.btree_update.proofs.HoldLaws.{no_way, leaf_way, one_way, below_child, read_as, way_grown, held_grown, way_lt, way_plain, way_read, way_held, held_for}
 use Rattle.btree_update.specs.Wrong.{ComesToWrong, Here, WrongOnWay, WrongUnder, WrongFrom}
 use Rattle.btree_update.specs.declared.refusals.ReadyRefusal.TheVariants.{BadRecord}
 use Rattle.btree_update.proofs.WrongLaws.{wrong_child, wrong_near, wrong_below, wrong_kept, wrong_on_way}
@@ -249,6 +249,11 @@ hold_way-hold_below-requires g t c κs within = (
 pub hold_way-read_node-requires-clause-within : goal.hold_way-read_node-requires-clause-within
 hold_way-read_node-requires-clause-within g t c =
     way_lt c.args.order c.args.least c.args.level c.args.block c.args.high (g.P.Platform.head c.args.platform.now) c.in-Kept.low c.in-Kept.addr c.in-Kept.key
+    (subst (CanHold c.args.order c.args.least c.args.level c.args.block c.args.high (g.P.Platform.head c.args.platform.now)) c.in-Kept.is c.requires.can)
+
+pub hold_way-read_node-requires-clause-plain : goal.hold_way-read_node-requires-clause-plain
+hold_way-read_node-requires-clause-plain g t c =
+    way_plain c.args.order c.args.least c.args.level c.args.block c.args.high (g.P.Platform.head c.args.platform.now) c.in-Kept.low c.in-Kept.addr c.in-Kept.key
     (subst (CanHold c.args.order c.args.least c.args.level c.args.block c.args.high (g.P.Platform.head c.args.platform.now)) c.in-Kept.is c.requires.can)
 
 pub hold_way-hold_below-requires-in-Kept : goal.hold_way-hold_below-requires-in-Kept

@@ -1,5 +1,14 @@
-use Rattle.std.proofs.Common.{◌≡◌, refl, ap, sym, subst, inl, inr, ◌∙◌, Option, Bor, Err}
+use Rattle.std.proofs.Common.{◌≡◌, ℕ, ◌<◌, List, length, refl, ap, sym, subst, inl, inr, ◌∙◌, Option, Bor, Err}
+use Rattle.std.specs.Prelude.{vec_capacity}
 use Rattle.std.proofs.lemmas.Bool.{false≢true}
+use Rattle.sdbt_base.specs.Keys.{version_of}
+use Rattle.sdbt_base.proofs.KeyLaws.{version_plain}
+use Rattle.node_codec.specs.Record.{FitsNode}
+use Rattle.page_store.specs.declared.wants.Want.{Want}
+use Rattle.page_store.specs.Places.{IsNodeWanted}
+use Rattle.btree_twigs.specs.declared.twigs.Twig.{Twig, out-Twig}
+use Rattle.btree_twigs.specs.Stubs.{level_of, children_of}
+use Rattle.btree_update.specs.Holding.{IsNodeFor}
 use Rattle.std.specs.Option.{option_copied}
 use Rattle.node_cache.specs.Cached.{Cached, Uses, cached_node, filled}
 use Rattle.node_codec.specs.declared.body.NodeBody.{NodeBody}
@@ -13,6 +22,29 @@ use Rattle.btree_update.proofs.CacheLaws.{stands_on, kept_is_page, nothing_else,
 use Rattle.btree_walk.specs.Among.{KeepsBut}
 use Rattle.btree_walk.proofs.AmongLaws.{but_same, but_filled, but_used}
 use Rattle.btree_update.proofs.reading.read_node.Goals as goal
+
+-- a node that fits, in memory
+node_for : (want : Want) (key : List ℕ) (node : NodeBody) (twig : Twig) → length key ≡ 32 → NodeFits want key node → (level_of twig ≡ node.level) × (children_of twig ≡ all_kept node.entries.items) × (64 < vec_capacity (out-Twig twig).children) → IsNodeFor want twig
+node_for want key node twig plain fits made = record {
+  entries = node.entries.items;
+  in_range = subst (λ v. FitsNode v want.addr want.level node.entries.items) (version_plain key plain)
+      (subst (λ l. FitsNode (version_of key) want.addr l node.entries.items) fits.wanted.same_level fits.in_range);
+  wanted = subst (λ l. IsNodeWanted want l node.entries.items) fits.wanted.same_level fits.wanted;
+  level_is = made.0 ∙ fits.wanted.same_level;
+  children = made.1;
+  room = made.2;
+}
+
+pub returns-in-Some-clause-fits : goal.returns-in-Some-clause-fits
+returns-in-Some-clause-fits g c =
+    IfOk_map _ _ c.in_memory.result (λ twig is. node_for c.args.want.now c.args.key.now c.in-Some.node.now twig c.requires.plain (c.fits.ensures.0 c.if-not-fits.false) is) c.in_memory.ensures.node
+
+pub returns-clause-fits : goal.returns-clause-fits
+returns-clause-fits g c =
+    let wanted = c.in_ok-fetch_node.ensures.wanted in
+    IfOk_map _ _ c.in_memory-2.result
+    (λ twig is. node_for c.args.want.now c.args.key.now (record { level = c.args.want.now.level; version = c.version_of-node.result; entries = c.fetch_node.new.entries }) twig c.requires.plain (record { version = c.version_of-node.ensures.value; in_range = wanted.in_range.0; wanted = wanted.wanted }) is)
+    c.in_memory-2.ensures.node
 
 pub returns-then-not-fits-clause-bad : goal.returns-then-not-fits-clause-bad
 returns-then-not-fits-clause-bad g c = λ tells stands addr is.
@@ -39,10 +71,10 @@ returns-in-Some-clause-stands g c = λ tells stands.
 pub returns-clause-stands : goal.returns-clause-stands
 returns-clause-stands g c = λ tells stands.
     (let uses = subst (λ (r : Option (Bor _)). Uses c.args.reader.now.cache c.args.want.now.addr c.args.key.now (option_copied r) c.get.follows.lender-at-none) c.in_default.is c.get.follows.holds-at-none in
-    let kept = cached_node c.args.want.now.addr c.args.key.now (record { level = c.args.want.now.level; entries = c.fetch_node.new.entries }) in
+    let kept = cached_node c.args.want.now.addr c.args.key.now (record { level = c.args.want.now.level; version = c.version_of-node.result; entries = c.fetch_node.new.entries }) in
     let pages = (g.P.Platform.history c.args.platform.now).present.readable in
     let fits = c.in_ok-fetch_node.ensures.fits tells in
-    let keeps = subst (KeepsOnly pages c.args.reader.now.cache) (sym (c.put.ensures.cached ∙ ap (λ (old : Cached). filled old kept) uses.0)) (keeps_filled pages c.args.reader.now.cache kept (inr fits.0)) in
+    let keeps = subst (KeepsOnly pages c.args.reader.now.cache) (sym (c.put.ensures.cached ∙ ap (λ (old : Cached). filled old kept) uses.0)) (keeps_filled pages c.args.reader.now.cache kept (inr record { version = c.version_of-node.ensures.value; is = fits.0 })) in
     stands_on pages c.args.reader.now.cache c.put.new.self stands keeps)
 
 pub returns-in_err-fetch_node-clause-bad : goal.returns-in_err-fetch_node-clause-bad
@@ -82,7 +114,7 @@ returns-in-Some-clause-but g c =
 pub returns-clause-but : goal.returns-clause-but
 returns-clause-but g c =
     let uses = subst (λ (r : Option (Bor _)). Uses c.args.reader.now.cache c.args.want.now.addr c.args.key.now (option_copied r) c.get.follows.lender-at-none) c.in_default.is c.get.follows.holds-at-none in
-    let kept = cached_node c.args.want.now.addr c.args.key.now (record { level = c.args.want.now.level; entries = c.fetch_node.new.entries }) in
+    let kept = cached_node c.args.want.now.addr c.args.key.now (record { level = c.args.want.now.level; version = c.version_of-node.result; entries = c.fetch_node.new.entries }) in
     subst (KeepsBut c.args.want.now.addr c.args.key.now c.args.reader.now.cache) (sym (c.put.ensures.cached ∙ ap (λ (old : Cached). filled old kept) uses.0)) (but_filled c.args.reader.now.cache kept)
 
 pub returns-in_err-fetch_node-clause-but : goal.returns-in_err-fetch_node-clause-but
@@ -99,7 +131,7 @@ pub returns-in-Some-clause-cached : goal.returns-in-Some-clause-cached
 returns-in-Some-clause-cached g c = λ node here.
     let same : node ≡ c.in-Some.node.now = c.in-Some.ensures.found.only node here in (
       refl,
-      λ misfit. absurd (misfit (subst (NodeFits c.args.want.now) (sym same) (c.fits.ensures.0 c.if-not-fits.false))),
+      λ misfit. absurd (misfit (subst (NodeFits c.args.want.now c.args.key.now) (sym same) (c.fits.ensures.0 c.if-not-fits.false))),
       IfOk_map _ _ c.in_memory.result (λ twig is. is.1 ∙ ap (λ (n : NodeBody). all_kept n.entries.items) (sym same)) c.in_memory.ensures.node,
     )
 
@@ -117,6 +149,6 @@ returns-in-Some-clause-fills g c =
 pub returns-clause-fills : goal.returns-clause-fills
 returns-clause-fills g c =
     let uses = subst (λ (r : Option (Bor _)). Uses c.args.reader.now.cache c.args.want.now.addr c.args.key.now (option_copied r) c.get.follows.lender-at-none) c.in_default.is c.get.follows.holds-at-none in
-    let node : NodeBody = record { level = c.args.want.now.level; entries = c.fetch_node.new.entries } in
+    let node : NodeBody = record { level = c.args.want.now.level; version = c.version_of-node.result; entries = c.fetch_node.new.entries } in
     let first = c.put.ensures.cached ∙ ap (λ (old : Cached). filled old (cached_node c.args.want.now.addr c.args.key.now node)) uses.0 in
     IfOk_map _ _ c.in_memory-2.result (λ twig is. (node, is.1, inr first)) c.in_memory-2.ensures.node

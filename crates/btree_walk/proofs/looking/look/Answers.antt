@@ -72,7 +72,7 @@ returns-clause-cached g c = λ entries is. absurd (c.in_default.ensures.none is.
 -- ---- a cached node that isn't wanted
 
 pub returns-then-fits-clause-misfit : goal.returns-then-fits-clause-misfit
-returns-then-fits-clause-misfit g c = λ is. absurd (is.misfit (subst (NodeFits c.args.want.now) (sym (c.in-Some.ensures.found.only is.node is.here)) (c.fits.ensures.0 c.if-fits.true)))
+returns-then-fits-clause-misfit g c = λ is. absurd (is.misfit (subst (NodeFits c.args.want.now c.args.key.now) (sym (c.in-Some.ensures.found.only is.node is.here)) (c.fits.ensures.0 c.if-fits.true)))
 
 pub returns-else-fits-clause-misfit : goal.returns-else-fits-clause-misfit
 returns-else-fits-clause-misfit g c = λ is. (refl, refl)

@@ -27,7 +27,7 @@ returns-in_err-fetch_node g c =
 
 pub returns : goal.returns
 returns g c =
-    let node : NodeBody = record { level = c.args.want.now.level; entries = c.fetch_node.new.entries } in
+    let node : NodeBody = record { level = c.args.want.now.level; version = c.version_of-node.result; entries = c.fetch_node.new.entries } in
     let kept = cached_node c.args.want.now.addr c.args.key.now node in
     let pages = (g.P.Platform.history c.args.platform.now).present.readable in
     record {
@@ -35,7 +35,7 @@ returns g c =
       bad = search rules;
       used = record { node = node; fits = search rules; is = c.turn_at-turn.ensures; first = inr c.put.ensures.cached };
       capacity = ap (λ (c : Cached). c.capacity) c.put.ensures.cached;
-      keeps = λ tells. subst (KeepsOnly pages c.args.reader.now.cache) (sym c.put.ensures.cached) (keeps_filled pages c.args.reader.now.cache kept (inr (c.in_ok-fetch_node.ensures.fits tells).0));
+      keeps = λ tells. subst (KeepsOnly pages c.args.reader.now.cache) (sym c.put.ensures.cached) (keeps_filled pages c.args.reader.now.cache kept (inr record { version = c.version_of-node.ensures.value; is = (c.in_ok-fetch_node.ensures.fits tells).0 }));
       but = subst (KeepsBut c.args.want.now.addr c.args.key.now c.args.reader.now.cache) (sym c.put.ensures.cached) (but_filled c.args.reader.now.cache kept);
       looks = search rules;
       cause = search rules;

@@ -1,5 +1,7 @@
-use Rattle.std.proofs.Common.{◌≡◌, ◌∙◌, ℕ, List, [], Option, None, Some, Bool, true, false, is_ok, refl, ap, sym, inl, inr, arith, rules}
+use Rattle.std.proofs.Common.{◌≡◌, ◌∙◌, ℕ, List, [], Option, None, Some, Bool, true, false, is_ok, refl, ap, sym, subst, inl, inr, arith, rules}
 use Rattle.page_store.specs.Buffer.{Held}
+use Rattle.sdbt_base.specs.Told.{Drew}
+use Rattle.sdbt_base.proofs.KeyLaws.{bare_plain}
 use Rattle.node_codec.specs.Record.{NodeRecord, record_bytes}
 use Rattle.sdbt_base.specs.Arrays.{new_device}
 use Rattle.sdbt_base.specs.Counts.{Counts, counts}
@@ -65,7 +67,7 @@ calls g c first =
     }
 
 -- the body that is sealed is an empty leaf
-sealed_body : (g : Over) (c : After-append g) → c.put_node.new.self.body ≡ record_bytes c.head-addr.result (NodeRecord 1 [])
+sealed_body : (g : Over) (c : After-append g) → c.put_node.new.self.body ≡ record_bytes 1 c.head-addr.result (NodeRecord 1 [])
 sealed_body g c = ap (λ (b : Held). b.body) c.put_node.ensures
 
 -- where a page was to be appended, the cell was empty and a page was free
@@ -123,7 +125,7 @@ returns-in-Ok-publish-clause-made g c = λ told.
         ap (λ (i : Image). i.cell) (c.in-Ok-publish.ensures.published told),
         record {
           earlier = [];
-          drew = c.in-Ok-append.ensures.placed.drew;
+          drew = subst (λ (k : List ℕ). Drew (g.T.Tape.drawn c.args.tape.now) k (g.T.Tape.drawn c.append.new.tape)) (sym (bare_plain c.in-Ok-append.placed.key c.in-Ok-append.ensures.placed.key.0)) c.in-Ok-append.ensures.placed.drew;
           node = omega (arith, address, c.in-Ok-append.ensures.placed.head, c.publish.ensures.head);
           head = omega (arith, address, c.in-Ok-append.ensures.placed.head, c.publish.ensures.head);
         },

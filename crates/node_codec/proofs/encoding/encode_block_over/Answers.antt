@@ -32,7 +32,7 @@ put_zeros_before-requires c =
 
 pub returns-clause-record : goal.returns-clause-record
 unfolding record_bytes
-returns-clause-record c =
+returns-clause-record c = λ version.
     let left : length c.split_at_mut-start.result.1.now ≡ 4096 - length c.args.content.now = omega arith in
     simp (c.put_head.ensures, c.copy_from_slice.ensures.after, c.put_zeros_before.ensures, left)
 

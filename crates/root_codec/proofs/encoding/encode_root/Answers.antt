@@ -4,4 +4,7 @@ use Rattle.root_codec.proofs.encoding.encode_root.Goals as goal
 
 pub returns-clause-record : goal.returns-clause-record
 unfolding root_fields
-returns-clause-record c = simp (c.put_front.ensures, c.put_back.ensures.fields)
+returns-clause-record c = simp (c.put_front.ensures, c.put_back.ensures)
+
+pub returns-clause-key : goal.returns-clause-key
+returns-clause-key c = (c.requires.fits.sized, c.is_key.ensures.1)

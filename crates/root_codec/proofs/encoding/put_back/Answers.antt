@@ -2,6 +2,6 @@
 use Rattle.root_codec.specs.RootRecord.{root_fields}
 use Rattle.root_codec.proofs.encoding.put_back.Goals as goal
 
-pub returns-clause-fields : goal.returns-clause-fields
+pub returns : goal.returns
 unfolding root_fields
-returns-clause-fields c = simp (c.copy_from_slice.ensures.after, c.copy_from_slice-2.ensures.after, c.copy_from_slice-3.ensures.after, c.copy_from_slice-4.ensures.after, c.to_be_bytes.ensures, c.to_be_bytes-2.ensures, c.bytes.ensures.plain c.requires.plain)
+returns c = simp (c.copy_from_slice.ensures.after, c.copy_from_slice-2.ensures.after, c.copy_from_slice-3.ensures.after, c.copy_from_slice-4.ensures.after, c.to_be_bytes.ensures, c.to_be_bytes-2.ensures, c.bytes.ensures.value, c.put_digest.ensures)

@@ -1,5 +1,6 @@
 use Rattle.std.proofs.Common.{Ok, Err, inl, inr, ap, ◌∙◌, arith}
 use Rattle.sdbt_base.specs.Arrays.{padded, written}
+use Rattle.sdbt_base.specs.Keys.{bare}
 use Rattle.btree_update.specs.Groves.{places_of}
 use Rattle.sdbt_base.specs.Counts.{counts}
 use Rattle.session_calls.proofs.CellLaws.{wrong_page}
@@ -45,7 +46,7 @@ returns-in-Err-clause-goes g c = record {
 }
 
 pub returns-in-Ok-clause-adds : goal.returns-in-Ok-clause-adds
-returns-in-Ok-clause-adds g c = (c.in-Ok.ensures.adds.0, c.in-Ok.ensures.adds.1.key, c.in-Ok.ensures.adds.1.drew)
+returns-in-Ok-clause-adds g c = (c.in-Ok.ensures.adds.0, bare c.in-Ok.ensures.adds.1.key, c.in-Ok.ensures.adds.1.drew)
 
 pub returns-in-Err-clause-adds : goal.returns-in-Err-clause-adds
 returns-in-Err-clause-adds g c = write_added g.P.Platform g.T.Tape _ _ _ _ (places_of c.write.new.self.grove) c.args.block c.in-Err.refusal _ c.stop_of_write.ensures c.in-Err.ensures.adds

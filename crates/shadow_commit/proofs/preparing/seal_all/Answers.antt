@@ -1,6 +1,8 @@
 use Rattle.std.proofs.Common.{◌≡◌, inl, ℕ, suc, ◌+◌, ◌≤◌, ◌^◌, List, [], ◌++◌, append-nil, length, refl, sym, ap, subst, ◌∙◌, arith, rules}
 use Rattle.platform.specs.Image.{all_synced}
 use Rattle.platform.proofs.Moments.{whole-now}
+use Rattle.sdbt_base.specs.Keys.{IsKeyOf}
+use Rattle.node_codec.specs.Laws.{most_at_most}
 use Rattle.root_codec.specs.declared.root.Root.{Root}
 use Rattle.btree_twigs.specs.declared.twigs.Twig.{out-Twig}
 use Rattle.btree_twigs.specs.Stubs.{children_of, stubs, stubs_below}
@@ -97,12 +99,14 @@ returns-clause-sealed g c at =
     let can = can_root head (g.P.Platform.capacity c.args.platform.now) root c.args.mapped top twig at s in
     let A = c.in_ok-placed.ensures.sealed can in
     let ns = A.nodes in
-    let next : Root = record { order = root.order; level = (out-Twig twig).level; blocks = root.blocks; commit = root.commit + 1; addr = placed.addr; key = placed.key; mapped = c.args.mapped; head = placed.addr + 1 } in
+    let next : Root = record { version = root.version; order = root.order; level = (out-Twig twig).level; blocks = root.blocks; commit = root.commit + 1; addr = placed.addr; key = placed.key; mapped = c.args.mapped; head = placed.addr + 1 } in
     let up = one_more at.level head (children_of twig) ns placed.addr placed.key A.is.0 in
     let heads : new_head ≡ head + length ns = c.sync.ensures.head ∙ A.head in
-    let next_by : (n : ℕ) → placed.addr + 1 ≡ n → IsNextRoot root c.args.mapped (suc at.level) n next = λ n e. record { order = refl; blocks = refl; commit = refl; level_is = s.shaped.level_is; mapped_is = refl; addr = e; head_is = e } in
+    let next_by : (n : ℕ) → placed.addr + 1 ≡ n → IsNextRoot root c.args.mapped (suc at.level) n next = λ n e. record { version = refl; order = refl; blocks = refl; commit = refl; level_is = s.shaped.level_is; mapped_is = refl; addr = e; head_is = e } in
     let small : head + length ns ≤ 2 ^ 32 = omega (arith, A.head, c.seal_twig.ensures.within can, at.room, s.count, g.met.P.Platform.is_limited c.args.platform.now) in
-    let fits = next_fits root next c.args.mapped at.level head (length ns) at.in_range at.within at.most at.level_most (next_by (head + length ns) up) (omega (arith, up, A.is.0.addr_is)) small A.is.0.key_is.0 in
+    let fits = next_fits root next c.args.mapped at.level head (length ns) at.in_range at.version at.within at.most at.level_most (next_by (head + length ns) up) (omega (arith, up, A.is.0.addr_is)) small A.is.0.key_is.0 in
+    let key_is : IsKeyOf root.version placed.key = subst (λ v. IsKeyOf v placed.key) (sym at.version) A.is.0.key_is in
+    let order_most = most_at_most root.version root.order at.in_range.version at.in_range.order_most in
     let seals : (ms : List Sealed) → SealsNode (Seals at.level) at.level head (children_of twig) ms placed.addr placed.key → Seals (suc at.level) head top ms (record { low = 0; addr = placed.addr; key = placed.key })
     = λ ms h. subst (λ low. Seals (suc at.level) head top ms (record { low = low; addr = placed.addr; key = placed.key })) (top_low root.order root.blocks at.level c.in-Grown.low top twig c.in-Grown.is at.shaped)
     (seals_grown (suc at.level) at.level head top c.in-Grown.low twig ms placed.addr placed.key c.in-Grown.is refl h) in
@@ -114,7 +118,7 @@ returns-clause-sealed g c at =
       written = mid;
       adds = record { nodes = ns; is = is; image = A.image; head = heads; drew = A.drew };
       over = record {
-        order = node_in_order root.order at.level (top_least at.level) head head 0 root.blocks placed.addr placed.key twig ns A.is.0 s.shaped at.in_range.order_most at.level_most at.in_range.blocks_most s.under (omega arith);
+        order = node_in_order root.order at.level (top_least at.level) head head 0 root.blocks placed.addr placed.key twig ns A.is.0 s.shaped order_most at.level_most at.in_range.blocks_most s.under (omega arith);
         keys = subst (λ ss. KeysAreFrom (keys_at ss) ns) (sym s.places) (node_keys at.level head root.blocks (children_of twig) ns placed.addr placed.key A.is.0);
       };
       cached = A.is.1;
@@ -124,7 +128,7 @@ returns-clause-sealed g c at =
       grown = heads ∙ ap (λ n. head + n) (child_count (suc at.level) head top ns (record { low = 0; addr = placed.addr; key = placed.key }) is);
       stands = λ told each h.
           stands_with old new root next c.args.mapped at.level head top twig ns each (whole-now (history c.args.platform.now)) (sym (g.met.P.Platform.counts_pages told c.args.platform.now))
-          at.in_range at.level_most s A.is.0 small (next_by (head + length ns) up) fits A.is.0.key_is (c.in-Ok.ensures.synced told ∙ ap all_synced (A.image told)) h;
+          at.in_range at.version at.level_most s A.is.0 small (next_by (head + length ns) up) fits key_is (c.in-Ok.ensures.synced told ∙ ap all_synced (A.image told)) h;
     }
 
 pub returns-in_default-sync-clause-stops : goal.returns-in_default-sync-clause-stops
@@ -145,7 +149,7 @@ returns-in_default-sync-clause-stops g c at = λ err.
     let ns = A.nodes in
     let places = stubs (suc at.level) root.blocks top in
     let over : AreNodesOver head places ns = record {
-      order = node_in_order root.order at.level (top_least at.level) head head 0 root.blocks placed.addr placed.key twig ns A.is.0 s.shaped at.in_range.order_most at.level_most at.in_range.blocks_most s.under (omega arith);
+      order = node_in_order root.order at.level (top_least at.level) head head 0 root.blocks placed.addr placed.key twig ns A.is.0 s.shaped order_most at.level_most at.in_range.blocks_most s.under (omega arith);
       keys = subst (λ ss. KeysAreFrom (keys_at ss) ns) (sym s.places) (node_keys at.level head root.blocks (children_of twig) ns placed.addr placed.key A.is.0);
     } in
     let stops = adds_stops (AreCached (λ ms. SealsNode (Seals at.level) at.level head (children_of twig) ms placed.addr placed.key) c.args.reader.now.cache c.seal_twig.new.reader.cache) (λ ms. ms ≡ []) (AreNodesOver head places) tells (history c.args.platform.now).present mid mid head now (drawn c.args.tape.now) (drawn c.seal_twig.new.tape) (drawn c.seal_twig.new.tape) A

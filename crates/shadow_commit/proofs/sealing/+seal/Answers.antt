@@ -5,6 +5,8 @@ use Rattle.std.proofs.Common.{Ok, Err}
 use Rattle.std.proofs.lemmas.Result.{err_from_is_err_and}
 use Rattle.std.proofs.lemmas.List.{take_all}
 use Rattle.std.proofs.lemmas.List.Elements.{All-from_recursion}
+use Rattle.sdbt_base.specs.Told.{Drew}
+use Rattle.sdbt_base.proofs.KeyLaws.{bare_plain}
 use Rattle.node_codec.specs.declared.body.Entry.{Entry}
 use Rattle.node_codec.specs.Record.{NodeRecord, FitsNode, record_bytes}
 use Rattle.page_store.specs.Buffer.{Held}
@@ -196,8 +198,8 @@ seal_twig-returns-clause-sealed g t c at =
     let body = c.put_node.new.self.body in
     let node : Sealed = record { addr = placed.addr; key = placed.key; level = suc at.level; entries = es } in
     let own_is : c.split_at.result.1.now ≡ es = c.split_at.ensures.back ∙ (λ i. drop ((c.len-begin.ensures ∙ c.args.entries.now.ok.0) i) (c.deref.ensures.value i)) in
-    let body_is : body ≡ record_bytes placed.addr (NodeRecord (suc at.level) es) = ap (λ (b : Held). b.body) c.put_node.ensures ∙ body_as _ _ _ _ _ _ (c.head.ensures.value ∙ sym address) at.shaped.level_is own_is in
-    let cached : after ≡ with_sealed before (node ∷ []) = c.put_node-2.ensures.cached ∙ (λ i. filled before (cached_node placed.addr placed.key (node_of (at.shaped.level_is i) (own_is i)))) in
+    let body_is : body ≡ record_bytes 1 placed.addr (NodeRecord (suc at.level) es) = ap (λ (b : Held). b.body) c.put_node.ensures ∙ body_as _ _ _ _ _ _ (c.head.ensures.value ∙ sym address) at.shaped.level_is own_is in
+    let cached : after ≡ with_sealed before (node ∷ []) = c.put_node-2.ensures.cached ∙ (λ i. filled before (cached_node placed.addr placed.key (node_of (at.shaped.level_is i) 1 (own_is i)))) in
     let Each : List Child → List Sealed → Type 0 = λ xs. AreCached (λ ns. SealsEach (Seals at.level) head xs ns es) first before in
     let each : Adds (Each (children_of twig)) tells old mid head now (drawn c.args.tape.now) (drawn c.loop-child.tape)
     = adds_as (Each (take i cs)) (Each (children_of twig)) tells old mid head now (drawn c.args.tape.now) (drawn c.loop-child.tape) (λ ns h. subst (λ xs. Each xs ns) all h) so_far in
@@ -207,7 +209,7 @@ seal_twig-returns-clause-sealed g t c at =
       record { entries = es; below = ns; each = each.0; addr_is = address ∙ at_is; key_is = at_head.key; is = ap (λ xs. ns ++ xs) one },
       sealed_then first before after ns ms each.1 (subst (λ xs. after ≡ with_sealed before xs) (sym one) cached),
     ))
-    each (adds_page tells mid new now (g.P.Platform.head c.append.new.platform) (drawn c.loop-child.tape) (drawn c.append.new.tape) node body body_is at_head.image at_head.head at_head.drew)
+    each (adds_page tells mid new now (g.P.Platform.head c.append.new.platform) (drawn c.loop-child.tape) (drawn c.append.new.tape) node body body_is at_head.image at_head.head (subst (λ k. Drew (drawn c.loop-child.tape) k (drawn c.append.new.tape)) (sym (bare_plain placed.key at_head.key.0)) at_head.drew))
 
 pub seal_twig-returns-in_err-placed-clause-within : goal.seal_twig-returns-in_err-placed-clause-within
 seal_twig-returns-in_err-placed-clause-within g t c at =
@@ -308,7 +310,7 @@ seal_twig-returns-in_err-placed-clause-stops g t c at = λ _.
     let new = (history c.append.new.platform).present in
     let all : take i cs ≡ children_of twig = take_all i cs (omega (arith, c.loop-child-test.false)) ∙ inv.same in
     let under = subst (λ xs. SealsEach (Seals at.level) head xs so_far.nodes es) all so_far.is.0 in
-    let fits = subst (λ n. FitsNode n (suc at.level) es) (sym so_far.head) (node_fits at.order at.level at.least at.low at.high head head twig so_far.nodes es at.shaped at.order_most at.level_most at.blocks at.below (omega arith) under) in
+    let fits = subst (λ n. FitsNode 1 n (suc at.level) es) (sym so_far.head) (node_fits at.order at.level at.least at.low at.high head head twig so_far.nodes es at.shaped at.order_most at.level_most at.blocks at.below (omega arith) under) in
     let keys = (entries_are at.level head head at.high (children_of twig) so_far.nodes es under at.below (omega arith)).keys in
     let Are : List Sealed → Type 0 = λ ms. AreNodesOver head (stubs_below at.level at.high twig) (so_far.nodes ++ ms) in
     let before : Are [] = subst (AreNodesOver head (stubs_below at.level at.high twig)) (sym (append-nil so_far.nodes)) (subst (λ ss. AreNodesOver head ss so_far.nodes) same done.over) in
@@ -318,9 +320,10 @@ seal_twig-returns-in_err-placed-clause-stops g t c at = λ _.
     (λ is.
     let spent = c.append.ensures.spent is in
     let node : Sealed = record { addr = now; key = spent.key; level = suc at.level; entries = es } in
-    let body_is : c.put_node.new.self.body ≡ record_bytes now (NodeRecord (suc at.level) es) = ap (λ (b : Held). b.body) c.put_node.ensures ∙ body_as _ _ _ _ _ _ c.head.ensures.value at.shaped.level_is (c.split_at.ensures.back ∙ (λ i. drop ((c.len-begin.ensures ∙ c.args.entries.now.ok.0) i) (c.deref.ensures.value i))) in
+    let body_is : c.put_node.new.self.body ≡ record_bytes 1 now (NodeRecord (suc at.level) es) = ap (λ (b : Held). b.body) c.put_node.ensures ∙ body_as _ _ _ _ _ _ c.head.ensures.value at.shaped.level_is (c.split_at.ensures.back ∙ (λ i. drop ((c.len-begin.ensures ∙ c.args.entries.now.ok.0) i) (c.deref.ensures.value i))) in
     stops_one Are tells mid new (drawn c.loop-child.tape) (drawn c.append.new.tape) node c.put_node.new.self.body
-    (subst (λ ss. AreNodesOver head ss (so_far.nodes ++ node ∷ [])) same (over_node head places so_far.nodes node done.over so_far.head (fits, All-from_recursion (λ (e : Entry). IsBytes 32 e.key) es keys) done.listed)) body_is spent.image spent.drew)
+    (subst (λ ss. AreNodesOver head ss (so_far.nodes ++ node ∷ [])) same (over_node head places so_far.nodes node done.over so_far.head ((fits, All-from_recursion (λ (e : Entry). IsBytes 32 e.key) es keys), spent.size.0) done.listed)) body_is spent.image
+    (subst (λ k. Drew (drawn c.loop-child.tape) k (drawn c.append.new.tape)) (sym (bare_plain spent.key spent.size.0)) spent.drew))
     in
     adds_stops (AreCached (λ ns. SealsEach (Seals at.level) head (take i cs) ns es) c.args.reader.now.cache c.loop-child.reader.cache) Are (AreNodesOver head (stubs_below at.level at.high twig)) tells (history c.args.platform.now).present mid new
     head now (drawn c.args.tape.now) (drawn c.loop-child.tape) (drawn c.append.new.tape) so_far (λ ms are. are) stops

@@ -4,7 +4,7 @@ use Rattle.platform.specs.History.{History, Steps, CellStays, moment}
 use Rattle.platform.proofs.Moments.{During-step}
 use Rattle.device_terms.specs.Served.{IsServedCell}
 use Rattle.page_store.specs.Roots.{IsBadCell}
-use Rattle.seizure.specs.Opened.{count_of_kind}
+use Rattle.seizure.specs.Opened.{count_of_kind, count_of_nodes}
 use Rattle.seizure.specs.Report.{Begins}
 use Rattle.script_lang.specs.Replies.{said}
 use Rattle.script_lang.specs.declared.replies.Reply.{Reply as Given}
@@ -34,7 +34,7 @@ returns-in-Ok-clause-answered g c told entry rep =
     let new : World = world_of P c.args.self.now.session c.seize.new.platform in
     let image = c.seize.ensures.looks.image told in
     subst (λ (r : Given). Serves old new entry commands.Seize (Ok (said r c.args.self.now.buffer))) (sym c.reply_with_counts.ensures)
-    (serves_seized old new entry c.in-Ok.report.pages (count_of_kind 2 c.in-Ok.report.opened) (count_of_kind 1 c.in-Ok.report.opened) refl image (stays old.history new.history (c.seize.ensures.looks.time told) image) rep)
+    (serves_seized old new entry c.in-Ok.report.pages (count_of_nodes c.in-Ok.report.opened) (count_of_kind 1 c.in-Ok.report.opened) refl image (stays old.history new.history (c.seize.ensures.looks.time told) image) rep)
 
 pub returns-in-Err-PlatformFault-clause-answered : goal.returns-in-Err-PlatformFault-clause-answered
 returns-in-Err-PlatformFault-clause-answered g c told entry rep =
@@ -69,7 +69,7 @@ returns-in-Ok-clause-seen g c told entry rep =
     let image = old.history.present in
     let report = c.in-Ok.ensures.report told in
     subst (λ (r : Given). Saw new.history (moment old.history) entry.device old.head (said r c.args.self.now.buffer)) (sym c.reply_with_counts.ensures)
-    (saw_seized old new entry c.in-Ok.report.pages (count_of_kind 2 c.in-Ok.report.opened) (count_of_kind 1 c.in-Ok.report.opened) rep (c.seize.ensures.looks.time told) (c.seize.ensures.looks.image told)
+    (saw_seized old new entry c.in-Ok.report.pages (count_of_nodes c.in-Ok.report.opened) (count_of_kind 1 c.in-Ok.report.opened) rep (c.seize.ensures.looks.time told) (c.seize.ensures.looks.image told)
     (counted_of image (P.head c.args.platform.now) c.in-Ok.report (g.met.P.Platform.counts_pages told c.args.platform.now) report)
     c.in-Ok.ensures.pages)
 

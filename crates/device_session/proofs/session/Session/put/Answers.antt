@@ -4,6 +4,9 @@ use Rattle.sdbt_base.specs.declared.lists.Unkept.{Unkept}
 use Rattle.std.specs.Bool.{OnFalse}
 use Rattle.std.specs.FinMap as maps
 use Rattle.sdbt_base.specs.Arrays.{Device, Blocks, padded}
+use Rattle.sdbt_base.specs.Keys.{bare}
+use Rattle.sdbt_base.specs.Told.{Drew}
+use Rattle.sdbt_base.proofs.KeyLaws.{bare_plain}
 use Rattle.platform.specs.Image.{with_page}
 use Rattle.platform.proofs.Moments.{Extends-earlier, During-step, whole-now}
 use Rattle.seal_record.specs.Sealing.{masked}
@@ -45,8 +48,8 @@ few : (g : Over) (c : After-append g) → c.args.block < 1048576
 few g c = let o = is_open g c in omega (arith, small g c, o.served.in_range.blocks_most)
 
 -- the body is the record of the block
-body_is : (g : Over) (c : After-append g) → c.put_block.new.self.body ≡ record_bytes (g.P.Platform.head c.args.platform.now) (DataRecord c.args.block (padded c.args.content.now))
-body_is g c = ap (λ (b : Held). b.body) c.put_block.ensures ∙ ap (λ (n : ℕ). record_bytes n (DataRecord c.args.block (padded c.args.content.now))) c.head-addr.ensures.value
+body_is : (g : Over) (c : After-append g) → c.put_block.new.self.body ≡ record_bytes 1 (g.P.Platform.head c.args.platform.now) (DataRecord c.args.block (padded c.args.content.now))
+body_is g c = ap (λ (b : Held). b.body) (c.put_block.ensures 1) ∙ ap (λ (n : ℕ). record_bytes 1 n (DataRecord c.args.block (padded c.args.content.now))) c.head-addr.ensures.value
 
 size : (g : Over) (c : After-insert g) → IsSameSize c.self.inside.grove c.insert.new.self
 size g c = record { sound = c.insert.ensures.sound; order = c.insert.ensures.size.0; blocks = c.insert.ensures.size.1; head = c.insert.ensures.size.2 }
@@ -59,12 +62,12 @@ arrives g c told =
     let key = c.in-Ok.placed.key in
     let text = padded c.args.content.now in
     let address : addr ≡ g.P.Platform.head c.args.platform.now = c.in-Ok.ensures.placed.address in
-    let body : c.put_block.new.self.body ≡ record_bytes addr (DataRecord c.args.block text) = ap (λ (b : Held). b.body) c.put_block.ensures ∙ ap (λ (n : ℕ). record_bytes n (DataRecord c.args.block text)) (c.head-addr.ensures.value ∙ sym address) in
+    let body : c.put_block.new.self.body ≡ record_bytes 1 addr (DataRecord c.args.block text) = ap (λ (b : Held). b.body) (c.put_block.ensures 1) ∙ ap (λ (n : ℕ). record_bytes 1 n (DataRecord c.args.block text)) (c.head-addr.ensures.value ∙ sym address) in
     let o = subst (λ (s : Session). IsOpen s (g.P.Platform.head c.args.platform.now)) (sym c.self.view_is) c.requires.open in
     let to = subst (λ (s : Session). c.args.block < s.root.blocks) (sym c.self.view_is) c.requires.room.0 in
     arrived image (g.P.Platform.history c.append.new.platform).present c.args.block addr key text (whole-now (g.P.Platform.history c.args.platform.now)) (Extends-earlier _ _ (c.append.ensures.adds.time told).extends)
     (address ∙ sym (g.met.P.Platform.counts_pages told c.args.platform.now)) (omega (arith, address, g.met.P.Platform.has_room c.args.platform.now, g.met.P.Platform.is_limited c.args.platform.now))
-    (omega (arith, to, o.served.in_range.blocks_most)) (padded_bytes c.args.content.now c.requires.size c.are_bytes.ensures)
+    (omega (arith, to, o.served.in_range.blocks_most)) c.in-Ok.ensures.placed.key.0 (padded_bytes c.args.content.now c.requires.size c.are_bytes.ensures)
     (c.in-Ok.ensures.placed.image told ∙ ap (λ (b : List ℕ). with_page image (masked key b) (masked key b)) body)
 
 -- the insertion, over a tree that is ready for it
@@ -164,7 +167,7 @@ appends g c Done done =
     let old = g.P.Platform.history c.args.platform.now in
     let value = DataRecord c.args.block (padded c.args.content.now) in
     keeps_from _ _ _ old _ (IsNextRecord old.present value) _ _ Done
-    (c.append.ensures.keeps value (few g c, padded_bytes c.args.content.now c.requires.size c.are_bytes.ensures) (body_is g c))
+    (c.append.ensures.keeps 1 value (few g c, padded_bytes c.args.content.now c.requires.size c.are_bytes.ensures) (body_is g c))
     (λ told keys h. record { device = Some h.0.device; stands = (c.args.self.now.root, h.0.holds.committed, h.0.holds.stands); listed = tt })
     (λ told keys more h then. done told keys more (subst (λ (s : Session). HoldsListed s old.present keys) (sym c.self.view_is) h.0) h.1)
 
@@ -242,11 +245,11 @@ returns-clause-keeps g c =
     let old = g.P.Platform.history c.args.platform.now in
     let value = DataRecord c.args.block (padded c.args.content.now) in
     keeps_from _ _ _ old _ (IsNextRecord old.present value) _ _ _
-    (c.append.ensures.keeps value (few g at.After-append, padded_bytes c.args.content.now c.requires.size c.are_bytes.ensures) (body_is g at.After-append))
+    (c.append.ensures.keeps 1 value (few g at.After-append, padded_bytes c.args.content.now c.requires.size c.are_bytes.ensures) (body_is g at.After-append))
     (λ told keys h. record { device = Some h.0.device; stands = (c.args.self.now.root, h.0.holds.committed, h.0.holds.stands); listed = tt })
     (λ told keys more h then.
     let k = subst (λ (s : Session). HoldsListed s old.present keys) (sym c.self.view_is) h.0 in
-    let has : Contains (keys ++ more) c.in-Ok.placed.key = rw c.in-Ok.is at then in
+    let has : Contains (keys ++ more) (bare c.in-Ok.placed.key) = rw c.in-Ok.is at then in
     subst (λ n. HoldsListed (with_inserted (the_view c.self.inside) c.insert.new.self n c.append.new.self) (g.P.Platform.history c.append.new.platform).present (keys ++ more)) (sym c.count_with-self-inside.ensures)
     (inserted_listed (the_view c.self.inside) _ _ keys more c.args.block c.in-Ok.placed.addr c.in-Ok.placed.key (padded c.args.content.now) c.args.is_mapped c.insert.new.self c.append.new.self (insertion g at.After-insert (arrives g at.In-Ok) told h.1) k has))
 
@@ -256,7 +259,7 @@ returns-clause-adds g c =
       c.in-Ok.ensures.placed.head,
       record {
         key = c.in-Ok.placed.key;
-        drew = c.in-Ok.ensures.placed.drew;
+        drew = subst (λ (k : List ℕ). Drew (g.T.Tape.drawn c.args.tape.now) k (g.T.Tape.drawn c.append.new.tape)) (sym (bare_plain c.in-Ok.placed.key c.in-Ok.ensures.placed.key.0)) c.in-Ok.ensures.placed.drew;
         place = subst (λ n. Contains (places_of c.insert.new.self) (datum c.args.block n c.in-Ok.placed.key)) address c.insert.ensures.has;
       },
     )

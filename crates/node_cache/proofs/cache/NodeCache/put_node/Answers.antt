@@ -16,7 +16,7 @@ invariant_of-self c =
     let all = refilled c.note.new.buckets c.self.inside.buckets.items c.self.inside.buckets.len c.self.inside.buckets.ok.0 (c.note.ensures.count ∙ ap length c.deref_mut.ensures.value) in
     let slot = subst (λ addrs. IsSlotFor c.self.inside.slots.entries addrs c.args.addr c.slot_for-number.result) c.deref-2.ensures.value c.slot_for-number.ensures in
     record {
-      tied = tied_after_put c.self.inside.slots.entries c.fill.new.slots.entries c.self.inside.addrs.items c.slot_for-number.result (cached_node c.args.addr c.args.key.now (node_of c.args.level c.args.entries.now)) c.self.invariant.tied slot (ap (λ m. m.entries) c.fill.ensures.written) c.fill.ensures.distinct;
+      tied = tied_after_put c.self.inside.slots.entries c.fill.new.slots.entries c.self.inside.addrs.items c.slot_for-number.result (cached_node c.args.addr c.args.key.now (node_of c.args.level c.args.version c.args.entries.now)) c.self.invariant.tied slot (ap (λ m. m.entries) c.fill.ensures.written) c.fill.ensures.distinct;
       covers = subst (λ bs. Covers bs (set addrs n (Some c.args.addr))) (sym all) (subst (λ l. Covers c.note.new.buckets (set l n (Some c.args.addr))) c.deref-3.ensures.value c.note.ensures.covers);
       some = λ some. (let old = c.self.invariant.some (omega (arith, some, length-set addrs n (Some c.args.addr))) in omega (arith, old, ap length all, c.note.ensures.count, ap length c.deref_mut.ensures.value));
     }
@@ -24,4 +24,4 @@ invariant_of-self c =
 pub returns-clause-cached : goal.returns-clause-cached
 returns-clause-cached c =
     let slot = subst (λ addrs. IsSlotFor c.self.inside.slots.entries addrs c.args.addr c.slot_for-number.result) c.deref-2.ensures.value c.slot_for-number.ensures in
-    rw (← c.self.view_is) (cached_after_put c.self.inside.slots.entries c.fill.new.slots.entries c.self.inside.addrs.items c.slot_for-number.result (cached_node c.args.addr c.args.key.now (node_of c.args.level c.args.entries.now)) (grind (arith, common_steps)) c.self.invariant.tied slot (ap (λ m. m.entries) c.fill.ensures.written))
+    rw (← c.self.view_is) (cached_after_put c.self.inside.slots.entries c.fill.new.slots.entries c.self.inside.addrs.items c.slot_for-number.result (cached_node c.args.addr c.args.key.now (node_of c.args.level c.args.version c.args.entries.now)) (grind (arith, common_steps)) c.self.invariant.tied slot (ap (λ m. m.entries) c.fill.ensures.written))
