@@ -154,7 +154,7 @@ listed_keys (Some session) image other keys more same h = subst (λ (i : Image).
   device = h.device;
   contents = h.contents;
   holds = h.holds;
-  listed = λ s has own. Contains-append_left keys more s.key (h.listed s has own);
+  listed = λ s has own. Contains-append_left keys more (bare s.key) (h.listed s has own);
 }
 
 -- a call that draws none and adds no page
