@@ -3,6 +3,7 @@ use Rattle.std.proofs.Common.{◌≡◌, ℕ, ◌+◌, List, ◌++◌, Option, N
 use Rattle.std.specs.Prelude.{IsOk}
 use Rattle.std.proofs.lemmas.List.Elements.{Contains-append_left}
 use Rattle.sdbt_base.specs.Arrays.{Device, State}
+use Rattle.sdbt_base.specs.Keys.{bare}
 use Rattle.root_codec.specs.RootRecord.{root_bytes}
 use Rattle.platform.specs.Image.{Image}
 use Rattle.platform.specs.History.{History, Extends, During, Turns, CellStays}
