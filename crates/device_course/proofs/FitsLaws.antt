@@ -10,6 +10,7 @@ use Rattle.std.proofs.lemmas.List.Kept.{AllPairs-cons}
 use Rattle.sdbt_base.specs.Told.{Got, GotPart}
 use Rattle.sdbt_base.proofs.ToldLaws.{Got-nothing, Got-then}
 use Rattle.sdbt_base.specs.Arrays.{Device, Blocks, State, Session as OpenSession}
+use Rattle.sdbt_base.specs.Keys.{bare}
 use Rattle.sdbt_base.specs.Traces.{Traced, TraceEntry, DataOf, NodeOver}
 use Rattle.sdbt_base.specs.declared.lists.Unkept.{Unkept}
 use Rattle.platform.specs.Image.{Image, IsEarlier, MayLeave, LeavesOnly}
@@ -463,12 +464,12 @@ fitting_format tells written written_now old new base Done told forgets certifie
 -- ---- from a state of the session
 
 -- a session that has an array over an image has a list of its keys
-listed : (session : Session) (image : Image) (device : Device) (contents : Blocks) → Holds session image device contents → HoldsListed session image (map (λ s. s.key) (places_of session.grove))
+listed : (session : Session) (image : Image) (device : Device) (contents : Blocks) → Holds session image device contents → HoldsListed session image (map (λ s. bare s.key) (places_of session.grove))
 listed session image device contents h = record {
   device = device;
   contents = contents;
   holds = h;
-  listed = λ s has mine. map_contains (λ (s : Stub). s.key) (places_of session.grove) s has;
+  listed = λ s has mine. map_contains (λ (s : Stub). bare s.key) (places_of session.grove) s has;
 }
 
 session_holds : (session : Session) (image : Image) (device : Option Device) (there : Option OpenSession) → IsSessionOf (Some session) image device there → (d : Device) × (contents : Blocks) × Holds session image d contents
@@ -486,7 +487,7 @@ fitting_committed tells written written_now old new held session Done is forgets
     let there : IsSessionOf (Some session) old.present entry.device entry.session = subst (λ (s : Option Session). IsSessionOf s old.present entry.device entry.session) is at.there.session in
     let h = session_holds session old.present entry.device entry.session there in
     fitting_commit tells written written_now old new session h.0 h.1 Done told h.2
-    (forgets told (map (λ (s : Stub). s.key) (places_of session.grove)) (listed session old.present h.0 h.1 h.2)) certifies
+    (forgets told (map (λ (s : Stub). bare s.key) (places_of session.grove)) (listed session old.present h.0 h.1 h.2)) certifies
 
 -- a format, by its public clauses
 pub fitting_formatted : (tells : Type 0) (written written_now : Option (List ℕ)) (old new : History) (held : Option Session) (base : ℕ) (Done : Type 0) → (tells → IsSound old.present → Forgets old new)

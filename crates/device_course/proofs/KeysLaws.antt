@@ -3,6 +3,7 @@ use Rattle.std.proofs.Common.{◌≡◌, ℕ, ◌+◌, List, ◌++◌, Option, N
 use Rattle.std.specs.Prelude.{IsOk}
 use Rattle.std.proofs.lemmas.List.Elements.{Contains-append_left}
 use Rattle.sdbt_base.specs.Arrays.{Device, State}
+use Rattle.sdbt_base.specs.Keys.{bare}
 use Rattle.root_codec.specs.RootRecord.{root_bytes}
 use Rattle.platform.specs.Image.{Image}
 use Rattle.platform.specs.History.{History, Extends, During, Turns, CellStays}
@@ -154,7 +155,7 @@ listed_keys (Some session) image other keys more same h = subst (λ (i : Image).
   device = h.device;
   contents = h.contents;
   holds = h.holds;
-  listed = λ s has own. Contains-append_left keys more s.key (h.listed s has own);
+  listed = λ s has own. Contains-append_left keys more (bare s.key) (h.listed s has own);
 }
 
 -- a call that draws none and adds no page

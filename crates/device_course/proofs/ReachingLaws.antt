@@ -1,6 +1,7 @@
 -- What follows of the keys of a whole run, and of its ledger.
 use Rattle.std.proofs.Common.{ℕ, List, [], ◌∷◌, Option, None, map, sym, subst}
 use Rattle.std.proofs.lemmas.List.Elements.{All-contains}
+use Rattle.sdbt_base.specs.Keys.{bare}
 use Rattle.platform.specs.History.{History, image_at}
 use Rattle.key_graph.specs.Chains.{Reached}
 use Rattle.key_graph.proofs.ChainLaws.{contains_map, map_contains}
@@ -24,7 +25,7 @@ use Rattle.device_course.specs.Reaching.{Taken, WasTaken, ReachesUnion, Disclose
 reaches_union : (old new : History) → ReachesStill old new → ReachesUnion old new
 reaches_union old new still until within all each addr =
     let pages = (image_at new until).recorded in
-    let key : Taken → List ℕ = λ t. t.root.key in (
+    let key : Taken → List ℕ = λ t. bare t.root.key in (
       λ reached.
           let one = (by_one (map key all) pages addr).0 reached in
           let found = contains_map key all one.0 one.1 in

@@ -1,5 +1,6 @@
 -- What the pages of a run disclose to whoever has the root record's key.
 use Rattle.std.specs.Prelude.{◌≤◌, ◌↔◌, ◌++◌, ℕ, List, Option, All, Contains, map}
+use Rattle.sdbt_base.specs.Keys.{bare}
 use Rattle.platform.specs.History.{History, image_at, moment}
 use Rattle.root_codec.specs.declared.root.Root.{Root}
 use Rattle.key_graph.specs.Chains.{Reached, KeyPremises}
@@ -28,12 +29,13 @@ pub record IsOfOne (new : History) (all : List Taken) (addr : ℕ) : Type 0 wher
   pub one : Contains all taken
   pub has : IsInTree (image_at new taken.at) addr
 
--- chains of opening from the keys of root records that were seized at some moments end, over the pages of each later moment, at exactly the addresses of
--- the trees of those moments: of a page whose life held no seizure they never do
+-- chains of opening from the keys of root records that were seized at some moments, without their digests, end, over the
+-- pages of each later moment, at exactly the addresses of the trees of those moments: of a page whose life held no seizure
+-- they never do
 abbrev pub ReachesUnion : History → History → Type 0
 ReachesUnion old new =
     (until : ℕ) → until ≤ moment new → (all : List Taken) → All (WasTaken old new until) all
-    → (addr : ℕ) → Reached (map (λ t. t.root.key) all) (image_at new until).recorded addr ↔ IsOfOne new all addr
+    → (addr : ℕ) → Reached (map (λ t. bare t.root.key) all) (image_at new until).recorded addr ↔ IsOfOne new all addr
 
 -- a run drew some keys, and each page that it handed over is a record sealed under one of them, on any image; and over an image that stands
 -- for a device which can be served, with each list of keys that this image keeps, it discloses its trees and no more; so do, under the premises on

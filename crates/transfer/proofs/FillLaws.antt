@@ -248,7 +248,7 @@ fresh_blank image session device there at alike fresh =
     let number : there.number ≡ 0 = sym holds.stands.number ∙ fresh.0 in
     let none : (joined holds.each).mapped ≡ [] = nothing (joined holds.each).mapped (sym holds.count ∙ fresh.1) in
     let contents : there.contents ≡ maps.empty = holds.contents_are ∙ ap (λ (ms : List Mapped). maps.from_entries {R = nat_cmp} (pairs ms)) none in
-    λ k. record { version = holds.stands.version k; blocks = alike.blocks k; order = alike.order k; number = number k; contents = contents k }
+    λ k. record { version = holds.stands.first k; blocks = alike.blocks k; order = alike.order k; number = number k; contents = contents k }
 
 -- and the other way round
 blank_fresh : (image : Image) (session : Session) (device there : Device) → IsAt image (Some session) (mounted there (session_on there)) → there ≡ blank_of device → (number_of session ≡ 0) × (session.mapped ≡ 0)

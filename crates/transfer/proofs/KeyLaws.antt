@@ -9,6 +9,7 @@ use Rattle.key_graph.proofs.ChainLaws.{contains_at}
 use Rattle.platform.specs.History.{Extends, History}
 use Rattle.platform.proofs.Moments.{Extends-earlier}
 use Rattle.sdbt_base.specs.Arrays.{Device}
+use Rattle.sdbt_base.specs.Keys.{bare}
 use Rattle.page_store.specs.Kept.{Kept}
 use Rattle.device_course.specs.Course.{Promised}
 use Rattle.device_course.specs.States.{Outside}
@@ -45,5 +46,5 @@ reaches_nothing from from_now to to_now there made came extends size one two kep
     let own : HaveOwnKeys one pages = subst (HaveOwnKeys one) (sym (same_pages from.history from_now.history extends size)) kept.pages in
     let each = (came.discloses two kept_two).kept in record {
       extends = each.extends;
-      each = λ i first last root is addr reached. nothing_reached one (two ++ came.grew) pages root.key own apart opener (((each.each i first last).cell root is).own) addr reached;
+      each = λ i first last root is addr reached. nothing_reached one (two ++ came.grew) pages (bare root.key) own apart opener (((each.each i first last).cell root is).own) addr reached;
     }

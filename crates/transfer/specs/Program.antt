@@ -2,6 +2,7 @@
 use Rattle.std.specs.Prelude.{◌≡◌, ◌++◌, ◌≢◌, ◌+◌, ◌-◌, ◌*◌, ◌≤◌, length, ◌⊎◌, ◌↔◌, ℕ, All, Contains, List, [], ◌∷◌, Option, None, Some, Result, IfErr, IfOk}
 use Rattle.std.specs.FinMap as map
 use Rattle.sdbt_base.specs.Arrays.{Device}
+use Rattle.sdbt_base.specs.Keys.{bare}
 use Rattle.sdbt_base.specs.Told.{Got}
 use Rattle.platform.specs.Image.{Image, MayLeave}
 use Rattle.platform.specs.History.{During, History, Turns, image_at, moment}
@@ -93,9 +94,10 @@ LeavesEmpty old new = (i : ℕ) × (moment old ≤ i) × (i ≤ moment new) × (
 abbrev pub AreApart : List (List ℕ) → List (List ℕ) → Type 0
 AreApart one other = (key : List ℕ) → Contains one key → Contains other key → ⊥
 
--- over these pages chains from the key of a root record that is in the cell at a moment of this time end nowhere
+-- over these pages chains from the key, without its digest, of a root record that is in the cell at a moment of this time
+-- end nowhere
 abbrev pub ReachesNothing : History → History → List (List ℕ) → Type 0
-ReachesNothing old new pages = During old new (λ image. (root : Root) → IsRootOf image root → (addr : ℕ) → Reached (root.key ∷ []) pages addr → ⊥)
+ReachesNothing old new pages = During old new (λ image. (root : Root) → IsRootOf image root → (addr : ℕ) → Reached (bare root.key ∷ []) pages addr → ⊥)
 
 -- a move from a platform that stands for a device to one that stands for a device, or for none. The first one is left, or its root record was cleared. Of the second, others were made in
 -- their order, each never written or a copy; and where at any moment a loss of power leaves an empty cell on the first platform, whatever one leaves on the second at the end is a copy
