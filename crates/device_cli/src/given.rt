@@ -51,11 +51,18 @@ fn root_given(word: &String, head: u64) -> Option<Root>
 {
     let record = record_of(word)?;
     let root = decode_root(&record)?;
-    if root.version == 1 && root.head <= head {
+    if is_within(&root, head) {
         Some(root)
     } else {
         None
     }
+}
+
+/// Whether a root is of version 1, and speaks of no more pages than there are.
+fn is_within(root: &Root, head: u64) -> bool
+    ensures { IsTrue result ↔ ((root.now.version ≡ 1) × (root.now.head ≤ head)) }
+{
+    root.version == 1 && root.head <= head
 }
 
 /// The bytes that a word of 256 hex digits stands for. None for every other word.
