@@ -148,6 +148,7 @@ returns-in_default-sync-clause-stops g c at = λ err.
     let A = c.in_ok-placed.ensures.sealed can in
     let ns = A.nodes in
     let places = stubs (suc at.level) root.blocks top in
+    let order_most = most_at_most root.version root.order at.in_range.version at.in_range.order_most in
     let over : AreNodesOver head places ns = record {
       order = node_in_order root.order at.level (top_least at.level) head head 0 root.blocks placed.addr placed.key twig ns A.is.0 s.shaped order_most at.level_most at.in_range.blocks_most s.under (omega arith);
       keys = subst (λ ss. KeysAreFrom (keys_at ss) ns) (sym s.places) (node_keys at.level head root.blocks (children_of twig) ns placed.addr placed.key A.is.0);
