@@ -1,7 +1,5 @@
-use Rattle.std.proofs.Common.{◌≡◌, ◌∙◌, ℕ, List, [], Option, None, Some, Bool, true, false, is_ok, refl, ap, sym, subst, inl, inr, arith, rules}
+use Rattle.std.proofs.Common.{◌≡◌, ◌∙◌, ℕ, List, [], Option, None, Some, Bool, true, false, is_ok, refl, ap, sym, inl, inr, arith, rules}
 use Rattle.page_store.specs.Buffer.{Held}
-use Rattle.sdbt_base.specs.Told.{Drew}
-use Rattle.sdbt_base.proofs.KeyLaws.{bare_plain}
 use Rattle.node_codec.specs.Record.{NodeRecord, record_bytes}
 use Rattle.sdbt_base.specs.Arrays.{new_device}
 use Rattle.sdbt_base.specs.Counts.{Counts, counts}
@@ -125,7 +123,7 @@ returns-in-Ok-publish-clause-made g c = λ told.
         ap (λ (i : Image). i.cell) (c.in-Ok-publish.ensures.published told),
         record {
           earlier = [];
-          drew = subst (λ (k : List ℕ). Drew (g.T.Tape.drawn c.args.tape.now) k (g.T.Tape.drawn c.append.new.tape)) (sym (bare_plain c.in-Ok-append.placed.key c.in-Ok-append.ensures.placed.key.0)) c.in-Ok-append.ensures.placed.drew;
+          drew = c.in-Ok-append.ensures.placed.drew;
           node = omega (arith, address, c.in-Ok-append.ensures.placed.head, c.publish.ensures.head);
           head = omega (arith, address, c.in-Ok-append.ensures.placed.head, c.publish.ensures.head);
         },
