@@ -1,5 +1,5 @@
 //! Pages that are appended and fetched, and the root record that is looked for.
-ghost use Rattle.std.specs.Prelude.{◌≡◌, length};
+ghost use Rattle.std.specs.Prelude.{◌≡◌, ◌⊎◌, length};
 
 use arrayvec::ArrayVec;
 use node_codec::Entry;
@@ -55,18 +55,23 @@ impl Fixture {
         })
     }
 
-    /// Appends what the buffers hold, if there is room.
-    fn place(&mut self) -> Option<Result<Placed, AppendFault>> {
+    /// Appends what the buffers hold, in a version, if there is room.
+    fn place(&mut self, version: u8) -> Option<Result<Placed, AppendFault>>
+        requires { (version ≡ 1) ⊎ (version ≡ 2) }
+    {
         if self.platform.head() >= self.platform.capacity() {
             return None;
         }
-        Some(self.buffers.append(&mut self.platform, &mut self.tape))
+        Some(
+            self.buffers
+                .append(&mut self.platform, &mut self.tape, version),
+        )
     }
 
     /// Appends the data record of block 3 for address 0.
     fn place_block(&mut self) -> Option<Result<Placed, AppendFault>> {
         self.buffers.put_block(0, 3, b"hi");
-        self.place()
+        self.place(1)
     }
 
     /// Appends a leaf for address 1, with an entry of block 3 for the page at address 0.
@@ -77,19 +82,19 @@ impl Fixture {
             key: key(1),
         };
         self.buffers.put_node(1, 1, 1, &[entry]);
-        self.place()
+        self.place(1)
     }
 
     /// Appends an empty leaf for address 0.
     fn place_empty_leaf(&mut self) -> Option<Result<Placed, AppendFault>> {
         self.buffers.put_node(0, 1, 1, &[]);
-        self.place()
+        self.place(1)
     }
 
     /// Appends an empty leaf of the second version for address 0.
     fn place_second_leaf(&mut self) -> Option<Result<Placed, AppendFault>> {
         self.buffers.put_node(0, 1, 2, &[]);
-        self.place()
+        self.place(2)
     }
 
     /// The digest of the page at an address; none where there is no such page.
@@ -232,9 +237,17 @@ fn bad(addr: u64) -> Option<Result<usize, FetchRefusal>> {
 fn fetches_a_node_of_the_version_of_its_key(rt: HostRuntime) -> Result<(), Fail> {
     let empty = want_of(0, 1, (0, 8), (0, 4));
     let mut fixture = Fixture::new(rt.alloc(), &[])?;
-    assert!(rt; fixture.place_second_leaf() == placed(0, 1));
+    let placed_second = fixture.place_second_leaf();
     let digest = fixture.digest(0).ok_or("no page")?;
-    assert!(rt; fixture.node_under(&empty, &key(1).with_digest(digest)) == Some(Ok(0)));
+    let named = key(1).with_digest(digest);
+    assert!(rt;
+        placed_second
+            == Some(Ok(Placed {
+                addr: 0,
+                key: named
+            }))
+    );
+    assert!(rt; fixture.node_under(&empty, &named) == Some(Ok(0)));
     assert!(rt; fixture.node_under(&empty, &key(2).with_digest(digest)) == bad(0));
     assert!(rt; fixture.node_under(&empty, &key(1).with_digest([7; 32])) == bad(0));
     assert!(rt; fixture.node(&empty, 1) == bad(0), "no digest");
@@ -299,10 +312,7 @@ fn finds_the_root_of_pages_that_are_there(rt: HostRuntime) -> Result<(), Fail> {
     };
     let record = record_of(&second).ok_or("no root record")?;
     assert!(rt; fixture.swap(&record));
-    assert!(rt;
-        fixture.current() == Err(CurrentRefusal::BadRoot),
-        "not served yet"
-    );
+    assert!(rt; fixture.current() == Ok(Some(second)));
     assert!(rt; fixture.swap(&[7; ROOT]));
     assert!(rt;
         fixture.current() == Err(CurrentRefusal::BadRoot),

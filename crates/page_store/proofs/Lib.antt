@@ -11,3 +11,5 @@ pub mod KeepingLaws
 pub mod FloorLaws
 pub mod DisclosingLaws
 pub mod FetchLaws
+pub mod AppendLaws
+pub mod ChangeLaws

@@ -56,7 +56,6 @@ stands_kept image other device root parts stands cell head readable recorded = r
   in_range = stands.in_range;
   key = stands.key;
   version = stands.version;
-  first = stands.first;
   order = stands.order;
   blocks = stands.blocks;
   number = stands.number;

@@ -1,6 +1,7 @@
 -- What an append of a record does.
 use Rattle.std.specs.Prelude.{◌≡◌, ◌≤◌, ◌+◌, ℕ, List}
 use Rattle.sdbt_base.specs.Bytes.{IsBytes}
+use Rattle.sdbt_base.specs.Keys.{bare, IsKeyOf}
 use Rattle.sdbt_base.specs.Told.{Drew}
 use Rattle.sdbt_base.specs.declared.tapes.Tape.{Ghosts as TapeGhosts}
 use Rattle.platform.specs.Image.{with_page, MayHavePage}
@@ -8,13 +9,16 @@ use Rattle.platform.specs.History.{Steps}
 use Rattle.platform.specs.Calls.{Grows}
 use Rattle.platform.specs.declared.platforms.Platform.{Ghosts as PlatformGhosts}
 use Rattle.seal_record.specs.Sealing.{masked}
+use Rattle.page_digest.specs.Digest.{FitsDigest}
 use Rattle.page_store.specs.declared.appending.Placed.{Placed}
 
--- the body was sealed under a key that was drawn for it, and its page handed over at the head
-pub record IsPlaced {S R : Type 0} (P : PlatformGhosts S) (T : TapeGhosts R) (body : List ℕ) (platform platform_now : S) (tape tape_now : R) (placed : Placed) : Type 0 where
+-- the body was sealed under a key that was drawn for it, and its page handed over at the head. In version 2 the digest of this page stands
+-- behind the key
+pub record IsPlaced {S R : Type 0} (P : PlatformGhosts S) (T : TapeGhosts R) (version : ℕ) (body : List ℕ) (platform platform_now : S) (tape tape_now : R) (placed : Placed) : Type 0 where
   pub address : placed.addr ≡ P.head platform
-  pub key : IsBytes 32 placed.key
-  pub drew : Drew (T.drawn tape) placed.key (T.drawn tape_now)
+  pub key : IsKeyOf version placed.key
+  pub drew : Drew (T.drawn tape) (bare placed.key) (T.drawn tape_now)
+  pub digested : FitsDigest placed.key (masked placed.key body)
   pub image : P.tells → (P.history platform_now).present ≡ with_page (P.history platform).present (masked placed.key body) (masked placed.key body)
   pub head : P.head platform_now ≡ P.head platform + 1
 

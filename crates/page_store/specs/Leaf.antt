@@ -39,7 +39,6 @@ pub record StandsByLeaf (image : Image) (device : Device) (root : Root) (entries
   pub in_range : FitsRoot root
   pub key : IsKeyOf root.version root.key
   pub version : root.version ≡ device.version
-  pub first : device.version ≡ 1
   pub level : root.level ≡ 1
   pub order : root.order ≡ device.order
   pub blocks : root.blocks ≡ device.blocks

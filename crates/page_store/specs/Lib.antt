@@ -10,3 +10,4 @@ pub mod Appending
 pub mod Floors
 pub mod Disclosing
 pub mod Reading
+pub mod Changing

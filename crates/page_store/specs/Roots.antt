@@ -1,13 +1,12 @@
 -- What the root cell may hold.
-use Rattle.std.specs.Prelude.{◌≡◌, ◌≢◌, ◌≤◌, ℕ, List, Option, None, Some}
+use Rattle.std.specs.Prelude.{◌≢◌, ◌≤◌, ℕ, List, Option, None, Some}
 use Rattle.sdbt_base.specs.Keys.{IsKeyOf}
 use Rattle.root_codec.specs.declared.root.Root.{Root}
 use Rattle.root_codec.specs.RootRecord.{FitsRoot, root_bytes}
 
--- a root in range that speaks of no more pages than there are. So far only devices of version 1 are served
+-- a root in range that speaks of no more pages than there are
 pub record IsRootWithin (head : ℕ) (root : Root) : Type 0 where
   pub in_range : FitsRoot root
-  pub version : root.version ≡ 1
   pub key : IsKeyOf root.version root.key
   pub within : root.head ≤ head
 

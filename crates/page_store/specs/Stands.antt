@@ -18,7 +18,6 @@ pub record StandsBy (image : Image) (device : Device) (root : Root) (parts : Par
   pub in_range : FitsRoot root
   pub key : IsKeyOf root.version root.key
   pub version : root.version ≡ device.version
-  pub first : device.version ≡ 1
   pub order : root.order ≡ device.order
   pub blocks : root.blocks ≡ device.blocks
   pub number : root.commit ≡ device.number

@@ -8,6 +8,7 @@
 mod appending;
 mod blocks;
 mod buffers;
+mod change_laws;
 mod floor_laws;
 mod key_laws;
 mod laws;
@@ -19,6 +20,7 @@ mod wants;
 pub use appending::Placed;
 pub use blocks::fetch_block;
 pub use buffers::Buffers;
+pub use change_laws::same_page_or_collides;
 pub use floor_laws::{head_of_root, keeps_deleted, never_reached, reaches_still};
 pub use key_laws::{keeps_keys, moments_reach, reaches_tree, tree_is_closed};
 pub use laws::{

@@ -13,7 +13,7 @@ use sdbt_base::ROOT;
 /// The root record in the cell, or none where the cell is empty.
 ///
 /// `BadRoot` comes exactly where the cell is full and holds no root record, or one whose head field is
-/// above the platform's head: it speaks of pages that are not there. So far it comes of version 2 as well.
+/// above the platform's head: it speaks of pages that are not there.
 pub fn current<P: Platform>(platform: &mut P) -> Result<Option<Root>, CurrentRefusal>
     ensures found { P.tells → IfOk result (λ found. IfSome found (λ root.
         (P.history platform.old).present.cell ≡ Some (root_bytes root))) }
@@ -39,7 +39,7 @@ pub fn current<P: Platform>(platform: &mut P) -> Result<Option<Root>, CurrentRef
     }
 }
 
-/// The root whose root record the 128 bytes are, where it is of version 1 and its head field is not above `head`.
+/// The root whose root record the 128 bytes are, where its head field is not above `head`.
 fn root_within(bytes: &[u8], head: u64) -> Option<Root>
     requires { length bytes.now ≡ 128 }
     ensures found { IfSome result (λ root. IsRootWithin head root × (bytes.now ≡ root_bytes root)) }
@@ -53,9 +53,9 @@ fn root_within(bytes: &[u8], head: u64) -> Option<Root>
     }
 }
 
-/// Whether a root is of version 1, and speaks of no more pages than there are.
+/// Whether a root speaks of no more pages than there are.
 fn is_within(root: &Root, head: u64) -> bool
-    ensures { IsTrue result ↔ ((root.now.version ≡ 1) × (root.now.head ≤ head)) }
+    ensures { IsTrue result ↔ (root.now.head ≤ head) }
 {
-    root.version == 1 && root.head <= head
+    root.head <= head
 }

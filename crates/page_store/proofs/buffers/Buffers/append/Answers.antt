@@ -1,13 +1,31 @@
 use Rattle.std.proofs.Common.{◌≡◌, ℕ, List, length, ap, sym, subst, refl, ◌∙◌}
 use Rattle.std.specs.Prelude.{Contains}
-use Rattle.sdbt_base.proofs.KeyLaws.{bare_plain}
+use Rattle.sdbt_base.specs.Told.{Drew}
 use Rattle.platform.proofs.Moments.{During-start}
 use Rattle.page_store.specs.Keeping.{IsNextRecord}
 use Rattle.page_store.proofs.KeepingLaws.{keeps_idle, keeps_append}
-use Rattle.platform.specs.Image.{MayHavePage}
+use Rattle.platform.specs.Image.{MayHavePage, with_page}
+use Rattle.page_digest.specs.Digest.{FitsDigest}
+use Rattle.page_store.proofs.AppendLaws.{same_mask}
 use Rattle.seal_record.specs.Sealing.{masked}
 use Rattle.page_store.specs.Buffer.{Held}
 use Rattle.page_store.proofs.buffers.Buffers.append.Goals as goal
+
+pub returns-clause-placed : goal.returns-clause-placed
+returns-clause-placed g c =
+    let key = c.seal_body-key.result in
+    let named = c.key_with_digest-key.result in
+    let body = c.args.self.now.body in
+    let same : masked key body ≡ masked named body = same_mask key named body c.key_with_digest-key.ensures.bare in
+    let page : c.deref.result.now ≡ masked key body = c.deref.ensures.value ∙ ap (λ (held : Held). held.page) (c.self.view_is ∙ c.seal_body-key.ensures.page) in
+    record {
+      address = c.in-Ok-append.ensures.address.0;
+      key = c.key_with_digest-key.ensures.key;
+      drew = subst (λ (k : List ℕ). Drew (g.T.Tape.drawn c.args.tape.now) k (g.T.Tape.drawn c.draw.new.self)) (sym c.key_with_digest-key.ensures.bare) (rw c.seal_body-key.ensures.used c.in-Ok.ensures.drawn);
+      digested = subst (FitsDigest named) (ap (λ (held : Held). held.page) c.seal_body-key.ensures.page ∙ same) c.key_with_digest-key.ensures.digest;
+      image = λ told. c.in-Ok-append.ensures.appended told ∙ ap (λ (bytes : List ℕ). with_page (g.P.Platform.history c.args.platform.now).present bytes bytes) (page ∙ same);
+      head = c.in-Ok-append.ensures.address.1;
+    }
 
 pub returns-in_default-append-clause-spent : goal.returns-in_default-append-clause-spent
 returns-in_default-append-clause-spent g c = λ _. record {
@@ -20,16 +38,16 @@ returns-in_default-append-clause-spent g c = λ _. record {
 }
 
 pub returns-in_default-clause-keeps : goal.returns-in_default-clause-keeps
-returns-in_default-clause-keeps g c = λ version value fits is.
+returns-in_default-clause-keeps g c = λ any value fits is.
     let history = g.P.Platform.history c.args.platform.now in
     keeps_idle g.P.Platform.tells (g.T.Tape.drawn c.args.tape.now) (g.T.Tape.drawn c.draw.new.self) history history
     (IsNextRecord history.present value) _ c.in_default.ensures.undrawn (λ told. During-start history (λ image. image ≡ history.present) refl) (λ told keys kept ready. tt)
 
 pub returns-in_default-append-clause-keeps : goal.returns-in_default-append-clause-keeps
-returns-in_default-append-clause-keeps g c = λ version value fits is.
+returns-in_default-append-clause-keeps g c = λ any value fits is.
     let key = c.seal_body-key.result in
     let page : c.deref.result.now ≡ masked key c.args.self.now.body = c.deref.ensures.value ∙ ap (λ (held : Held). held.page) (c.self.view_is ∙ c.seal_body-key.ensures.page) in
-    keeps_append g.P.Platform.tells (g.T.Tape.drawn c.args.tape.now) (g.T.Tape.drawn c.draw.new.self) key c.args.self.now.body version (g.P.Platform.head c.args.platform.now) value
+    keeps_append g.P.Platform.tells (g.T.Tape.drawn c.args.tape.now) (g.T.Tape.drawn c.draw.new.self) key c.args.self.now.body any (g.P.Platform.head c.args.platform.now) value
     (g.P.Platform.history c.args.platform.now) (g.P.Platform.history c.append.new.self) _ (ap (λ (held : Held). length held.body) (sym (c.self.view_is ∙ c.seal_body-key.ensures.page)) ∙ c.self.invariant.1)
     fits is (λ told. sym (g.met.P.Platform.counts_pages told c.args.platform.now)) (rw c.seal_body-key.ensures.used c.in-Ok.ensures.drawn)
     c.append.ensures.time
@@ -37,12 +55,12 @@ returns-in_default-append-clause-keeps g c = λ version value fits is.
     (λ keys has. tt)
 
 pub returns-clause-keeps : goal.returns-clause-keeps
-returns-clause-keeps g c = λ version value fits is.
+returns-clause-keeps g c = λ any value fits is.
     let key = c.seal_body-key.result in
     let page : c.deref.result.now ≡ masked key c.args.self.now.body = c.deref.ensures.value ∙ ap (λ (held : Held). held.page) (c.self.view_is ∙ c.seal_body-key.ensures.page) in
-    keeps_append g.P.Platform.tells (g.T.Tape.drawn c.args.tape.now) (g.T.Tape.drawn c.draw.new.self) key c.args.self.now.body version (g.P.Platform.head c.args.platform.now) value
+    keeps_append g.P.Platform.tells (g.T.Tape.drawn c.args.tape.now) (g.T.Tape.drawn c.draw.new.self) key c.args.self.now.body any (g.P.Platform.head c.args.platform.now) value
     (g.P.Platform.history c.args.platform.now) (g.P.Platform.history c.append.new.self) _ (ap (λ (held : Held). length held.body) (sym (c.self.view_is ∙ c.seal_body-key.ensures.page)) ∙ c.self.invariant.1)
     fits is (λ told. sym (g.met.P.Platform.counts_pages told c.args.platform.now)) (rw c.seal_body-key.ensures.used c.in-Ok.ensures.drawn)
     c.append.ensures.time
     (λ told. subst (λ (bytes : List ℕ). MayHavePage (g.P.Platform.history c.args.platform.now).present bytes (g.P.Platform.history c.append.new.self).present) page (c.append.ensures.either told))
-    (λ keys has. subst (Contains keys) (sym (bare_plain key c.seal_body-key.ensures.key.0)) has)
+    (λ keys has. subst (Contains keys) (sym c.key_with_digest-key.ensures.bare) has)
