@@ -5,6 +5,8 @@
 #[cfg(test)]
 mod cached_nodes;
 #[cfg(test)]
+mod changed_pages;
+#[cfg(test)]
 mod drawn_keys;
 #[cfg(test)]
 mod memory_objects;

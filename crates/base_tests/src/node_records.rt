@@ -170,33 +170,131 @@ fn refused_nodes(rt: HostRuntime) {
     }
 }
 
-/// Whether these are the bytes of a node of the second version with this entry at address 7.
-fn is_second(body: &[u8; 4128], entry: &Entry) -> bool {
+/// The same entry with a digest of bytes 22.
+fn with_digest(entry: Entry) -> Entry {
+    Entry {
+        key: entry.key.with_digest([0x22; 32]),
+        ..entry
+    }
+}
+
+/// 49 entries with digests, of the blocks 0 to 48.
+fn many() -> [Entry; 49] {
+    let mut entries = [with_digest(entry(0, 2)); 49];
+    for (low, entry) in entries.iter_mut().enumerate() {
+        entry.low = low as u64;
+    }
+    entries
+}
+
+/// A leaf of the second version at address 7.
+fn second_of(entries: &[Entry]) -> Option<[u8; 4128]> {
+    if !fits_node(7, 1, 2, entries) {
+        return None;
+    }
+    let mut body = [0xff; 4128];
+    encode_node(7, 1, 2, entries, &mut body);
+    Some(body)
+}
+
+/// Whether these are the bytes of a leaf of the second version with these entries at address 7.
+fn is_second(body: &[u8; 4128], entries: &[Entry]) -> bool {
     match read(body, 7) {
         Some(Body::Node { node }) => {
-            node.version == 2 && node.level == 1 && node.entries.as_slice() == [*entry].as_slice()
+            node.version == 2 && node.level == 1 && node.entries.as_slice() == entries
         }
         _ => false,
     }
 }
 
+/// The level of the node of the second version that this is at address 7.
+fn second_at(body: &[u8; 4128]) -> Option<u8> {
+    let mut entries = ArrayVec::new();
+    decode_node(body, 7, 2, &mut entries)
+}
+
 #[test]
-fn node_of_the_second_version(rt: HostRuntime) {
+fn node_of_the_second_version(rt: HostRuntime) -> Result<(), Fail> {
     let plain = entry(5, 2);
-    let entry = Entry {
-        key: plain.key.with_digest([0x22; 32]),
-        ..plain
-    };
+    let entry = with_digest(plain);
     assert!(rt; !fits_node(7, 1, 2, &[plain]));
     assert!(rt; !fits_node(7, 1, 1, &[entry]));
-    assert!(rt; fits_node(7, 1, 2, &[entry]));
-    let mut body = [0xff; 4128];
-    encode_node(7, 1, 2, &[entry], &mut body);
+    for version in [0, 3] {
+        assert!(rt; !fits_node(7, 1, version, &[plain]) && !fits_node(7, 1, version, &[entry]));
+    }
+    let body = second_of(&[entry]).ok_or("no node")?;
     assert!(rt; body[16..20] == [3, 1, 0, 1][..]);
     assert!(rt; body[32..80] == ENTRY[..]);
     assert!(rt; body[80..112] == [0x22; 32][..]);
     assert!(rt; are_zeros(&body[112..]));
-    assert!(rt; is_second(&body, &entry));
+    assert!(rt; is_second(&body, &[entry]));
+    // It is no node of the first version, and one of that is none of the second.
     let (level, entries) = node_at(&body, 7);
     assert!(rt; level == None && entries.is_empty());
+    let body = node_of(1, &[plain]).ok_or("no node")?;
+    assert!(rt; second_at(&body) == None);
+    Ok(())
+}
+
+/// Puts the entry of block 48 behind 48 entries.
+fn put_one_more(body: &mut [u8; 4128]) {
+    let mut entry = [0; 80];
+    entry.copy_from_slice(&body[3792..3872]);
+    entry[7] = 48;
+    body[3872..3952].copy_from_slice(&entry);
+}
+
+#[test]
+fn counts_of_the_second_version(rt: HostRuntime) -> Result<(), Fail> {
+    let entries = many();
+    assert!(rt; second_of(&entries).is_none());
+    let mut body = second_of(&entries[..48]).ok_or("no node")?;
+    assert!(rt; are_zeros(&body[3872..]));
+    assert!(rt; is_second(&body, &entries[..48]));
+    assert!(rt; second_at(&body) == Some(1));
+    // The next entry stands where it would, and no count reaches it.
+    put_one_more(&mut body);
+    assert!(rt; second_at(&body) == None, "bytes behind the entries");
+    for count in [49, 50, 51, 64, 65, 200] {
+        body[19] = count;
+        assert!(rt;
+            read(&body, 7).is_none() && second_at(&body) == None,
+            "{count}"
+        );
+    }
+    Ok(())
+}
+
+/// A leaf of the second version at address 7 of two entries, with one byte replaced.
+fn decode_second_with(at: usize, byte: u8) -> Option<Body> {
+    let entries = [with_digest(entry(5, 2)), with_digest(entry(9, 6))];
+    read_with(second_of(&entries)?, 7, at, byte)
+}
+
+#[test]
+fn refused_nodes_of_the_second_version(rt: HostRuntime) {
+    // Kind, level, count, zeros, block, lows, children, and the bytes behind the entries.
+    let cases: [(usize, u8); 15] = [
+        (8, 1),
+        (16, 1),
+        (16, 2),
+        (16, 4),
+        (17, 0),
+        (17, 21),
+        (19, 1),
+        (18, 1),
+        (22, 1),
+        (31, 1),
+        (39, 9),
+        (117, 0x10),
+        (127, 7),
+        (192, 1),
+        (4127, 1),
+    ];
+    for at in [79, 111, 191] {
+        assert!(rt; decode_second_with(at, 9).is_some(), "{at}");
+    }
+    for (at, byte) in cases {
+        assert!(rt; decode_second_with(at, byte).is_none(), "{at} {byte}");
+    }
 }

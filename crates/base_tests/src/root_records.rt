@@ -46,55 +46,134 @@ fn worked_record(rt: HostRuntime) {
     assert!(rt; decode_with(87, 4) == Some(Root { head: 4, ..root }));
 }
 
+/// Where a byte of the worked record is replaced, and by what: each makes one field wrong. The first are the stamp and the version,
+/// and all of 88 to 127 are below.
+const WRONG: [(usize, u8); 21] = [
+    (0, 0x73),
+    (7, 0),
+    (8, 1),
+    (9, 0),
+    (9, 3),
+    (11, 2),
+    (11, 5),
+    (11, 66),
+    (12, 0),
+    (12, 21),
+    (13, 1),
+    (15, 1),
+    (23, 0),
+    (20, 1),
+    (31, 3),
+    (39, 3),
+    (79, 9),
+    (72, 1),
+    (83, 2),
+    (87, 2),
+    (87, 0),
+];
+
 #[test]
 fn refused(rt: HostRuntime) {
-    // Where a byte is replaced, and by what: each makes one field wrong.
-    let cases: [(usize, u8); 23] = [
-        (0, 0x73),
-        (7, 0),
-        (8, 1),
-        (9, 0),
-        (9, 3),
-        (11, 2),
-        (11, 5),
-        (11, 66),
-        (12, 0),
-        (12, 21),
-        (13, 1),
-        (15, 1),
-        (23, 0),
-        (20, 1),
-        (31, 3),
-        (39, 3),
-        (79, 9),
-        (72, 1),
-        (83, 2),
-        (87, 2),
-        (87, 0),
-        (88, 1),
-        (127, 1),
-    ];
-    for (at, byte) in cases {
+    for (at, byte) in WRONG {
         assert!(rt; decode_with(at, byte).is_none(), "{at} {byte}");
+    }
+    // Where the second version has a digest, the first has zeros, and behind them as well.
+    for at in 88..128 {
+        assert!(rt; decode_with(at, 1).is_none(), "{at}");
+    }
+    assert!(rt;
+        decode_with(9, 2) == Some(with_digest([0; 32])),
+        "another version"
+    );
+}
+
+/// The same root in the second version, with this digest.
+fn with_digest(digest: [u8; 32]) -> Root {
+    Root {
+        version: 2,
+        key: root().key.with_digest(digest),
+        ..root()
+    }
+}
+
+/// The record of the second version with this digest.
+fn second_record() -> Option<[u8; 128]> {
+    let second = with_digest([0x22; 32]);
+    if !second.is_in_range() {
+        return None;
+    }
+    let mut bytes = [0xff; 128];
+    encode_root(&second, &mut bytes);
+    Some(bytes)
+}
+
+/// Decodes the record of the second version with one byte replaced.
+fn decode_second_with(at: usize, byte: u8) -> Option<Root> {
+    let mut bytes = second_record()?;
+    if at < 128 {
+        bytes[at] = byte;
+    }
+    decode_root(&bytes)
+}
+
+#[test]
+fn of_the_second_version(rt: HostRuntime) -> Result<(), Fail> {
+    let second = with_digest([0x22; 32]);
+    let bytes = second_record().ok_or("no root record")?;
+    assert!(rt; bytes[..8] == RECORD[..8]);
+    assert!(rt; bytes[8..10] == [0, 2][..]);
+    assert!(rt; bytes[10..88] == RECORD[10..88]);
+    assert!(rt; bytes[88..120] == [0x22; 32][..]);
+    assert!(rt; bytes[120..] == [0; 8][..]);
+    assert!(rt; decode_root(&bytes) == Some(second));
+    for (at, byte) in WRONG {
+        assert!(rt; decode_second_with(at, byte).is_none(), "{at} {byte}");
+    }
+    // Another digest is that of another root, and behind it are zeros.
+    for at in 88..120 {
+        let other = decode_second_with(at, 9).ok_or("no root")?;
+        assert!(rt; other != second, "{at}");
+        assert!(rt;
+            Root {
+                key: second.key,
+                ..other
+            } == second,
+            "{at}"
+        );
+    }
+    for at in 120..128 {
+        assert!(rt; decode_second_with(at, 1).is_none(), "{at}");
+    }
+    assert!(rt;
+        decode_second_with(9, 1).is_none(),
+        "a digest in the first version"
+    );
+    Ok(())
+}
+
+#[test]
+fn orders_of_the_versions(rt: HostRuntime) {
+    for order in [4, 46, 48] {
+        let second = Root {
+            order: u16::from(order),
+            ..with_digest([0x22; 32])
+        };
+        assert!(rt; decode_second_with(11, order) == Some(second), "{order}");
+    }
+    for order in [50, 52, 54, 56, 58, 60, 62, 64] {
+        let first = Root {
+            order: u16::from(order),
+            ..root()
+        };
+        assert!(rt; decode_with(11, order) == Some(first), "{order}");
+        assert!(rt; decode_second_with(11, order).is_none(), "{order}");
     }
 }
 
 #[test]
-fn of_the_second_version(rt: HostRuntime) {
-    let second = Root {
-        version: 2,
-        key: root().key.with_digest([0x22; 32]),
-        ..root()
-    };
-    assert!(rt; second.is_in_range());
-    let mut bytes = [0xff; 128];
-    encode_root(&second, &mut bytes);
-    assert!(rt; bytes[8..10] == [0, 2][..]);
-    assert!(rt; bytes[40..88] == RECORD[40..88]);
-    assert!(rt; bytes[88..120] == [0x22; 32][..]);
-    assert!(rt; bytes[120..] == [0; 8][..]);
-    assert!(rt; decode_root(&bytes) == Some(second));
-    // A key has a digest exactly in version 2, and an order of 50 is one of version 1.
+fn keys_of_the_versions(rt: HostRuntime) {
+    // A key has a digest exactly in version 2, and there are no others.
+    let second = with_digest([0x22; 32]);
     assert!(rt;
         !Root {
             version: 2,
@@ -109,25 +188,8 @@ fn of_the_second_version(rt: HostRuntime) {
         }
         .is_in_range()
     );
-    assert!(rt;
-        Root {
-            order: 48,
-            ..second
-        }
-        .is_in_range()
-    );
-    assert!(rt;
-        !Root {
-            order: 50,
-            ..second
-        }
-        .is_in_range()
-    );
-    assert!(rt;
-        Root {
-            order: 50,
-            ..root()
-        }
-        .is_in_range()
-    );
+    for version in [0, 3, 255] {
+        assert!(rt; !Root { version, ..root() }.is_in_range());
+        assert!(rt; !Root { version, ..second }.is_in_range());
+    }
 }

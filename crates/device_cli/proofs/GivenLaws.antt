@@ -16,7 +16,7 @@ use Rattle.device_cli.specs.Given.{IsRecordWord, AreRecordWords, IsRecordOf, IsG
 pub record_word : (head : ℕ) (word : List ℕ) (root : Root) → IsRecordOf head word root → IsRecordWord word
 record_word head word root is =
     let ok = decode_of-ok word (root_bytes root) is.decoded in
-    record { digits = ok.1; count = omega (arith, ok.2, length-root_bytes root, is.within.key.0) }
+    record { digits = ok.1; count = omega (arith, ok.2, length-root_bytes root is.within.in_range) }
 
 -- such a word stands for bytes
 pub stands_for : (word : List ℕ) → IsRecordWord word → (bytes : List ℕ) × (decode_of word ≡ Ok bytes)

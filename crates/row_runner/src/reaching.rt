@@ -1,4 +1,6 @@
 //! Which pages keys reach, found by trying each key on each page, and which pages a tree has.
+ghost use Rattle.std.specs.Prelude.{◌+◌, ◌≤◌};
+
 use medium_trace::Pages;
 use node_codec::{Body, decode};
 use root_codec::Root;
@@ -40,21 +42,32 @@ fn try_key(
     Ok(())
 }
 
-/// Adds the keys that a key yields on a page that it opens: those of the first 85 entries at most, by the page's count.
+/// Adds the keys that a key yields on a page that it opens: those of the first entries, by the page's count, as many as there is room
+/// for. Of kind 2 that are 85 at most, and of kind 3, where a digest stands behind each key, 51.
 fn add_yielded(key: &Key, page: &[u8; RECORD], found: &mut Vec<Key>) -> Result<(), Memory> {
     let mut body = [0; RECORD];
     unseal(key, page, &mut body);
-    if body[16] != 2 {
-        return Ok(());
+    let count = u16::from_be_bytes([body[18], body[19]]);
+    if body[16] == 2 {
+        for entry in 0..count.min(85) as usize {
+            found.push(key_in(&body, 48 * entry + 48))?;
+        }
     }
-    let count = u16::from_be_bytes([body[18], body[19]]).min(85) as usize;
-    for entry in 0..count {
-        let mut bytes = [0; 32];
-        let from = 48 * entry + 48;
-        bytes.copy_from_slice(&body[from..from + 32]);
-        found.push(Key::from_bytes(bytes))?;
+    if body[16] == 3 {
+        for entry in 0..count.min(51) as usize {
+            found.push(key_in(&body, 80 * entry + 48))?;
+        }
     }
     Ok(())
+}
+
+/// The key that stands at a place of a body.
+fn key_in(body: &[u8; RECORD], from: usize) -> Key
+    requires { from + 32 ≤ RECORD }
+{
+    let mut bytes = [0; 32];
+    bytes.copy_from_slice(&body[from..from + 32]);
+    Key::from_bytes(bytes)
 }
 
 /// A place of a tree. Data records are of level 0.

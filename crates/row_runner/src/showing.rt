@@ -152,7 +152,7 @@ fn show_reached(alloc: Global, scene: &Scene, text: &mut Line) -> Result<(), Lin
     let cell = scene.platform.cell().ok_or(LineFault::Unknown)?;
     let root = decode_root(&cell).ok_or(LineFault::Unknown)?;
     let pages = scene.platform.recorded();
-    let reached = numbers_of(alloc, &reached_from(alloc, pages, root.key)?)?;
+    let reached = numbers_of(alloc, &reached_from(alloc, pages, root.key.bare())?)?;
     let tree = numbers_of(alloc, &tree_of(alloc, pages, &root)?)?;
     text.append(format!(in alloc; "= reached {reached:?}\n= tree {tree:?}\n")?.as_bytes())?;
     Ok(())

@@ -3,7 +3,9 @@ ghost use Rattle.std.specs.Prelude.{◌≡◌, ◌≤◌, length};
 ghost use Rattle.platform.specs.Mem.{image_of_now};
 
 use btree_twigs::{Child, Twig};
+use medium_trace::Pages;
 use node_codec::{Entry, encode_block, encode_node, fits_node};
+use page_digest::digest_of;
 use page_store::Buffers;
 use platform::{MemPlatform, Platform};
 use sdbt_base::{FreshKey, Key, RECORD};
@@ -18,6 +20,9 @@ const PAGES: u64 = 128;
 pub(crate) struct Device {
     pub(crate) platform: MemPlatform,
     pub(crate) buffers: Buffers,
+    // That of the nodes, unless one is said to be of the other, and the digest of each page as it was appended.
+    version: u8,
+    digests: Vec<[u8; 32]>,
 }
 
 /// The bytes of the key of the page at an address.
@@ -35,12 +40,74 @@ pub(crate) fn key_of(addr: u64) -> Key
 }
 
 impl Device {
-    /// A blank medium.
-    pub(crate) fn new(alloc: Global) -> Option<Device> {
+    /// A blank medium, for nodes of a version.
+    pub(crate) fn new(alloc: Global, version: u8) -> Option<Device> {
         Some(Device {
             platform: MemPlatform::blank(alloc, PAGES),
             buffers: Buffers::new(alloc).ok()?,
+            version,
+            digests: Vec::new(alloc),
         })
+    }
+
+    /// The version of its nodes.
+    pub(crate) fn version(&self) -> u8 {
+        self.version
+    }
+
+    /// The key of the page at an address as a node of a version names it: in the second one with the digest of the page, or
+    /// with one that no page has where there is none yet. `own` is the address whose key it is.
+    pub(crate) fn key_at(&self, version: u8, addr: u64, own: u64) -> Key {
+        let key = key_of(own);
+        if version == 1 {
+            return key;
+        }
+        match self.digests.get(addr as usize) {
+            Some(digest) => key.with_digest(*digest),
+            None => key.with_digest([0; 32]),
+        }
+    }
+
+    /// Turns a bit of a byte of a page.
+    pub(crate) fn change(&mut self, alloc: Global, addr: usize, place: usize) -> Option<()> {
+        let mut pages = Pages::new(alloc);
+        for at in 0..self.platform.recorded().len() {
+            let mut page = *self.platform.recorded().at(at);
+            if at == addr && place < RECORD {
+                page[place] ^= 1;
+            }
+            pages.push(&page).ok()?;
+        }
+        self.stand_on(alloc, pages)
+    }
+
+    /// Has two pages stand in the place of each other.
+    pub(crate) fn swap(&mut self, alloc: Global, one: usize, two: usize) -> Option<()> {
+        let mut pages = Pages::new(alloc);
+        let count = self.platform.recorded().len();
+        for at in 0..count {
+            let from = if at == one {
+                two
+            } else if at == two {
+                one
+            } else {
+                at
+            };
+            if from >= count {
+                return None;
+            }
+            pages.push(self.platform.recorded().at(from)).ok()?;
+        }
+        self.stand_on(alloc, pages)
+    }
+
+    /// From now on these are the pages.
+    fn stand_on(&mut self, alloc: Global, pages: Pages) -> Option<()> {
+        if pages.len() > PAGES as usize {
+            return None;
+        }
+        self.platform = MemPlatform::from_parts(alloc, pages, None, PAGES);
+        Some(())
     }
 
     /// Seals a record under the key of its page, and appends that. Answers its address.
@@ -53,6 +120,7 @@ impl Device {
         }
         let mut page = [0; RECORD];
         let _used = seal(FreshKey::from_bytes(key_bytes(addr)), record, &mut page);
+        self.digests.push(digest_of(&page)).ok()?;
         self.platform.append(&page).ok()?;
         Some(addr)
     }
@@ -66,13 +134,13 @@ impl Device {
         self.place(&record)
     }
 
-    /// Appends a node, whatever the addresses of its children are. Answers its own.
-    pub(crate) fn node(&mut self, level: u8, entries: &[Entry]) -> Option<u64> {
-        if !fits_node(u64::MAX, level, 1, entries) {
+    /// Appends a node of a version, whatever the addresses of its children are. Answers its own.
+    pub(crate) fn node(&mut self, version: u8, level: u8, entries: &[Entry]) -> Option<u64> {
+        if !fits_node(u64::MAX, level, version, entries) {
             return None;
         }
         let mut record = [0; RECORD];
-        encode_node(u64::MAX, level, 1, entries, &mut record);
+        encode_node(u64::MAX, level, version, entries, &mut record);
         record[8..16].copy_from_slice(&self.platform.head().to_be_bytes());
         self.place(&record)
     }
@@ -98,7 +166,7 @@ impl Device {
             let entry = self.seal(alloc, child)?;
             entries.push(entry).ok()?;
         }
-        let addr = self.node(twig.level, &entries)?;
+        let addr = self.node(1, twig.level, &entries)?;
         Some(Entry {
             low,
             addr,

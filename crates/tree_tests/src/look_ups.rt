@@ -1,13 +1,27 @@
 //! Look-ups and listings over the pages of a device: page reads, and forged trees.
-use crate::pages::{FORGED, SPLIT};
+use crate::pages::{FORGED, MIXED, SPLIT};
 use crate::script::first_unlike;
 use crate::walker::Walker;
 use std::alloc::Global;
 use std::test::Fail;
 
-/// The place of the first line of a script of which something else comes over these pages, behind a cache of so many nodes.
+/// The place of the first line of a script of which something else comes over these pages, behind a cache of so many nodes, in either
+/// version.
 fn unlike(alloc: Global, pages: &str, capacity: usize, script: &str) -> Option<usize> {
-    first_unlike(alloc, Walker::new(alloc, pages, capacity), script)
+    let first = unlike_in(alloc, 1, pages, capacity, script);
+    let second = unlike_in(alloc, 2, pages, capacity, script);
+    first.or(second)
+}
+
+/// The same, with nodes of a version.
+fn unlike_in(
+    alloc: Global,
+    version: u8,
+    pages: &str,
+    capacity: usize,
+    script: &str,
+) -> Option<usize> {
+    first_unlike(alloc, Walker::new(alloc, version, pages, capacity), script)
 }
 
 /// Look-ups, and all reads so far, with a cache that has room, and then the nodes that it keeps.
@@ -163,4 +177,72 @@ fn wants_that_do_not_fit(rt: HostRuntime) {
     for capacity in [0, 8] {
         assert_eq!(rt; unlike(rt.alloc(), SPLIT, capacity, OTHER), None);
     }
+}
+
+/// A leaf of the other version below a root, a root of the other version, and one in the place of an inner node.
+const OF_TWO_VERSIONS: &str = "\
+find 8 2 0: at 1\n\
+find 10 2 0: bad 9\n\
+find 10 2 2: at 3\n\
+list 10 2: bad 9\n\
+nodes 10 2: bad 9\n\
+find 8 2 0: at 1\n\
+find 9 1 0: bad 9\n\
+list 9 1: bad 9\n\
+nodes 9 1: bad 9\n\
+find 11 2 0: bad 11\n\
+list 11 2: bad 11\n\
+nodes 11 2: bad 11\n\
+find 12 2 2: bad 12\n\
+list 12 2: bad 12\n\
+nodes 12 2: bad 12\n\
+find 13 3 0: at 1\n\
+find 13 3 5: bad 12\n\
+find 8 2 0: at 1";
+
+#[test]
+fn nodes_of_the_other_version(rt: HostRuntime) -> Result<(), Fail> {
+    let pages = format!(in rt.alloc(); "{SPLIT}\n{MIXED}")?;
+    for capacity in [0, 8] {
+        assert_eq!(rt; unlike(rt.alloc(), pages.as_str(), capacity, OF_TWO_VERSIONS), None);
+    }
+    Ok(())
+}
+
+/// A byte of a root node, of a leaf, and of the last page of them is another, and then again what it was; and then two pages stand in
+/// the place of each other.
+const CHANGED: &str = "\
+find 8 2 0: at 1\n\
+change 8 32: done\n\
+find 8 2 0: bad 8\n\
+find 8 2 4: bad 8\n\
+list 8 2: bad 8\n\
+nodes 8 2: bad 8\n\
+change 8 32: done\n\
+change 6 4127: done\n\
+find 8 2 0: bad 6\n\
+find 8 2 4: at 5\n\
+list 8 2: bad 6\n\
+nodes 8 2: bad 6\n\
+change 6 4127: done\n\
+change 7 64: done\n\
+find 8 2 0: at 1\n\
+find 8 2 4: bad 7\n\
+list 8 2: bad 7\n\
+change 7 64: done\n\
+list 8 2: [0, 1, 1, 2, 2, 3, 3, 4, 4, 5]\n\
+nodes 8 2: [8, 6, 7]\n\
+swap 6 7: done\n\
+find 8 2 0: bad 6\n\
+find 8 2 4: bad 7\n\
+list 8 2: bad 6\n\
+swap 7 6: done\n\
+swap 8 0: done\n\
+find 8 2 0: bad 8\n\
+swap 8 0: done\n\
+find 8 2 0: at 1";
+
+#[test]
+fn changed_pages(rt: HostRuntime) {
+    assert_eq!(rt; unlike_in(rt.alloc(), 2, SPLIT, 8, CHANGED), None);
 }

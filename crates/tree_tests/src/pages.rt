@@ -1,5 +1,5 @@
 //! Devices as text: a line for each page.
-use crate::device::{Device, key_of};
+use crate::device::Device;
 use crate::fixture::Fixture;
 use btree_walk::NodeReader;
 use node_codec::Entry;
@@ -41,37 +41,65 @@ pub(crate) const FORGED: &str = "\
 2: 0@6 2@7/99\n\
 3: 0@8 5@7";
 
-/// An entry as a word: `LOW@ADDRESS` with the key of that page, or `LOW@ADDRESS/OTHER` with the key of another one.
-fn entry_of(word: &str) -> Option<Entry> {
+/// Behind the pages of `SPLIT`: 9, a leaf of the other version; 10, a root above it; 11 and 12, roots of the other version, of which
+/// the second is above that leaf; 13, a root of no level below that is all of the other version.
+pub(crate) const MIXED: &str = "\
+~1: 0@1 1@2\n\
+2: 0@9 2@7\n\
+~2: 0@6 2@7\n\
+~2: 0@9 2@7\n\
+3: 0@8 5@12";
+
+/// An entry of a node of a version as a word: `LOW@ADDRESS` with the key of that page, or `LOW@ADDRESS/OTHER` with the key of
+/// another one.
+fn entry_of(device: &Device, version: u8, word: &str) -> Option<Entry> {
     let (low, place) = word.split_once('@')?;
-    let (addr, key) = place.split_once('/').unwrap_or((place, place));
+    let (addr, own) = place.split_once('/').unwrap_or((place, place));
+    let addr = addr.parse().ok()?;
     Some(Entry {
         low: low.parse().ok()?,
-        addr: addr.parse().ok()?,
-        key: key_of(key.parse().ok()?),
+        addr,
+        key: device.key_at(version, addr, own.parse().ok()?),
     })
 }
 
 /// The entries of a line.
-fn entries_of(alloc: Global, words: &str) -> Option<Vec<Entry>> {
+fn entries_of(alloc: Global, device: &Device, version: u8, words: &str) -> Option<Vec<Entry>> {
     let mut entries = Vec::new(alloc);
     for word in words.split_whitespace() {
-        entries.push(entry_of(word)?).ok()?;
+        entries.push(entry_of(device, version, word)?).ok()?;
     }
     Some(entries)
 }
 
-/// Appends the page of a line: `LEVEL: ENTRIES`, a node, or `ADDRESS`, a data record that says that it stands there.
+/// Appends the page of a line: `LEVEL: ENTRIES`, a node, `~LEVEL: ENTRIES`, one of the other version, or `ADDRESS`, a data record that
+/// says that it stands there.
 fn append(alloc: Global, device: &mut Device, line: &str) -> Option<u64> {
-    match line.split_once(':') {
-        Some((level, words)) => device.node(level.parse().ok()?, &entries_of(alloc, words)?),
-        None => device.datum(line.parse().ok()?),
+    let Some((level, words)) = line.split_once(':') else {
+        return device.datum(line.parse().ok()?);
+    };
+    let version = device.version();
+    match level.split_once('~') {
+        Some((_, level)) => append_node(alloc, device, if version == 1 { 2 } else { 1 }, level, words),
+        None => append_node(alloc, device, version, level, words),
     }
 }
 
-/// A device whose pages are these lines.
-pub(crate) fn device_of(alloc: Global, pages: &str) -> Option<Device> {
-    let mut device = Device::new(alloc)?;
+/// Appends a node of a version.
+fn append_node(
+    alloc: Global,
+    device: &mut Device,
+    version: u8,
+    level: &str,
+    words: &str,
+) -> Option<u64> {
+    let entries = entries_of(alloc, device, version, words)?;
+    device.node(version, level.parse().ok()?, &entries)
+}
+
+/// A device whose pages are these lines, with nodes of a version.
+pub(crate) fn device_of(alloc: Global, version: u8, pages: &str) -> Option<Device> {
+    let mut device = Device::new(alloc, version)?;
     for line in pages.lines() {
         let _addr = append(alloc, &mut device, line)?;
     }
@@ -86,7 +114,7 @@ pub(crate) fn fixture_of(
     blocks: u64,
     level: u8,
 ) -> Option<Fixture> {
-    let device = device_of(alloc, pages)?;
+    let device = device_of(alloc, 1, pages)?;
     let reader = NodeReader::new(alloc, 16).ok()?;
     let top = device.platform.head().checked_sub(1)?;
     Fixture::over(alloc, device, reader, (order, blocks), level, top)

@@ -1,5 +1,5 @@
 //! Look-ups and listings over the pages of a device.
-use crate::device::{Device, key_of};
+use crate::device::Device;
 use crate::pages::device_of;
 use crate::script::{Act, Outcome, Stage, in_words};
 use btree_walk::{NodeReader, WalkRefusal, addresses, entries, find};
@@ -20,13 +20,18 @@ pub(crate) struct Walker {
 }
 
 impl Walker {
-    /// A device whose pages are these lines, behind a cache of so many nodes.
-    pub(crate) fn new(alloc: Global, pages: &str, capacity: usize) -> Option<Walker> {
+    /// A device whose pages are these lines, with nodes of a version, behind a cache of so many nodes.
+    pub(crate) fn new(
+        alloc: Global,
+        version: u8,
+        pages: &str,
+        capacity: usize,
+    ) -> Option<Walker> {
         if capacity > MOST_NODES {
             return None;
         }
         Some(Walker {
-            device: device_of(alloc, pages)?,
+            device: device_of(alloc, version, pages)?,
             reader: NodeReader::new(alloc, capacity).ok()?,
         })
     }
@@ -34,17 +39,22 @@ impl Walker {
     /// The root record of a tree of order 4 over 8 blocks, whose root node is at an address and of a level.
     fn root(&self, addr: u64, level: u8) -> Option<Root> {
         let root = Root {
-            version: 1,
+            version: self.device.version(),
             order: 4,
             level,
             blocks: 8,
             commit: 0,
             addr,
-            key: key_of(addr),
+            key: self.key_at(addr, addr),
             mapped: 5,
             head: self.device.platform.head(),
         };
         if root.is_in_range() { Some(root) } else { None }
+    }
+
+    /// The key of the page at an address as a node would name it, with the bytes of that of another one.
+    fn key_at(&self, addr: u64, own: u64) -> Key {
+        self.device.key_at(self.device.version(), addr, own)
     }
 
     /// Looks for a block from what is wanted on.
@@ -77,7 +87,7 @@ impl Walker {
             least: u16::try_from(numbers[1]).ok()?,
             most: u16::try_from(numbers[2]).ok()?,
         };
-        self.look(&want, &key_of(numbers[3]), numbers[4])
+        self.look(&want, &self.key_at(8, numbers[3]), numbers[4])
     }
 
     /// The blocks that are listed, each with the address of its data record.
@@ -114,10 +124,26 @@ impl Walker {
         }
     }
 
+    /// Changes a byte of a page, or has two pages stand in the place of each other, and forgets the nodes that were read.
+    fn turn(&mut self, alloc: Global, act: &Act) -> Option<Outcome> {
+        let one = act.numbers[0] as usize;
+        let two = act.numbers[1] as usize;
+        if act.verb == b'c' {
+            self.device.change(alloc, one, two)?;
+        } else {
+            self.device.swap(alloc, one, two)?;
+        }
+        self.reader = NodeReader::new(alloc, 8).ok()?;
+        Some(Outcome::Done)
+    }
+
     /// What comes of an act.
     fn outcome(&mut self, alloc: Global, act: &Act) -> Option<Outcome> {
         if act.verb == b't' {
             return self.try_other(&act.numbers);
+        }
+        if act.verb == b'c' || act.verb == b's' {
+            return self.turn(alloc, act);
         }
         if act.verb == b'k' {
             return row_of(alloc, &self.reader.cache.addresses(alloc).ok()?);
