@@ -12,13 +12,13 @@ use Rattle.btree_twigs.specs.Stubs.{Stub, start_by, low_of, children_of, stubs}
 use Rattle.btree_twigs.specs.Levels.{lows_of}
 use Rattle.btree_twigs.specs.Shape.{EachBy, IsChild, IsTwig}
 use Rattle.btree_twigs.proofs.Children.{low_of_kept}
-use Rattle.btree_update.specs.Held.{stub_at, AreBelow}
+use Rattle.btree_update.specs.Held.{stub_at, bound, AreBelow}
 use Rattle.btree_update.specs.Holding.{IsNodeFor}
 use Rattle.btree_update.specs.declared.siblings.Left.{Left}
 use Rattle.btree_update.specs.declared.siblings.Left.TheVariants.{Unmapped, Enough, Short}
 use Rattle.btree_update.specs.Beside.{LeftOf, IsNodeAt, loses_for, Spares, LendsFrom, HasHelp, IsNodeHeld, HelpsOnWay, HasRecord, HelpsBelow, HelpsFrom, IsLeft, IsAfter, HoldsHelp, HoldsBeside, CanRead}
 use Rattle.btree_update.proofs.OpenLaws.{IsOnWay}
-use Rattle.btree_update.proofs.HoldLaws.{same_way, bare_of, read_lower, node_is_twig, kept_below, kept_plain}
+use Rattle.btree_update.proofs.HoldLaws.{same_way, bare_of, read_lower, node_is_twig, kept_below}
 
 pub IfOk_all : {T E : Type 0} (P : T → Type 0) (r : Result T E) → ((x : T) → P x) → IfOk r P
 IfOk_all P (Ok x) all = all x
@@ -37,19 +37,16 @@ module _ (order level high head low addr : ℕ) (key : List ℕ) (at : CanRead o
   level_is = omega (arith, at.level_is)
 
   pub beside_lt : addr < head
-  beside_lt = kept_below head at.below high low addr key (subst (λ k. AreBelow head (stubs k high (made.Kept low addr key))) at.level_is at.within)
+  beside_lt = kept_below (bound head at.size) at.below high low addr key (subst (λ k. AreBelow (bound head at.size) (stubs k high (made.Kept low addr key))) at.level_is at.within)
 
-  pub beside_plain : length key ≡ 32
-  beside_plain = kept_plain head at.below high low addr key (subst (λ k. AreBelow head (stubs k high (made.Kept low addr key))) at.level_is at.within)
-
-  pub node_at : (Reads : ℕ → Stub → Twig → Type 0) (twig : Twig) → IsNodeFor (want_beside order level low high addr) twig → Reads (level - 1) (stub_at (suc (level - 1)) low high addr key) twig → IsNodeAt Reads order (level - 1) low high addr key twig
+  pub node_at : (Reads : ℕ → Stub → Twig → Type 0) (twig : Twig) → IsNodeFor (want_beside order level low high addr) key twig → Reads (level - 1) (stub_at (suc (level - 1)) low high addr key) twig → IsNodeAt Reads order (level - 1) low high addr key twig
   node_at Reads twig h r =
-      let n = subst (λ k. IsNodeFor (want_beside order k low high addr) twig) level_is h in
+      let n = subst (λ k. IsNodeFor (want_beside order k low high addr) key twig) level_is h in
       record {
         reads = r;
-        shaped = node_is_twig order (level - 1) (order / 2) low high addr twig at.most (λ _. omega (arith, at.four)) (omega (arith, at.starts, low_of_kept low addr key)) n;
-        bare = bare_of (level - 1) (want_beside order level low high addr) twig h;
-        lower = read_lower (level - 1) high (want_beside order level low high addr) twig h;
+        shaped = node_is_twig order (level - 1) (order / 2) low high addr key twig at.most (λ _. omega (arith, at.four)) (omega (arith, at.starts, low_of_kept low addr key)) n;
+        bare = bare_of (level - 1) (want_beside order level low high addr) key twig h;
+        lower = read_lower (level - 1) high (want_beside order level low high addr) key twig h;
       }
 
   pub lends_kept : (Reads : ℕ → Stub → Twig → Type 0) (twig : Twig) (loses : ℕ) → IsNodeAt Reads order (level - 1) low high addr key twig → Spares order loses (length (children_of twig)) →

@@ -1,5 +1,6 @@
 -- Where a tree maps anything at all, the way to a block comes to no wrong place, nor to a neighbour that is wrong.
-use Rattle.std.proofs.Common.{◌≡◌, inl, inr, ℕ, zero, suc, ◌/◌, ◌<◌, ◌^◌, List, [], ◌∷◌, ◌++◌, All, refl, sym, ap, subst, ◌∙◌, arith, append_assoc}
+use Rattle.std.proofs.Common.{◌≡◌, inl, inr, ℕ, zero, suc, ◌/◌, ◌<◌, ◌≤◌, ◌^◌, List, [], ◌∷◌, ◌++◌, All, refl, sym, ap, subst, ◌∙◌, arith, append_assoc}
+use Rattle.std.specs.List.{AllByRecursion}
 use Rattle.std.proofs.lemmas.List.Elements.{All-head, All-tail}
 use Rattle.node_codec.specs.declared.body.Entry.{Entry}
 use Rattle.node_codec.specs.Record.{Record, DataRecord, NodeRecord}
@@ -14,7 +15,7 @@ use Rattle.btree_twigs.specs.Stubs.{Stub, start_by, low_of, children_of, stubs, 
 use Rattle.btree_twigs.specs.Updates.{stubs_under}
 use Rattle.btree_twigs.proofs.ListLaws.{stubs_append}
 use Rattle.btree_update.specs.GroveTree.{Maps, MapsIn, MapsFrom, want_of, want_at}
-use Rattle.btree_update.specs.Held.{stub_at, AreBelow}
+use Rattle.btree_update.specs.Held.{stub_at, Bound, AreBelow}
 use Rattle.btree_update.specs.Wrong.{IsWrongAt, IsWrongBeside, IsWrongEntry, IsWrongIn, IsWrongChild, entry_low, ComesToWrong, Here, Below, Beside, WrongBelow as WrongTwig, WrongChildBy, WrongOnWay, WrongFrom}
 use Rattle.btree_update.proofs.Places.{maps_split, one_place}
 
@@ -78,21 +79,29 @@ comes_never pages order block addr (suc level) want key parts lev small is (Besi
 
 -- ---- below a node in memory
 
-below_left : (bound : ℕ) (xs ys : List Stub) → AreBelow bound (xs ++ ys) → AreBelow bound xs
-below_left bound [] ys h = tt
-below_left bound (x ∷ xs) ys h = (h.0, below_left bound xs ys h.1)
+-- these places have addresses that fit into a record
+abbrev pub AreSmall : List Stub → Type 0
+AreSmall = AllByRecursion (λ s. s.addr < 2 ^ 64)
 
-below_right : (bound : ℕ) (xs ys : List Stub) → AreBelow bound (xs ++ ys) → AreBelow bound ys
-below_right bound [] ys h = h
-below_right bound (x ∷ xs) ys h = below_right bound xs ys h.1
+pub are_small : (most : Bound) (ss : List Stub) → most.head ≤ 2 ^ 64 → AreBelow most ss → AreSmall ss
+are_small most [] le h = tt
+are_small most (s ∷ ss) le h = (omega (arith, h.0.0, le), are_small most ss le h.1)
+
+small_left : (xs ys : List Stub) → AreSmall (xs ++ ys) → AreSmall xs
+small_left [] ys h = tt
+small_left (x ∷ xs) ys h = (h.0, small_left xs ys h.1)
+
+pub small_right : (xs ys : List Stub) → AreSmall (xs ++ ys) → AreSmall ys
+small_right [] ys h = h
+small_right (x ∷ xs) ys h = small_right xs ys h.1
 
 -- what a child among others maps
 record MapsChild (pages : List (List ℕ)) (order level high : ℕ) (c : Child) : Type 0 where
   mapped : List Mapped
   is : Maps pages order (stubs level high c) mapped
-  small : AreBelow (2 ^ 64) (stubs level high c)
+  small : AreSmall (stubs level high c)
 
-some_child : (pages : List (List ℕ)) (order level high : ℕ) (fs : List Child) (c : Child) (bs cs : List Child) (mapped : List Mapped) → cs ≡ fs ++ c ∷ bs → Maps pages order (stubs_under level high cs) mapped → AreBelow (2 ^ 64) (stubs_under level high cs) →
+some_child : (pages : List (List ℕ)) (order level high : ℕ) (fs : List Child) (c : Child) (bs cs : List Child) (mapped : List Mapped) → cs ≡ fs ++ c ∷ bs → Maps pages order (stubs_under level high cs) mapped → AreSmall (stubs_under level high cs) →
     MapsChild pages order level (start_by low_of bs high) c
 some_child pages order level high fs c bs cs mapped is m small =
     let end = start_by low_of bs high in
@@ -102,7 +111,7 @@ some_child pages order level high fs c bs cs mapped is m small =
     record {
       mapped = b.left;
       is = b.on_left;
-      small = below_left (2 ^ 64) (stubs level end c) (stubs_under level high bs) (below_right (2 ^ 64) (stubs_under level (low_of c) fs) (stubs level end c ++ stubs_under level high bs) (subst (AreBelow (2 ^ 64)) split small));
+      small = small_left (stubs level end c) (stubs_under level high bs) (small_right (stubs_under level (low_of c) fs) (stubs level end c ++ stubs_under level high bs) (subst AreSmall split small));
     }
 
 child_never : (pages : List (List ℕ)) (order addr level high : ℕ) (c : Child) (mapped : List Mapped) → Maps pages order (stubs level high c) mapped → IsWrongChild pages order addr level high c → ⊥
@@ -120,7 +129,7 @@ child_never pages order addr (suc level) high c mapped m wrong = here (out-Child
         never_at pages order (suc level) addr (want_of order (stub_at (suc level) low high at key)) key one.0 one.1 w.1
     here (Grown low twig) m w = w
 
-near_never : (pages : List (List ℕ)) (order addr level high : ℕ) (fs : List Child) (c : Child) (bs cs : List Child) (mapped : List Mapped) → cs ≡ fs ++ c ∷ bs → Maps pages order (stubs_under level high cs) mapped → AreBelow (2 ^ 64) (stubs_under level high cs) →
+near_never : (pages : List (List ℕ)) (order addr level high : ℕ) (fs : List Child) (c : Child) (bs cs : List Child) (mapped : List Mapped) → cs ≡ fs ++ c ∷ bs → Maps pages order (stubs_under level high cs) mapped → AreSmall (stubs_under level high cs) →
     IsWrongBeside low_of (IsWrongChild pages order addr level) high fs c bs → ⊥
 near_never pages order addr level high fs c (next ∷ bs) cs mapped is m small wrong =
     let one = some_child pages order level high (fs ++ c ∷ []) next bs cs mapped (is ∙ sym (append_assoc fs (c ∷ []) (next ∷ bs))) m small in
@@ -129,30 +138,30 @@ near_never pages order addr level high fs c [] cs mapped is m small (others, las
     let one = some_child pages order level high others last (c ∷ []) cs mapped (is ∙ ap (λ xs. xs ++ c ∷ []) list ∙ append_assoc others (last ∷ []) (c ∷ [])) m small in
     child_never pages order addr level (low_of c) last one.mapped one.is wrong
 
-twig_never : (pages : List (List ℕ)) (order block addr level high : ℕ) (twig : Twig) (mapped : List Mapped) → ((high : ℕ) (c : Child) (m : List Mapped) → AreBelow (2 ^ 64) (stubs level high c) → Maps pages order (stubs level high c) m → WrongOnWay pages order block addr level high c → ⊥) →
-    AreBelow (2 ^ 64) (stubs_below level high twig) → Maps pages order (stubs_below level high twig) mapped → WrongTwig pages order block addr (WrongOnWay pages order block addr level) level high twig → ⊥
+twig_never : (pages : List (List ℕ)) (order block addr level high : ℕ) (twig : Twig) (mapped : List Mapped) → ((high : ℕ) (c : Child) (m : List Mapped) → AreSmall (stubs level high c) → Maps pages order (stubs level high c) m → WrongOnWay pages order block addr level high c → ⊥) →
+    AreSmall (stubs_below level high twig) → Maps pages order (stubs_below level high twig) mapped → WrongTwig pages order block addr (WrongOnWay pages order block addr level) level high twig → ⊥
 twig_never pages order block addr level high twig mapped rest small m w = elim w.comes [
   | inl on ↦ (let one = some_child pages order level high w.front w.child w.back (children_of twig) mapped w.is m small in rest (start_by low_of w.back high) w.child one.mapped one.small one.is on)
   | inr near ↦ near_never pages order addr level high w.front w.child w.back (children_of twig) mapped w.is m small near
 ]
 
-way_never : (pages : List (List ℕ)) (order block addr level high : ℕ) (c : Child) (mapped : List Mapped) → AreBelow (2 ^ 64) (stubs level high c) → Maps pages order (stubs level high c) mapped → WrongOnWay pages order block addr level high c → ⊥
+way_never : (pages : List (List ℕ)) (order block addr level high : ℕ) (c : Child) (mapped : List Mapped) → AreSmall (stubs level high c) → Maps pages order (stubs level high c) mapped → WrongOnWay pages order block addr level high c → ⊥
 unfolding stubs WrongOnWay
 way_never pages order block addr zero high c mapped small m wrong = wrong
 way_never pages order block addr (suc level) high c mapped small m wrong = here (out-Child c) (way_never pages order block addr level) small m wrong
   where
-    here : (x : Child-F Child Twig) → ((high : ℕ) (c : Child) (m : List Mapped) → AreBelow (2 ^ 64) (stubs level high c) → Maps pages order (stubs level high c) m → WrongOnWay pages order block addr level high c → ⊥) →
-        AreBelow (2 ^ 64) (stubs_in (stubs level) (suc level) high x) → Maps pages order (stubs_in (stubs level) (suc level) high x) mapped → WrongChildBy pages order (order / 2) block addr (WrongOnWay pages order block addr level) level high x → ⊥
+    here : (x : Child-F Child Twig) → ((high : ℕ) (c : Child) (m : List Mapped) → AreSmall (stubs level high c) → Maps pages order (stubs level high c) m → WrongOnWay pages order block addr level high c → ⊥) →
+        AreSmall (stubs_in (stubs level) (suc level) high x) → Maps pages order (stubs_in (stubs level) (suc level) high x) mapped → WrongChildBy pages order (order / 2) block addr (WrongOnWay pages order block addr level) level high x → ⊥
     here (Kept low at key) rest small m w =
         let one = one_place pages order (stub_at (suc level) low high at key) mapped m in
-        comes_never pages order block addr (suc level) (want_of order (stub_at (suc level) low high at key)) key one.0 refl small.0.0 one.1 w
+        comes_never pages order block addr (suc level) (want_of order (stub_at (suc level) low high at key)) key one.0 refl small.0 one.1 w
     here (Grown low twig) rest small m w = twig_never pages order block addr level high twig mapped rest small m w
 
 -- from a child over children of a level on, whose node has so many at least
-pub from_never : (pages : List (List ℕ)) (order least block addr below high : ℕ) (c : Child) (mapped : List Mapped) → AreBelow (2 ^ 64) (stubs (suc below) high c) → MapsFrom pages order least below high c mapped → WrongFrom pages order least block addr below high c → ⊥
+pub from_never : (pages : List (List ℕ)) (order least block addr below high : ℕ) (c : Child) (mapped : List Mapped) → AreSmall (stubs (suc below) high c) → MapsFrom pages order least below high c mapped → WrongFrom pages order least block addr below high c → ⊥
 unfolding stubs
 from_never pages order least block addr below high c mapped small m wrong = here (out-Child c) small m wrong
   where
-    here : (x : Child-F Child Twig) → AreBelow (2 ^ 64) (stubs_in (stubs below) (suc below) high x) → MapsIn pages order least below high x mapped → WrongChildBy pages order least block addr (WrongOnWay pages order block addr below) below high x → ⊥
-    here (Kept low at key) small m w = comes_never pages order block addr (suc below) (want_at order (suc below) low high at least) key m.0 refl small.0.0 m.1 w
+    here : (x : Child-F Child Twig) → AreSmall (stubs_in (stubs below) (suc below) high x) → MapsIn pages order least below high x mapped → WrongChildBy pages order least block addr (WrongOnWay pages order block addr below) below high x → ⊥
+    here (Kept low at key) small m w = comes_never pages order block addr (suc below) (want_at order (suc below) low high at least) key m.0 refl small.0 m.1 w
     here (Grown low twig) small m w = twig_never pages order block addr below high twig mapped (way_never pages order block addr below) small m w

@@ -13,7 +13,7 @@ use Rattle.btree_twigs.specs.Stubs.{Stub, low_of, children_of, start_by, stubs, 
 use Rattle.btree_twigs.specs.Search.{IsAt, IsSpot}
 use Rattle.btree_twigs.specs.Top.{top_least}
 use Rattle.btree_update.specs.GroveTree.{want_at, top_want}
-use Rattle.btree_update.specs.Held.{AreBelow}
+use Rattle.btree_update.specs.Held.{Bound, AreBelow}
 use Rattle.btree_update.specs.Finding.{level_from, CanGoOn}
 use Rattle.btree_update.proofs.OpenLaws.{below_back}
 
@@ -66,17 +66,17 @@ pub up_twig : (level high : ℕ) (twig : Twig) → AreUpTo level (stubs_below le
 up_twig level high twig = up_each level high (stubs level) (children_of twig) (up_child level)
 
 -- what holds of all places holds of the one at the block
-here_below : (block head : ℕ) (ss : List Stub) (s : Stub) → IsAt block ss (s ∷ []) → AreBelow head ss → s.addr < head
-here_below block head ss s at h = (below_back head at.front (s ∷ at.back) (subst (AreBelow head) at.all h)).0.0
+here_below : (block : ℕ) (most : Bound) (ss : List Stub) (s : Stub) → IsAt block ss (s ∷ []) → AreBelow most ss → s.addr < most.head
+here_below block most ss s at h = (below_back most at.front (s ∷ at.back) (subst (AreBelow most) at.all h)).0.0
 
 here_up : (block most : ℕ) (ss : List Stub) (s : Stub) → IsAt block ss (s ∷ []) → AreUpTo most ss → s.level ≤ most
 here_up block most ss s at h = (up_back most at.front (s ∷ at.back) (subst (AreUpTo most) at.all h)).0
 
 -- from where a search in memory ended it can go on
-pub goes_on : (order block head : ℕ) (ss : List Stub) (spot : Spot) → 4 ≤ order → IsSpot block ss spot → AreBelow head ss → CanGoOn order block head spot
-goes_on order block head ss (Found addr key) four is below = here_below block head ss _ is below
-goes_on order block head ss Absent four is below = tt
-goes_on order block head ss (Below level low high addr key) four is below = (four, is.0, is.1, is.2, here_below block head ss _ is.3 below)
+pub goes_on : (order block : ℕ) (most : Bound) (ss : List Stub) (spot : Spot) → 4 ≤ order → IsSpot block ss spot → AreBelow most ss → CanGoOn order block most.head spot
+goes_on order block most ss (Found addr key) four is below = here_below block most ss _ is below
+goes_on order block most ss Absent four is below = tt
+goes_on order block most ss (Below level low high addr key) four is below = (four, is.0, is.1, is.2, here_below block most ss _ is.3 below)
 
 pub from_level : (block most : ℕ) (ss : List Stub) (spot : Spot) → IsSpot block ss spot → AreUpTo most ss → level_from spot ≤ most
 from_level block most ss (Found addr key) is up = omega arith

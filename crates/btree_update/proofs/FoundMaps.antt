@@ -25,10 +25,10 @@ use Rattle.btree_twigs.specs.Top.{top_least}
 use Rattle.btree_twigs.proofs.ListLaws.{tiles_by, tiles_from}
 use Rattle.btree_twigs.proofs.Children.{tiles_child}
 use Rattle.btree_update.specs.GroveTree.{want_of, top_want, HasEach, Maps, MapsIn}
-use Rattle.btree_update.specs.Held.{stub_at, AreBelow}
+use Rattle.btree_update.specs.Held.{stub_at}
 use Rattle.btree_update.specs.Roots.{IsRootBy, RootMaps}
 use Rattle.btree_update.specs.Finding.{FindsFrom, StopsFrom, RootFindsBy, RootStopsBy}
-use Rattle.btree_update.proofs.OpenLaws.{below_back}
+use Rattle.btree_update.proofs.FitsLaws.{AreSmall, small_right}
 use Rattle.btree_update.proofs.FoundLaws.{root_want}
 use Rattle.btree_update.proofs.Places.{IsIn, maps_split, in_maps, one_place}
 
@@ -119,7 +119,7 @@ module _ (pages : List (List ℕ)) (order block : ℕ) where
       let content = one.1.content in
       subst (λ xs. IsMappedAs xs block (Some e)) (sym (one.2 ∙ ap (λ (p : Parts). p.mapped) one.1.has)) (refl, (content, Contains-head (mapped_as e content) []))
 
-  pub spot_maps : (high : ℕ) (ss : List Stub) (mapped : List Mapped) (spot : Spot) (found : Option Entry) → Tiles 0 high ss → block < high → AreBelow (2 ^ 64) ss → IsSpot block ss spot → Maps pages order ss mapped →
+  pub spot_maps : (high : ℕ) (ss : List Stub) (mapped : List Mapped) (spot : Spot) (found : Option Entry) → Tiles 0 high ss → block < high → AreSmall ss → IsSpot block ss spot → Maps pages order ss mapped →
       FindsFrom (FitsAt pages) order block spot found → IsMappedAs mapped block found
   spot_maps high ss mapped (Found addr key) found tiles lt small is maps f =
       subst (IsMappedAs mapped block) (sym f) (at_maps pages order block high ss (datum block addr key ∷ []) mapped (Some (record { low = block; addr = addr; key = key })) tiles lt is maps (datum_maps addr key))
@@ -129,19 +129,19 @@ module _ (pages : List (List ℕ)) (order block : ℕ) where
   spot_maps high ss mapped (Below level low end addr key) found tiles lt small is maps f =
       let s = stub_at level low end addr key in
       let at = is.3 in
-      let lt' = (below_back (2 ^ 64) at.front (s ∷ at.back) (subst (AreBelow (2 ^ 64)) at.all small)).0.0 in
+      let lt' = (small_right at.front (s ∷ at.back) (subst AreSmall at.all small)).0 in
       at_maps pages order block high ss (s ∷ []) mapped found tiles lt at maps
       (λ m h. (let one = one_place pages order s m h in
       let tree = subst (λ n. Subtree pages order n (want_of order s) key one.0) (above_it level is.0) one.1 in
       subst (λ xs. IsMappedAs xs block found) (sym one.2) (found_is_mapped pages order (level - 1) block (want_of order s) key f.0 one.0 found lt' tree f.1)))
 
-  pub spot_fits : (addr : ℕ) (ss : List Stub) (mapped : List Mapped) (spot : Spot) → AreBelow (2 ^ 64) ss → IsSpot block ss spot → Maps pages order ss mapped → StopsFrom pages order block addr spot → ⊥
+  pub spot_fits : (addr : ℕ) (ss : List Stub) (mapped : List Mapped) (spot : Spot) → AreSmall ss → IsSpot block ss spot → Maps pages order ss mapped → StopsFrom pages order block addr spot → ⊥
   spot_fits addr ss mapped (Found at key) small is maps stops = stops
   spot_fits addr ss mapped Absent small is maps stops = stops
   spot_fits addr ss mapped (Below level low end at key) small is maps stops =
       let s = stub_at level low end at key in
       let spot = is.3 in
-      let lt = (below_back (2 ^ 64) spot.front (s ∷ spot.back) (subst (AreBelow (2 ^ 64)) spot.all small)).0.0 in
+      let lt = (small_right spot.front (s ∷ spot.back) (subst AreSmall spot.all small)).0 in
       let one = maps_split pages order spot.front ((s ∷ []) ++ spot.back) mapped (subst (λ xs. Maps pages order xs mapped) spot.all maps) in
       let two = maps_split pages order (s ∷ []) spot.back one.right one.on_right in
       let here = one_place pages order s two.left two.on_left in
@@ -155,28 +155,28 @@ twig_tiles order level least most high twig h =
     (tiles_by low_of (IsChild order level) (stubs level) (λ high c. tiles_child order level high c) high (children_of twig) h.node.each)
 
 module _ (pages : List (List ℕ)) (order block level high : ℕ) where
-  root_maps_by : (x : Child-F Child Twig) (mapped : List Mapped) (found : Option Entry) → IsRootBy order level high x → block < high → AreBelow (2 ^ 64) (stubs_in (stubs level) (suc level) high x) →
+  root_maps_by : (x : Child-F Child Twig) (mapped : List Mapped) (found : Option Entry) → IsRootBy order level high x → block < high → AreSmall (stubs_in (stubs level) (suc level) high x) →
       MapsIn pages order (top_least level) level high x mapped → RootFindsBy (FitsAt pages) order block level high x found → IsMappedAs mapped block found
   root_maps_by (Kept low addr key) mapped found root lt small maps f =
-      subst (λ m. IsMappedAs m block found) (sym maps.2) (found_is_mapped pages order level block (top_want order high (suc level) addr) key f.0 maps.0 found small.0.0 (subst (λ w. Subtree pages order (suc level) w key maps.0) (root_want order level low high addr root) maps.1)
+      subst (λ m. IsMappedAs m block found) (sym maps.2) (found_is_mapped pages order level block (top_want order high (suc level) addr) key f.0 maps.0 found small.0 (subst (λ w. Subtree pages order (suc level) w key maps.0) (root_want order level low high addr root) maps.1)
       (subst (λ n. Finds (FitsAt pages) order block found n (top_want order high (suc level) addr) key f.0) (one_less level) f.1))
   root_maps_by (Grown low twig) mapped found root lt small maps f =
       spot_maps pages order block high (stubs_below level high twig) mapped f.spot found (twig_tiles order level (top_least level) order high twig root.1) lt small f.is maps f.finds
 
-  root_fits_by : (x : Child-F Child Twig) (mapped : List Mapped) (addr : ℕ) → IsRootBy order level high x → AreBelow (2 ^ 64) (stubs_in (stubs level) (suc level) high x) →
+  root_fits_by : (x : Child-F Child Twig) (mapped : List Mapped) (addr : ℕ) → IsRootBy order level high x → AreSmall (stubs_in (stubs level) (suc level) high x) →
       MapsIn pages order (top_least level) level high x mapped → RootStopsBy pages order block addr level high x → ⊥
-  root_fits_by (Kept low at key) mapped addr root small maps stops = never_stops pages order level block addr (top_want order high (suc level) at) key maps.0 small.0.0 (subst (λ w. Subtree pages order (suc level) w key maps.0) (root_want order level low high at root) maps.1)
+  root_fits_by (Kept low at key) mapped addr root small maps stops = never_stops pages order level block addr (top_want order high (suc level) at) key maps.0 small.0 (subst (λ w. Subtree pages order (suc level) w key maps.0) (root_want order level low high at root) maps.1)
       (subst (λ n. Stops (FitsAt pages) order block (NothingFits pages) addr n (top_want order high (suc level) at) key) (one_less level) stops)
   root_fits_by (Grown low twig) mapped addr root small maps stops = spot_fits pages order block addr (stubs_below level high twig) mapped stops.spot small stops.is maps stops.stops
 
   -- what is found below a root is what it maps
-  pub root_found : (top : Child) (mapped : List Mapped) (found : Option Entry) → IsRootBy order level high (out-Child top) → block < high → AreBelow (2 ^ 64) (stubs (suc level) high top) →
+  pub root_found : (top : Child) (mapped : List Mapped) (found : Option Entry) → IsRootBy order level high (out-Child top) → block < high → AreSmall (stubs (suc level) high top) →
       RootMaps pages order level high top mapped → RootFindsBy (FitsAt pages) order block level high (out-Child top) found → IsMappedAs mapped block found
   unfolding stubs
   root_found top mapped found root lt small maps f = root_maps_by (out-Child top) mapped found root lt small maps f
 
   -- and where it maps anything, no place on the way is wrong
-  pub root_fits : (top : Child) (mapped : List Mapped) (addr : ℕ) → IsRootBy order level high (out-Child top) → AreBelow (2 ^ 64) (stubs (suc level) high top) →
+  pub root_fits : (top : Child) (mapped : List Mapped) (addr : ℕ) → IsRootBy order level high (out-Child top) → AreSmall (stubs (suc level) high top) →
       RootMaps pages order level high top mapped → RootStopsBy pages order block addr level high (out-Child top) → ⊥
   unfolding stubs
   root_fits top mapped addr root small maps stops = root_fits_by (out-Child top) mapped addr root small maps stops

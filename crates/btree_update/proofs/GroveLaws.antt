@@ -17,7 +17,7 @@ use Rattle.btree_twigs.specs.Top.{IsTop, IsTopBy, top_least}
 use Rattle.btree_twigs.proofs.Nodes.{stubs_of_grown}
 use Rattle.btree_twigs.proofs.Ways.{open_back}
 use Rattle.btree_update.specs.GroveTree.{Maps, MapsIn}
-use Rattle.btree_update.specs.Held.{AreBelow}
+use Rattle.btree_update.specs.Held.{Bound, AreBelow}
 use Rattle.btree_update.proofs.OpenLaws.{below_front, below_back, below_append}
 use Rattle.btree_update.specs.Roots.{IsRoot, IsRootBy, RootMaps}
 use Rattle.btree_update.specs.declared.groves.Grove.{Grove}
@@ -77,17 +77,17 @@ spares_push order spares spare le empty room h = record { many = omega arith; ea
 pub spares_many : (order count : ℕ) (spares : List (Vec Child Global)) → count ≤ length spares → HasSpares order 0 spares → HasSpares order count spares
 spares_many order count spares le h = record { many = le; each = h.each }
 
-pub puts_below : (low high block addr head : ℕ) (key : List ℕ) (old new : List Stub) → Puts low high (datum block addr key) old new → AreBelow head old → addr < head → length key ≡ 32 → AreBelow head new
-puts_below low high block addr head key old new p h lt plain =
-    let all = subst (AreBelow head) p.was h in
-    subst (AreBelow head) (sym p.now) (below_append head p.front (datum block addr key ∷ p.back) (below_front head p.front (p.mid ++ p.back) all) ((lt, plain), below_back head p.mid p.back (below_back head p.front (p.mid ++ p.back) all)))
+pub puts_below : (low high block addr : ℕ) (most : Bound) (key : List ℕ) (old new : List Stub) → Puts low high (datum block addr key) old new → AreBelow most old → addr < most.head → length key ≡ most.size → AreBelow most new
+puts_below low high block addr most key old new p h lt same =
+    let all = subst (AreBelow most) p.was h in
+    subst (AreBelow most) (sym p.now) (below_append most p.front (datum block addr key ∷ p.back) (below_front most p.front (p.mid ++ p.back) all) ((lt, same), below_back most p.mid p.back (below_back most p.front (p.mid ++ p.back) all)))
 
-pub kept_place : (level high low addr head : ℕ) (key : List ℕ) → 1 ≤ level → addr < head → length key ≡ 32 → AreBelow head (stubs level high (made.Kept low addr key))
+pub kept_place : (level high low addr : ℕ) (most : Bound) (key : List ℕ) → 1 ≤ level → addr < most.head → length key ≡ most.size → AreBelow most (stubs level high (made.Kept low addr key))
 unfolding stubs
-kept_place zero high low addr head key one lt plain = absurd (omega (arith, one))
-kept_place (suc level) high low addr head key one lt plain = subst (λ x. AreBelow head (stubs_in (stubs level) (suc level) high x)) (sym (made.outs-Kept low addr key)) ((lt, plain), tt)
+kept_place zero high low addr most key one lt same = absurd (omega (arith, one))
+kept_place (suc level) high low addr most key one lt same = subst (λ x. AreBelow most (stubs_in (stubs level) (suc level) high x)) (sym (made.outs-Kept low addr key)) ((lt, same), tt)
 
-pub takes_below : (low high block head : ℕ) (old new : List Stub) → Takes low high block old new → AreBelow head old → AreBelow head new
-takes_below low high block head old new p h =
-    let all = subst (AreBelow head) p.was h in
-    subst (AreBelow head) (sym p.now) (below_append head p.front p.back (below_front head p.front (p.mid ++ p.back) all) (below_back head p.mid p.back (below_back head p.front (p.mid ++ p.back) all)))
+pub takes_below : (low high block : ℕ) (most : Bound) (old new : List Stub) → Takes low high block old new → AreBelow most old → AreBelow most new
+takes_below low high block most old new p h =
+    let all = subst (AreBelow most) p.was h in
+    subst (AreBelow most) (sym p.now) (below_append most p.front p.back (below_front most p.front (p.mid ++ p.back) all) (below_back most p.mid p.back (below_back most p.front (p.mid ++ p.back) all)))

@@ -15,7 +15,7 @@ use Rattle.btree_twigs.proofs.Counts.{sum_append, nodes_grown}
 use Rattle.btree_twigs.proofs.Nodes.{low_of_grown, stubs_of_grown, grown_is_child}
 use Rattle.btree_twigs.specs.Top.{IsTopBy, top_least}
 use Rattle.btree_twigs.proofs.Ways.{open_front, open_back, child_is_twig}
-use Rattle.btree_update.specs.Held.{AreBelow, AnyRead}
+use Rattle.btree_update.specs.Held.{Bound, bound, AreBelow, AnyRead}
 use Rattle.btree_update.specs.Opens.{GivesWay, GivesChild, GivesBelow}
 use Rattle.btree_update.specs.Beside.{IsReadWhere, Spares, LendsFrom, HasHelp, KeepsOrHasHelp, IsNodeHeld, HelpsBeside, HelpsOnWay, HelpsBelow, HelpsFrom}
 use Rattle.btree_update.specs.Helping.{IsPutBy, TakesHelp, IsHelpTaken, CanHelp, CanHelpWay, MayHelp, HelpedOut, HelpedWay, HelpedRoot}
@@ -29,7 +29,7 @@ record IsUp (order l loses end : ℕ) (x : Child-F Child Twig) (new : Child) : T
   low_is : low_of new ≡ low_in x
   shaped : IsChildBy (IsChild order l) order l end (out-Child new)
   lends : Lends order loses new
-  below : (head : ℕ) → AreBelow head (stubs_in (stubs l) (suc l) end x) → AreBelow head (stubs_in (stubs l) (suc l) end (out-Child new))
+  below : (most : Bound) → AreBelow most (stubs_in (stubs l) (suc l) end x) → AreBelow most (stubs_in (stubs l) (suc l) end (out-Child new))
   few : nodes_in (nodes l) (out-Child new) ≤ nodes_in (nodes l) x + 1
 
 -- it lends, or the node above loses one
@@ -43,7 +43,7 @@ up order l loses end (Kept low addr key) new node gone more h p = record {
   low_is = ap low_in p.0;
   shaped = subst (IsChildBy (IsChild order l) order l end) (sym p.0) h.0.shaped;
   lends = subst (λ (y : Child-F Child Twig). IsHeldIn y × ((order / 2 < width_in y) ⊎ (1 ≤ loses))) (sym p.0) (tt, lends_by order loses _ h.1);
-  below = λ head b. subst (λ y. AreBelow head (stubs_in (stubs l) (suc l) end y)) (sym p.0) (lower addr head _ (omega (arith, b.0.0)) h.0.lower);
+  below = λ most b. subst (λ y. AreBelow most (stubs_in (stubs l) (suc l) end y)) (sym p.0) (lower (bound addr (length key)) most _ (omega (arith, b.0.0)) b.0.1 h.0.lower);
   few = omega (arith, ap (nodes_in (nodes l)) p.0, h.0.bare);
 }
 
@@ -126,7 +126,7 @@ pub record Placed (order l least low high at loses fewer : ℕ) (old mid : List 
   pub comes : Comes order l high at loses fewer mid c bs
   pub node : IsNode order (suc l) least order low high mid
   pub wide : length mid ≡ length old
-  pub below : (head : ℕ) → AreBelow head (stubs_under (suc l) high old) → AreBelow head (stubs_under (suc l) high mid)
+  pub below : (most : Bound) → AreBelow most (stubs_under (suc l) high old) → AreBelow most (stubs_under (suc l) high mid)
   pub few : sum_by (nodes (suc l)) mid ≤ sum_by (nodes (suc l)) old + 1
 
 placed_some : (order l least low high at loses fewer : ℕ) (old mid : Twig) (gone more : List ℕ) (fs : List Child) (c : Child) (bs : List Child) (node : Twig) → IsNode order (suc l) least order low high (children_of old) → children_of old ≡ fs ++ c ∷ bs → length fs + 1 ≡ at →
@@ -144,8 +144,8 @@ placed_some order l least low high at loses fewer old mid gone more fs c bs node
       comes = comes_beside order l high at loses fewer th.i cs (children_of mid) fs c bs th.child th.other is n th.was th.now th.within th.next th.last u.low_is u.lends;
       node = subst (IsNode order (suc l) least order low high) (sym th.now) (node_with low_of (IsChild order (suc l)) (suc l) least order low high fi th.child th.other bi was u.low_is u.shaped);
       wide = omega (arith, ap length th.now, ap length th.was, length-append fi (th.other ∷ bi), length-append fi (th.child ∷ bi));
-      below = λ head b. subst (λ xs. AreBelow head (stubs_under (suc l) high xs)) (sym th.now)
-          (still_below order (suc l) least low high 0 fi th.child bi was head th.other u.low_is (u.below head) (subst (λ xs. AreBelow head (stubs_under (suc l) high xs)) th.was b));
+      below = λ most b. subst (λ xs. AreBelow most (stubs_under (suc l) high xs)) (sym th.now)
+          (still_below order (suc l) least low high 0 fi th.child bi was most th.other u.low_is (u.below most) (subst (λ xs. AreBelow most (stubs_under (suc l) high xs)) th.was b));
       few = omega (arith, nodes_old, nodes_mid, u.few);
     }
 
@@ -155,7 +155,7 @@ placed_none order l least low high at loses fewer old mid fs c bs h is n same he
   comes = record { front = fs; back = bs; now = is; count = n; ends = refl; helped = helped };
   node = h;
   wide = refl;
-  below = λ head b. b;
+  below = λ most b. b;
   few = omega arith;
 })
 
@@ -342,8 +342,8 @@ module _ (order l least low high block n loses : ℕ) (old mid : Twig) (beside :
             is_open = subst (λ xs. IsOpen block (stubs_under (suc l) high xs)) (sym now) out_node.1;
             helps = subst (λ xs. Helps order block (suc l) xs loses) (sym now) out_helps;
             wide = omega (arith, ap length now, length-append f (d ∷ b), q.wide, ap length q.comes.now, length-append f (y ∷ b));
-            below = λ head k. subst (λ xs. AreBelow head (stubs_under (suc l) high xs)) (sym now)
-                (still_below order (suc l) least low high block f y b node_y head d h.low_is (h.below_it head) (subst (λ xs. AreBelow head (stubs_under (suc l) high xs)) q.comes.now (q.below head k)));
+            below = λ most k. subst (λ xs. AreBelow most (stubs_under (suc l) high xs)) (sym now)
+                (still_below order (suc l) least low high block f y b node_y most d h.low_is (h.below_it most) (subst (λ xs. AreBelow most (stubs_under (suc l) high xs)) q.comes.now (q.below most k)));
             few = omega (arith, nodes_new, nodes_mid, h.few, q.few);
             gives = λ pages may held' loses' asks.
                 (let o' = way_asks (IsReadWhere pages may order) order block (suc l) l high loses' old held' beside fs x bs refl asks split from to in
@@ -409,7 +409,7 @@ way_out order below high block loses low twig new beside gone more h = record {
   is_open = subst (IsOpen block) (sym (stubs_of_grown below high low new)) h.is_open;
   helps = subst (λ y. Helps order block below (below_in y) loses) (sym (made.outs-Grown low new)) h.helps;
   wide = ap width_in (made.outs-Grown low new) ∙ h.wide ∙ sym (ap width_in (made.outs-Grown low twig));
-  below_it = λ head k. subst (AreBelow head) (sym (stubs_of_grown below high low new)) (h.below head (subst (AreBelow head) (stubs_of_grown below high low twig) k));
+  below_it = λ most k. subst (AreBelow most) (sym (stubs_of_grown below high low new)) (h.below most (subst (AreBelow most) (stubs_of_grown below high low twig) k));
   few = omega (arith, nodes_grown below low new, nodes_grown below low twig, h.few);
   gives = λ pages may held loses asks. grown_out order below high block low twig beside held loses pages may new gone more asks h.gives;
 }
@@ -423,7 +423,7 @@ leaf_out order zero least low high block loses twig held beside gone is shaped i
   is_open = is_open;
   helps = omega (arith, h.0);
   wide = refl;
-  below = λ head k. k;
+  below = λ most k. k;
   few = omega arith;
   gives = λ pages may held loses asks. below_none pages order (MayHelp pages order may) 0 high twig gone;
 }
@@ -457,7 +457,7 @@ root_out order below high block loses low twig new beside gone more zero_is h = 
   shaped = subst (IsTopBy order below high) (sym (made.outs-Grown low new)) (zero_is, h.shaped);
   is_open = subst (IsOpen block) (sym (stubs_of_grown below high low new)) h.is_open;
   helps = subst (λ y. Helps order block below (below_in y) loses) (sym (made.outs-Grown low new)) h.helps;
-  below_it = λ head k. subst (AreBelow head) (sym (stubs_of_grown below high low new)) (h.below head (subst (AreBelow head) (stubs_of_grown below high low twig) k));
+  below_it = λ most k. subst (AreBelow most) (sym (stubs_of_grown below high low new)) (h.below most (subst (AreBelow most) (stubs_of_grown below high low twig) k));
   few = omega (arith, nodes_grown below low new, nodes_grown below low twig, h.few);
   gives = λ pages may held loses asks. grown_out order below high block low twig beside held loses pages may new gone more asks h.gives;
 }

@@ -2,6 +2,7 @@
 use Rattle.std.proofs.Common.{◌≡◌, ℕ, zero, suc, ◌-◌, ◌/◌, ◌<◌, ◌≤◌, ◌^◌, List, [], ◌∷◌, ◌++◌, length, take, drop, refl, sym, ap, subst, ◌∙◌, arith}
 use Rattle.std.specs.List.{AllByRecursion}
 use Rattle.std.proofs.lemmas.List.Elements.{recursion_from_All}
+use Rattle.sdbt_base.specs.Keys.{version_of}
 use Rattle.node_codec.specs.declared.body.Entry.{Entry}
 use Rattle.page_store.specs.declared.wants.Want.{Want}
 use Rattle.btree_twigs.specs.declared.twigs.Child.{Child}
@@ -17,7 +18,7 @@ use Rattle.btree_update.specs.GroveTree.{stubs_at, want_at}
 use Rattle.btree_update.specs.Reading.{kept_of, all_kept}
 use Rattle.btree_update.specs.Held.{stub_at, HasLeast, IsReadAs, OnWay, HeldIn, HeldFor, HeldFrom}
 use Rattle.btree_update.specs.Holding.{CanHold, CanHoldBelow, IsNodeFor, IsNodeOf}
-use Rattle.btree_update.specs.Held.{AreBelow}
+use Rattle.btree_update.specs.Held.{Bound, bound, AreBelow}
 use Rattle.btree_update.proofs.OpenLaws.{IsOnWay, below_front, below_back, lower}
 use Rattle.btree_update.proofs.Readings.{kept_stubs, read_is_twig}
 
@@ -64,12 +65,12 @@ one_way Rest order level least low high block n end twig c h w r = λ front back
     subst (λ xs. Rest (start_by low_of xs high) d) same.1 (subst (Rest (start_by low_of (drop (suc w.at) (children_of twig)) high)) same.0 r)
 
 -- the places below the child on the way are among those of the node
-pub below_child : (order level high block n head : ℕ) (twig : Twig) (c : Child) → (w : IsOnWay order block level high (children_of twig) n c) → AreBelow head (stubs_below level high twig) →
-    AreBelow head (stubs level (start_by low_of (drop (suc w.at) (children_of twig)) high) c)
-below_child order level high block n head twig c w h =
+pub below_child : (order level high block n : ℕ) (most : Bound) (twig : Twig) (c : Child) → (w : IsOnWay order block level high (children_of twig) n c) → AreBelow most (stubs_below level high twig) →
+    AreBelow most (stubs level (start_by low_of (drop (suc w.at) (children_of twig)) high) c)
+below_child order level high block n most twig c w h =
     let cs = children_of twig in
-    let all = subst (AreBelow head) (ap (stubs_under level high) w.split ∙ stubs_append low_of (stubs level) high (take w.at cs) (c ∷ drop (suc w.at) cs)) h in
-    below_front head (stubs level (start_by low_of (drop (suc w.at) cs) high) c) (stubs_under level high (drop (suc w.at) cs)) (below_back head (stubs_under level (low_of c) (take w.at cs)) _ all)
+    let all = subst (AreBelow most) (ap (stubs_under level high) w.split ∙ stubs_append low_of (stubs level) high (take w.at cs) (c ∷ drop (suc w.at) cs)) h in
+    below_front most (stubs level (start_by low_of (drop (suc w.at) cs) high) c) (stubs_under level high (drop (suc w.at) cs)) (below_back most (stubs_under level (low_of c) (take w.at cs)) _ all)
 
 -- a node that was read has no node in memory below it
 kept_nodes_of : (level : ℕ) (e : Entry) → nodes level (kept_of e) ≡ 0
@@ -81,34 +82,32 @@ kept_nodes : (level : ℕ) (es : List Entry) → sum_by (nodes level) (all_kept 
 kept_nodes level [] = refl
 kept_nodes level (e ∷ es) = omega (arith, kept_nodes_of level e, kept_nodes level es)
 
-pub bare_of : (level : ℕ) (want : Want) (twig : Twig) → IsNodeFor want twig → nodes_below level twig ≡ 0
-bare_of level want twig h = ap (sum_by (nodes level)) h.children ∙ kept_nodes level h.entries
+pub bare_of : (level : ℕ) (want : Want) (key : List ℕ) (twig : Twig) → IsNodeFor want key twig → nodes_below level twig ≡ 0
+bare_of level want key twig h = ap (sum_by (nodes level)) h.children ∙ kept_nodes level h.entries
 
--- its places have addresses below its own, and keys without digests
-entries_below : (level high head : ℕ) (es : List Entry) → AllByRecursion (λ (e : Entry). (e.addr < head) × (length e.key ≡ 32)) es → AreBelow head (stubs_at level high es)
-entries_below zero high head [] h = tt
-entries_below (suc level) high head [] h = tt
-entries_below zero high head (e ∷ es) h = (h.0, entries_below zero high head es h.1)
-entries_below (suc level) high head (e ∷ es) h = (h.0, entries_below (suc level) high head es h.1)
+-- its places have addresses below its own, and keys as long as its own
+entries_below : (level high : ℕ) (most : Bound) (es : List Entry) → AllByRecursion (λ (e : Entry). (e.addr < most.head) × (length e.key ≡ most.size)) es → AreBelow most (stubs_at level high es)
+entries_below zero high most [] h = tt
+entries_below (suc level) high most [] h = tt
+entries_below zero high most (e ∷ es) h = (h.0, entries_below zero high most es h.1)
+entries_below (suc level) high most (e ∷ es) h = (h.0, entries_below (suc level) high most es h.1)
 
-want_below : (want : Want) (twig : Twig) (h : IsNodeFor want twig) → AllByRecursion (λ (e : Entry). (e.addr < want.addr) × (length e.key ≡ 32)) h.entries
-want_below want twig h = recursion_from_All (λ (e : Entry). (e.addr < want.addr) × (length e.key ≡ 32)) h.entries (λ k d inside. (h.in_range.below k d inside, h.in_range.sized k d inside))
+want_below : (want : Want) (key : List ℕ) (twig : Twig) (h : IsNodeFor want key twig) → AllByRecursion (λ (e : Entry). (e.addr < want.addr) × (length e.key ≡ length key)) h.entries
+want_below want key twig h = recursion_from_All (λ (e : Entry). (e.addr < want.addr) × (length e.key ≡ length key)) h.entries (λ k d inside. (h.in_range.below k d inside, h.in_range.sized k d inside ∙ sym h.sized))
 
-pub read_below : (level high head : ℕ) (want : Want) (twig : Twig) → IsNodeFor want twig → want.addr < head → AreBelow head (stubs_below level high twig)
-read_below level high head want twig h lt =
-    subst (AreBelow head) (sym (ap (stubs_under level high) h.children ∙ kept_stubs level high h.entries))
-    (lower want.addr head _ (omega (arith, lt)) (entries_below level high want.addr h.entries (want_below want twig h)))
+pub read_lower : (level high : ℕ) (want : Want) (key : List ℕ) (twig : Twig) → IsNodeFor want key twig → AreBelow (bound want.addr (length key)) (stubs_below level high twig)
+read_lower level high want key twig h =
+    let own = bound want.addr (length key) in
+    subst (AreBelow own) (sym (ap (stubs_under level high) h.children ∙ kept_stubs level high h.entries)) (entries_below level high own h.entries (want_below want key twig h))
 
-pub read_lower : (level high : ℕ) (want : Want) (twig : Twig) → IsNodeFor want twig → AreBelow want.addr (stubs_below level high twig)
-read_lower level high want twig h =
-    subst (AreBelow want.addr) (sym (ap (stubs_under level high) h.children ∙ kept_stubs level high h.entries))
-    (entries_below level high want.addr h.entries (want_below want twig h))
+read_below : (level high head : ℕ) (want : Want) (key : List ℕ) (twig : Twig) → IsNodeFor want key twig → want.addr < head → AreBelow (bound head (length key)) (stubs_below level high twig)
+read_below level high head want key twig h lt = lower (bound want.addr (length key)) (bound head (length key)) _ (omega (arith, lt)) refl (read_lower level high want key twig h)
 
 -- a node that was read is a node in memory
-pub node_is_twig : (order level least low high addr : ℕ) (twig : Twig) → order ≤ 64 → (1 ≤ level → 1 ≤ least) → low ≤ high →
-    IsNodeFor (record { addr = addr; level = suc level; low = low; high = high; least = least; most = order }) twig → IsTwig order level least order low high twig
-node_is_twig order level least low high addr twig most some le h =
-    read_is_twig order level least (record { addr = addr; level = suc level; low = low; high = high; least = least; most = order }) h.entries twig some refl refl le h.in_range h.wanted h.level_is (omega (arith, h.room, most)) h.children
+pub node_is_twig : (order level least low high addr : ℕ) (key : List ℕ) (twig : Twig) → order ≤ 64 → (1 ≤ level → 1 ≤ least) → low ≤ high →
+    IsNodeFor (record { addr = addr; level = suc level; low = low; high = high; least = least; most = order }) key twig → IsTwig order level least order low high twig
+node_is_twig order level least low high addr key twig most some le h =
+    read_is_twig order level least (version_of key) (record { addr = addr; level = suc level; low = low; high = high; least = least; most = order }) h.entries twig some refl refl le h.in_range h.wanted h.level_is (omega (arith, h.room, most)) h.children
 
 pub read_as : (pages : List (List ℕ)) (order level low high addr least : ℕ) (key : List ℕ) (twig : Twig) → addr < 2 ^ 64 →
     IsNodeOf pages (record { addr = addr; level = suc level; low = low; high = high; least = least; most = order }) key twig → IsReadAs pages order level (stub_at (suc level) low high addr key) twig
@@ -120,14 +119,9 @@ read_as pages order level low high addr least key twig small h = record {
 }
 
 -- the place of a child on the medium
-pub kept_below : (head level high low addr : ℕ) (key : List ℕ) → AreBelow head (stubs (suc level) high (made.Kept low addr key)) → addr < head
+pub kept_below : (most : Bound) (level high low addr : ℕ) (key : List ℕ) → AreBelow most (stubs (suc level) high (made.Kept low addr key)) → addr < most.head
 unfolding stubs
-kept_below head level high low addr key h = (subst (λ x. AreBelow head (stubs_in (stubs level) (suc level) high x)) (made.outs-Kept low addr key) h).0.0
-
--- and its key, which has no digest
-pub kept_plain : (head level high low addr : ℕ) (key : List ℕ) → AreBelow head (stubs (suc level) high (made.Kept low addr key)) → length key ≡ 32
-unfolding stubs
-kept_plain head level high low addr key h = (subst (λ x. AreBelow head (stubs_in (stubs level) (suc level) high x)) (made.outs-Kept low addr key) h).0.1
+kept_below most level high low addr key h = (subst (λ x. AreBelow most (stubs_in (stubs level) (suc level) high x)) (made.outs-Kept low addr key) h).0.0
 
 above : (level : ℕ) → 1 ≤ level → level ≡ suc (level - 1)
 above level one = omega (arith, one)
@@ -143,7 +137,8 @@ way_grown order least level block high head low twig at = record {
   shaped = subst (HasLeast order least (level - 1) high) (made.outs-Grown low twig) at.shaped;
   from = omega (arith, at.from, low_of_grown low twig);
   to = at.to;
-  within = subst (AreBelow head) (stubs_of_grown (level - 1) high low twig) (subst (λ k. AreBelow head (stubs k high (made.Grown low twig))) (above level at.one) at.within);
+  size = at.size;
+  within = subst (AreBelow (bound head at.size)) (stubs_of_grown (level - 1) high low twig) (subst (λ k. AreBelow (bound head at.size) (stubs k high (made.Grown low twig))) (above level at.one) at.within);
 }
 
 pub held_grown : (Reads : ℕ → Stub → Twig → Type 0) (order least block level high low : ℕ) (twig : Twig) (held : List Twig) → OnWay block (λ end c. HeldFor Reads order block level end c held) high twig → HeldFrom Reads order least block level high (made.Grown low twig) held
@@ -151,15 +146,12 @@ held_grown Reads order least block level high low twig held way = subst (λ x. H
 
 -- a child on the medium
 pub way_lt : (order least level block high head low addr : ℕ) (key : List ℕ) → CanHold order least level block high head (made.Kept low addr key) → addr < head
-way_lt order least level block high head low addr key at = kept_below head (level - 1) high low addr key (subst (λ k. AreBelow head (stubs k high (made.Kept low addr key))) (above level at.one) at.within)
+way_lt order least level block high head low addr key at = kept_below (bound head at.size) (level - 1) high low addr key (subst (λ k. AreBelow (bound head at.size) (stubs k high (made.Kept low addr key))) (above level at.one) at.within)
 
-pub way_plain : (order least level block high head low addr : ℕ) (key : List ℕ) → CanHold order least level block high head (made.Kept low addr key) → length key ≡ 32
-way_plain order least level block high head low addr key at = kept_plain head (level - 1) high low addr key (subst (λ k. AreBelow head (stubs k high (made.Kept low addr key))) (above level at.one) at.within)
-
-module _ (order least level block high head low addr : ℕ) (key : List ℕ) (twig : Twig) (at : CanHold order least level block high head (made.Kept low addr key)) (h : IsNodeFor (want_at order level low high addr least) twig) where
+module _ (order least level block high head low addr : ℕ) (key : List ℕ) (twig : Twig) (at : CanHold order least level block high head (made.Kept low addr key)) (h : IsNodeFor (want_at order level low high addr least) key twig) where
   way_shaped : IsTwig order (level - 1) least order low high twig
-  way_shaped = node_is_twig order (level - 1) least low high addr twig at.most (λ one. omega (arith, at.two (omega (arith, one)))) (omega (arith, at.from, at.to, low_of_kept low addr key))
-      (subst (λ k. IsNodeFor (want_at order k low high addr least) twig) (above level at.one) h)
+  way_shaped = node_is_twig order (level - 1) least low high addr key twig at.most (λ one. omega (arith, at.two (omega (arith, one)))) (omega (arith, at.from, at.to, low_of_kept low addr key))
+      (subst (λ k. IsNodeFor (want_at order k low high addr least) key twig) (above level at.one) h)
 
   pub way_read : CanHoldBelow order (level - 1) block high head twig
   way_read = record {
@@ -171,13 +163,14 @@ module _ (order least level block high head low addr : ℕ) (key : List ℕ) (tw
     shaped = way_shaped;
     from = omega (arith, at.from, low_of_kept low addr key);
     to = at.to;
-    within = read_below (level - 1) high head (want_at order level low high addr least) twig h (way_lt order least level block high head low addr key at);
+    size = length key;
+    within = read_below (level - 1) high head (want_at order level low high addr least) key twig h (way_lt order least level block high head low addr key at);
   }
 
   pub way_held : (Reads : ℕ → Stub → Twig → Type 0) (rest held : List Twig) → held ≡ rest ++ twig ∷ [] → Reads (level - 1) (stub_at (suc (level - 1)) low high addr key) twig →
       OnWay block (λ end c. HeldFor Reads order block (level - 1) end c rest) high twig → HeldFrom Reads order least block (level - 1) high (made.Kept low addr key) held
   way_held Reads rest held is reads way = subst (λ x. HeldIn Reads order least block (HeldFor Reads order block (level - 1)) (level - 1) high x held) (sym (made.outs-Kept low addr key))
-      (record { rest = rest; twig = twig; is = is; reads = reads; shaped = way_shaped; bare = bare_of (level - 1) (want_at order level low high addr least) twig h; lower = read_lower (level - 1) high (want_at order level low high addr least) twig h; on_way = way })
+      (record { rest = rest; twig = twig; is = is; reads = reads; shaped = way_shaped; bare = bare_of (level - 1) (want_at order level low high addr least) key twig h; lower = read_lower (level - 1) high (want_at order level low high addr least) key twig h; on_way = way })
 
 -- what is held from a child on
 pub held_for : (Reads : ℕ → Stub → Twig → Type 0) (order block level below high : ℕ) (c : Child) (held : List Twig) → level ≡ suc below → HeldFrom Reads order (order / 2) block below high c held → HeldFor Reads order block level high c held

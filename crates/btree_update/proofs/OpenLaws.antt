@@ -14,7 +14,7 @@ use Rattle.btree_twigs.specs.Shape.{EachBy, IsChildBy, IsChild, IsTwig}
 use Rattle.btree_twigs.specs.Updates.{IsNode, IsOpen, stubs_under}
 use Rattle.btree_twigs.proofs.ListLaws.{stubs_append, each_front, each_back, tiles_by, tiles_le, split_here, at_end, node_with}
 use Rattle.btree_twigs.proofs.Children.{tiles_child}
-use Rattle.btree_update.specs.Held.{AreBelow, HasLeast, OnWay, HeldIn, HeldFor, AnyRead, IsOpened, IsTakenUp, IsAtHand, IsOpenedBelow}
+use Rattle.btree_update.specs.Held.{Bound, bound, AreBelow, HasLeast, OnWay, HeldIn, HeldFor, AnyRead, IsOpened, IsTakenUp, IsAtHand, IsOpenedBelow}
 use Rattle.btree_update.specs.Opens.{Opens, Within}
 
 -- places before the block or behind it are no hindrance
@@ -36,21 +36,22 @@ open_append block (x ∷ xs) ys h k = (h.0, open_append block xs ys h.1 k)
 one_tiles : (order level : ℕ) (high : ℕ) (c : Child) → low_of c < high → IsChild order level high c → Tiles (low_of c) high (stubs level high c)
 one_tiles order level high c = tiles_child order level high c
 
-pub below_front : (head : ℕ) (xs ys : List Stub) → AreBelow head (xs ++ ys) → AreBelow head xs
-below_front head [] ys h = tt
-below_front head (x ∷ xs) ys h = (h.0, below_front head xs ys h.1)
+pub below_front : (most : Bound) (xs ys : List Stub) → AreBelow most (xs ++ ys) → AreBelow most xs
+below_front most [] ys h = tt
+below_front most (x ∷ xs) ys h = (h.0, below_front most xs ys h.1)
 
-pub below_back : (head : ℕ) (xs ys : List Stub) → AreBelow head (xs ++ ys) → AreBelow head ys
-below_back head [] ys h = h
-below_back head (x ∷ xs) ys h = below_back head xs ys h.1
+pub below_back : (most : Bound) (xs ys : List Stub) → AreBelow most (xs ++ ys) → AreBelow most ys
+below_back most [] ys h = h
+below_back most (x ∷ xs) ys h = below_back most xs ys h.1
 
-pub below_append : (head : ℕ) (xs ys : List Stub) → AreBelow head xs → AreBelow head ys → AreBelow head (xs ++ ys)
-below_append head [] ys h k = k
-below_append head (x ∷ xs) ys h k = (h.0, below_append head xs ys h.1 k)
+pub below_append : (most : Bound) (xs ys : List Stub) → AreBelow most xs → AreBelow most ys → AreBelow most (xs ++ ys)
+below_append most [] ys h k = k
+below_append most (x ∷ xs) ys h k = (h.0, below_append most xs ys h.1 k)
 
-pub lower : (head head' : ℕ) (ss : List Stub) → head ≤ head' → AreBelow head ss → AreBelow head' ss
-lower head head' [] le h = tt
-lower head head' (s ∷ ss) le h = ((omega (arith, h.0.0, le), h.0.1), lower head head' ss le h.1)
+-- what is below an address is below a higher one
+pub lower : (less most : Bound) (ss : List Stub) → less.head ≤ most.head → less.size ≡ most.size → AreBelow less ss → AreBelow most ss
+lower less most [] le same h = tt
+lower less most (s ∷ ss) le same h = ((omega (arith, h.0.0, le), h.0.1 ∙ same), lower less most ss le same h.1)
 
 -- nothing is on the way
 pub open_first : (order level least low high block : ℕ) (cs : List Child) → IsNode order level least order low high cs → block < start_by low_of cs high → IsOpen block (stubs_under level high cs)
@@ -83,16 +84,16 @@ module _ (order level least low high block : ℕ) (fs : List Child) (c : Child) 
       (ap (λ m. stubs_under level m fs ++ (stubs level (start_by low_of bs high) d ++ stubs_under level high bs)) (sym low_is) ∙ sym (stubs_append low_of (stubs level) high fs (d ∷ bs))) all)
 
   -- where the child's places have lower addresses, so have the node's
-  pub still_below : (head : ℕ) (d : Child) → low_of d ≡ low_of c → (AreBelow head (stubs level (start_by low_of bs high) c) → AreBelow head (stubs level (start_by low_of bs high) d)) →
-      AreBelow head (stubs_under level high (fs ++ c ∷ bs)) → AreBelow head (stubs_under level high (fs ++ d ∷ bs))
-  still_below head d low_is one h' =
-      let all = subst (AreBelow head) (stubs_append low_of (stubs level) high fs (c ∷ bs)) h' in
-      let front = below_front head (stubs_under level (low_of c) fs) _ all in
-      let rest = below_back head (stubs_under level (low_of c) fs) _ all in
-      let here = one (below_front head (stubs level (start_by low_of bs high) c) _ rest) in
-      let back = below_back head (stubs level (start_by low_of bs high) c) _ rest in
-      subst (AreBelow head) (ap (λ m. stubs_under level m fs ++ (stubs level (start_by low_of bs high) d ++ stubs_under level high bs)) (sym low_is) ∙ sym (stubs_append low_of (stubs level) high fs (d ∷ bs)))
-      (below_append head (stubs_under level (low_of c) fs) _ front (below_append head (stubs level (start_by low_of bs high) d) (stubs_under level high bs) here back))
+  pub still_below : (most : Bound) (d : Child) → low_of d ≡ low_of c → (AreBelow most (stubs level (start_by low_of bs high) c) → AreBelow most (stubs level (start_by low_of bs high) d)) →
+      AreBelow most (stubs_under level high (fs ++ c ∷ bs)) → AreBelow most (stubs_under level high (fs ++ d ∷ bs))
+  still_below most d low_is one h' =
+      let all = subst (AreBelow most) (stubs_append low_of (stubs level) high fs (c ∷ bs)) h' in
+      let front = below_front most (stubs_under level (low_of c) fs) _ all in
+      let rest = below_back most (stubs_under level (low_of c) fs) _ all in
+      let here = one (below_front most (stubs level (start_by low_of bs high) c) _ rest) in
+      let back = below_back most (stubs level (start_by low_of bs high) c) _ rest in
+      subst (AreBelow most) (ap (λ m. stubs_under level m fs ++ (stubs level (start_by low_of bs high) d ++ stubs_under level high bs)) (sym low_is) ∙ sym (stubs_append low_of (stubs level) high fs (d ∷ bs)))
+      (below_append most (stubs_under level (low_of c) fs) _ front (below_append most (stubs level (start_by low_of bs high) d) (stubs_under level high bs) here back))
 
 -- the child at the place on the way
 pub record IsOnWay (order block level high : ℕ) (cs : List Child) (n : ℕ) (c : Child) : Type 0 where
@@ -178,22 +179,22 @@ pub up : (Reads : ℕ → Stub → Twig → Type 0) (order block l high : ℕ) (
 unfolding HeldFor
 up Reads order block l high c new held rest low twig h k t is = up_by Reads order (order / 2) block l high (HeldFor Reads order block l) (out-Child c) new held rest low twig (has_least order l high c h) k t is
 
-pub up_below_by : (order least block l high head : ℕ) (Rest : ℕ → Child → List Twig → Type 0) (x : Child-F Child Twig) (new : Child) (held rest : List Twig) (low : ℕ) (twig : Twig) →
-    HeldIn AnyRead order least block Rest l high x held → IsTakenUp x new held rest → out-Child new ≡ Grown low twig → AreBelow head (stubs_in (stubs l) (suc l) high x) → AreBelow head (stubs_below l high twig)
-up_below_by order least block l high head Rest (Kept low' addr key) new held rest low twig h t is below =
+pub up_below_by : (order least block l high : ℕ) (most : Bound) (Rest : ℕ → Child → List Twig → Type 0) (x : Child-F Child Twig) (new : Child) (held rest : List Twig) (low : ℕ) (twig : Twig) →
+    HeldIn AnyRead order least block Rest l high x held → IsTakenUp x new held rest → out-Child new ≡ Grown low twig → AreBelow most (stubs_in (stubs l) (suc l) high x) → AreBelow most (stubs_below l high twig)
+up_below_by order least block l high most Rest (Kept low' addr key) new held rest low twig h t is below =
     let same = same_from_push h.rest rest h.twig t.0 (sym h.is ∙ t.1) in
     let grown : grown_of low' t.0 ≡ grown_of low twig = sym t.2 ∙ is in
     let twigs : t.0 ≡ twig = cc in
-    subst (λ w. AreBelow head (stubs_below l high w)) (same.1 ∙ twigs) (lower addr head _ (omega (arith, below.0.0)) h.lower)
-up_below_by order least block l high head Rest (Grown low' twig') new held rest low twig h t is below =
+    subst (λ w. AreBelow most (stubs_below l high w)) (same.1 ∙ twigs) (lower (bound addr (length key)) most _ (omega (arith, below.0.0)) below.0.1 h.lower)
+up_below_by order least block l high most Rest (Grown low' twig') new held rest low twig h t is below =
     let grown : grown_of low' twig' ≡ grown_of low twig = sym t.0 ∙ is in
     let twigs : twig' ≡ twig = cc in
-    subst (λ w. AreBelow head (stubs_below l high w)) twigs below
+    subst (λ w. AreBelow most (stubs_below l high w)) twigs below
 
-pub up_below : (order block l high head : ℕ) (c new : Child) (held rest : List Twig) (low : ℕ) (twig : Twig) →
-    HeldFor AnyRead order block (suc l) high c held → IsTakenUp (out-Child c) new held rest → out-Child new ≡ Grown low twig → AreBelow head (stubs (suc l) high c) → AreBelow head (stubs_below l high twig)
+pub up_below : (order block l high : ℕ) (most : Bound) (c new : Child) (held rest : List Twig) (low : ℕ) (twig : Twig) →
+    HeldFor AnyRead order block (suc l) high c held → IsTakenUp (out-Child c) new held rest → out-Child new ≡ Grown low twig → AreBelow most (stubs (suc l) high c) → AreBelow most (stubs_below l high twig)
 unfolding HeldFor stubs
-up_below order block l high head c new held rest low twig h t is below = up_below_by order (order / 2) block l high head (HeldFor AnyRead order block l) (out-Child c) new held rest low twig h t is below
+up_below order block l high most c new held rest low twig h t is below = up_below_by order (order / 2) block l high most (HeldFor AnyRead order block l) (out-Child c) new held rest low twig h t is below
 
 pub nodes_is : (l : ℕ) (c : Child) → nodes (suc l) c ≡ nodes_in (nodes l) (out-Child c)
 unfolding nodes

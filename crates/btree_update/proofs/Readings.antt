@@ -70,10 +70,10 @@ begins_kept zero low high es le some h first = first_from low high es le h
 begins_kept (suc level) low high es le some h first = first_is low high es (some (omega arith)) (first (omega arith))
 
 -- the node that a wanted record is
-pub read_is_twig : (order level least : ℕ) (want : Want) (es : List Entry) (twig : Twig) → (1 ≤ level → 1 ≤ least) → want.least ≡ least → want.most ≡ order → want.low ≤ want.high →
-    FitsNode 1 want.addr (suc level) es → IsNodeWanted want (suc level) es → level_of twig ≡ suc level → order < vec_capacity (out-Twig twig).children → children_of twig ≡ all_kept es →
+pub read_is_twig : (order level least version : ℕ) (want : Want) (es : List Entry) (twig : Twig) → (1 ≤ level → 1 ≤ least) → want.least ≡ least → want.most ≡ order → want.low ≤ want.high →
+    FitsNode version want.addr (suc level) es → IsNodeWanted want (suc level) es → level_of twig ≡ suc level → order < vec_capacity (out-Twig twig).children → children_of twig ≡ all_kept es →
     IsTwig order level least order want.low want.high twig
-read_is_twig order level few want es twig some least most le fits wanted is room all =
+read_is_twig order level few version want es twig some least most le fits wanted is room all =
     let n : length (all_kept es) ≡ length es = length-map es kept_of in
     let node : IsNode order level few order want.low want.high (all_kept es) = record {
       enough = omega (arith, n, least, wanted.least);

@@ -22,6 +22,7 @@ root_holds order least level block high head top at is = subst (λ l. CanHold or
   shaped = root_least order (level - 1) high (out-Child top) at.shaped;
   from = omega (arith, root_low order (level - 1) high (out-Child top) at.shaped);
   to = at.to;
+  size = at.size;
   within = at.within;
 })
 

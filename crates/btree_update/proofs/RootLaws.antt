@@ -9,7 +9,7 @@ use Rattle.btree_twigs.specs.Stubs.{Stub, low_in, stubs, stubs_below, nodes, nod
 use Rattle.btree_twigs.specs.Shape.{IsTwig}
 use Rattle.btree_twigs.specs.Top.{top_least}
 use Rattle.btree_update.specs.GroveTree.{Maps, MapsIn, want_at}
-use Rattle.btree_update.specs.Held.{stub_at, AreBelow, HasLeast, IsReadAs, OnWay, HeldIn, HeldFor, AnyRead, IsTakenUp, CanOpenBelow}
+use Rattle.btree_update.specs.Held.{stub_at, Bound, AreBelow, HasLeast, IsReadAs, OnWay, HeldIn, HeldFor, AnyRead, IsTakenUp, CanOpenBelow}
 use Rattle.btree_update.specs.Roots.{IsRoot, IsRootBy, HeldRoot, RootMaps}
 use Rattle.btree_update.proofs.Places.{read_maps}
 use Rattle.btree_update.proofs.OpenLaws.{up_by, up_below_by}
@@ -58,10 +58,10 @@ pub root_maps : (pages : List (List ℕ)) (order block below high : ℕ) (top ne
     HeldRoot (IsReadAs pages order) order block below high top held → IsTakenUp (out-Child top) new held rest → out-Child new ≡ Grown low twig → RootMaps pages order below high top mapped → Maps pages order (stubs_below below high twig) mapped
 root_maps pages order block below high top new held rest low twig mapped h t is m = root_maps_by pages order block below high (out-Child top) new held rest low twig mapped h t is m
 
-pub root_below : (order block below high head : ℕ) (top new : Child) (held rest : List Twig) (low : ℕ) (twig : Twig) →
-    HeldRoot AnyRead order block below high top held → IsTakenUp (out-Child top) new held rest → out-Child new ≡ Grown low twig → AreBelow head (stubs (suc below) high top) → AreBelow head (stubs_below below high twig)
+pub root_below : (order block below high : ℕ) (most : Bound) (top new : Child) (held rest : List Twig) (low : ℕ) (twig : Twig) →
+    HeldRoot AnyRead order block below high top held → IsTakenUp (out-Child top) new held rest → out-Child new ≡ Grown low twig → AreBelow most (stubs (suc below) high top) → AreBelow most (stubs_below below high twig)
 unfolding stubs
-root_below order block below high head top new held rest low twig h t is b = up_below_by order (top_least below) block below high head (HeldFor AnyRead order block below) (out-Child top) new held rest low twig h t is b
+root_below order block below high most top new held rest low twig h t is b = up_below_by order (top_least below) block below high most (HeldFor AnyRead order block below) (out-Child top) new held rest low twig h t is b
 
 abbrev pub below_root : (order block below level high low : ℕ) (x : Child-F Child Twig) (twig : Twig) (held : List Twig) → level ≡ below → block < high → IsRootUp AnyRead order block below high x low twig held → CanOpenBelow level block held twig
 below_root order block below level high low x twig held is to u = record {

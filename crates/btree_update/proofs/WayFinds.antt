@@ -122,7 +122,7 @@ child_finds pages order block (suc level) below high c found is from to f =
 
 -- what is found below a node that was read is found from its place on
 pub kept_finds : (pages : List (List ℕ)) (order least block level high head low addr : ℕ) (key : List ℕ) (twig : Twig) (found : Option Entry) → CanHoldBelow order level block high head twig →
-    IsNodeFor (want_at order (suc level) low high addr least) twig → IsNodeOf pages (want_at order (suc level) low high addr least) key twig → FindsAmong (FitsAt pages) order block (stubs_below level high twig) found →
+    IsNodeFor (want_at order (suc level) low high addr least) key twig → IsNodeOf pages (want_at order (suc level) low high addr least) key twig → FindsAmong (FitsAt pages) order block (stubs_below level high twig) found →
     ChildFinds (FitsAt pages) order least block level high (made.Kept low addr key) found
 kept_finds pages order least block level high head low addr key twig found at fits node f =
     let r = read_fits pages level low high addr least order key twig fits node in

@@ -82,7 +82,7 @@ all_kept_is (e ∷ es) (f ∷ fs) same =
 
 -- a node that was read fits
 pub read_fits : (pages : List (List ℕ)) (level low high addr least most : ℕ) (key : List ℕ) (twig : Twig) →
-    IsNodeFor (record { addr = addr; level = suc level; low = low; high = high; least = least; most = most }) twig →
+    IsNodeFor (record { addr = addr; level = suc level; low = low; high = high; least = least; most = most }) key twig →
     IsNodeOf pages (record { addr = addr; level = suc level; low = low; high = high; least = least; most = most }) key twig →
     (entries : List Entry) × FitsAt pages (record { addr = addr; level = suc level; low = low; high = high; least = least; most = most }) key (NodeRecord (suc level) entries) × (children_of twig ≡ all_kept entries)
 read_fits pages level low high addr least most key twig h o =
@@ -146,7 +146,7 @@ comes_entry pages order block addr (suc level) end e h = (omega arith, subst (Wr
 
 -- and where it comes to a wrong place from one of its children on, it does so from the node on
 pub wrong_below : (pages : List (List ℕ)) (order block wrong level low high addr least most : ℕ) (key : List ℕ) (twig : Twig) →
-    IsNodeFor (record { addr = addr; level = suc level; low = low; high = high; least = least; most = most }) twig →
+    IsNodeFor (record { addr = addr; level = suc level; low = low; high = high; least = least; most = most }) key twig →
     IsNodeOf pages (record { addr = addr; level = suc level; low = low; high = high; least = least; most = most }) key twig →
     WrongUnder pages order block wrong level high twig → ComesToWrong pages order block wrong (record { addr = addr; level = suc level; low = low; high = high; least = least; most = most }) key
 wrong_below pages order block wrong level low high addr least most key twig h o w =

@@ -10,14 +10,14 @@ use Rattle.btree_update.specs.declared.siblings.Left.{Left}
 use Rattle.btree_update.specs.declared.siblings.Left.TheVariants.{Unmapped, Enough, Short}
 use Rattle.page_store.specs.Tree.{Mapped}
 use Rattle.btree_update.specs.Maps.{HasBlock, LacksBlock}
-use Rattle.btree_update.specs.Held.{stub_at, AreBelow, AnyRead, IsReadAs}
+use Rattle.btree_update.specs.Held.{stub_at, bound, AreBelow, AnyRead, IsReadAs}
 
 -- a node that was read for a place
 pub record IsNodeAt (Reads : ℕ → Stub → Twig → Type 0) (order below low high addr : ℕ) (key : List ℕ) (twig : Twig) : Type 0 where
   pub reads : Reads below (stub_at (suc below) low high addr key) twig
   pub shaped : IsTwig order below (order / 2) order low high twig
   pub bare : nodes_below below twig ≡ 0
-  pub lower : AreBelow addr (stubs_below below high twig)
+  pub lower : AreBelow (bound addr (length key)) (stubs_below below high twig)
 
 -- how many children a node loses of which a child is short, where a neighbour lends it one, or else the two merge
 abbrev pub loses_for : Bool → ℕ
@@ -143,7 +143,8 @@ pub record CanRead (order level high head : ℕ) (child : Child) : Type 0 where
   pub most : order ≤ 64
   pub shaped : IsChild order level high child
   pub starts : low_of child < high
-  pub within : AreBelow head (stubs level high child)
+  pub size : ℕ
+  pub within : AreBelow (bound head size) (stubs level high child)
 
 -- a removal leaves all where the block isn't mapped, and there alone
 abbrev pub IsMappedBy : ℕ → List Mapped → Left → Type 0

@@ -16,9 +16,16 @@ use Rattle.btree_update.specs.Reading.{all_kept}
 abbrev pub stub_at : ℕ → ℕ → ℕ → ℕ → List ℕ → Stub
 stub_at level low high addr key = record { level = level; low = low; high = high; addr = addr; key = key }
 
--- these places have addresses below this one, and keys without digests
-abbrev pub AreBelow : ℕ → List Stub → Type 0
-AreBelow head = AllByRecursion (λ s. (s.addr < head) × (length s.key ≡ 32))
+-- what may be said of the places of a tree: their addresses are below this one, and their keys have so many bytes
+pub record Bound : Type 0 where
+  pub head : ℕ
+  pub size : ℕ
+
+abbrev pub bound : ℕ → ℕ → Bound
+bound head size = record { head = head; size = size }
+
+abbrev pub AreBelow : Bound → List Stub → Type 0
+AreBelow most = AllByRecursion (λ s. (s.addr < most.head) × (length s.key ≡ most.size))
 
 -- the node in memory has the entries of the page at its place as children
 pub record IsReadAs (pages : List (List ℕ)) (order below : ℕ) (stub : Stub) (twig : Twig) : Type 0 where
@@ -45,7 +52,7 @@ pub record TakesHeld (Reads : ℕ → Stub → Twig → Type 0) (order least blo
   pub reads : Reads below (stub_at (suc below) low high addr key) twig
   pub shaped : IsTwig order below least order low high twig
   pub bare : nodes_below below twig ≡ 0
-  pub lower : AreBelow addr (stubs_below below high twig)
+  pub lower : AreBelow (bound addr (length key)) (stubs_below below high twig)
   pub on_way : OnWay block (λ high c. Rest high c rest) high twig
 
 abbrev pub HeldIn : (ℕ → Stub → Twig → Type 0) → ℕ → ℕ → ℕ → (ℕ → Child → List Twig → Type 0) → ℕ → ℕ → Child-F Child Twig → List Twig → Type 0

@@ -8,7 +8,7 @@ use Rattle.btree_twigs.specs.Shape.{IsChild, IsTwig}
 use Rattle.btree_twigs.specs.Updates.{IsOpen, width_of}
 use Rattle.btree_twigs.specs.Removal.{below_in, Helps}
 use Rattle.btree_twigs.specs.Top.{IsTop}
-use Rattle.btree_update.specs.Held.{AreBelow, AnyRead}
+use Rattle.btree_update.specs.Held.{Bound, AreBelow, AnyRead}
 use Rattle.btree_update.specs.GroveTree.{want_of}
 use Rattle.btree_update.specs.Opens.{Fitting, GivesChild, GivesBelow}
 use Rattle.btree_update.specs.Beside.{IsReadWhere, HelpsBelow, HelpsFrom}
@@ -78,7 +78,7 @@ pub record HelpedOut (order level least low high block loses : ℕ) (old new : T
   pub is_open : IsOpen block (stubs_below level high new)
   pub helps : Helps order block level (children_of new) loses
   pub wide : length (children_of new) ≡ length (children_of old)
-  pub below : (head : ℕ) → AreBelow head (stubs_below level high old) → AreBelow head (stubs_below level high new)
+  pub below : (most : Bound) → AreBelow most (stubs_below level high old) → AreBelow most (stubs_below level high new)
   pub few : nodes_below level new ≤ nodes_below level old + level
   pub gives : (pages : List (List ℕ)) (may : Stub → Bool) (held : List Twig) (loses : ℕ) → HelpsBelow (IsReadWhere pages may order) order block level high old held beside loses →
       GivesBelow pages order (MayHelp pages order may) level high old new gone more
@@ -90,7 +90,7 @@ pub record HelpedWay (order below high block loses : ℕ) (old new : Child) (bes
   pub is_open : IsOpen block (stubs (suc below) high new)
   pub helps : Helps order block below (below_in (out-Child new)) loses
   pub wide : width_of new ≡ width_of old
-  pub below_it : (head : ℕ) → AreBelow head (stubs (suc below) high old) → AreBelow head (stubs (suc below) high new)
+  pub below_it : (most : Bound) → AreBelow most (stubs (suc below) high old) → AreBelow most (stubs (suc below) high new)
   pub few : nodes (suc below) new ≤ nodes (suc below) old + below
   pub gives : (pages : List (List ℕ)) (may : Stub → Bool) (held : List Twig) (loses : ℕ) → HelpsFrom (IsReadWhere pages may order) order block below high old held beside loses →
       GivesChild pages order (MayHelp pages order may) (suc below) high old new gone more
@@ -114,7 +114,7 @@ pub record HelpedRoot (order below high block loses : ℕ) (old new : Child) (be
   pub shaped : IsTop order below high new
   pub is_open : IsOpen block (stubs (suc below) high new)
   pub helps : Helps order block below (below_in (out-Child new)) loses
-  pub below_it : (head : ℕ) → AreBelow head (stubs (suc below) high old) → AreBelow head (stubs (suc below) high new)
+  pub below_it : (most : Bound) → AreBelow most (stubs (suc below) high old) → AreBelow most (stubs (suc below) high new)
   pub few : nodes (suc below) new ≤ nodes (suc below) old + below
   pub gives : (pages : List (List ℕ)) (may : Stub → Bool) (held : List Twig) (loses : ℕ) → HelpsFrom (IsReadWhere pages may order) order block below high old held beside loses →
       GivesChild pages order (MayHelp pages order may) (suc below) high old new gone more

@@ -1,5 +1,6 @@
 -- What is read for an update.
 use Rattle.std.specs.Prelude.{◌≡◌, ℕ, ◌+◌, ◌-◌, ◌<◌, ◌≤◌, List, Option, length, vec_capacity}
+use Rattle.sdbt_base.specs.Keys.{key_size, version_of}
 use Rattle.platform.specs.declared.platforms.Platform.{Ghosts}
 use Rattle.node_codec.specs.declared.body.Entry.{Entry}
 use Rattle.node_codec.specs.Record.{NodeRecord, FitsNode}
@@ -10,13 +11,14 @@ use Rattle.btree_twigs.specs.declared.twigs.Twig.{Twig, out-Twig}
 use Rattle.btree_twigs.specs.Stubs.{low_of, level_of, children_of, stubs, stubs_below}
 use Rattle.btree_twigs.specs.Shape.{IsTwig}
 use Rattle.btree_update.specs.Reading.{all_kept}
-use Rattle.btree_update.specs.Held.{AreBelow, HasLeast}
+use Rattle.btree_update.specs.Held.{bound, AreBelow, HasLeast}
 use Rattle.btree_update.specs.Roots.{IsRoot}
 
--- a node in memory, of version 1, that is in range and wanted at a place, with room for one child more than a node may have
-pub record IsNodeFor (want : Want) (twig : Twig) : Type 0 where
+-- a node in memory, of the version that the key says, that is in range and wanted at a place, with room for one child more than a node may have
+pub record IsNodeFor (want : Want) (key : List ℕ) (twig : Twig) : Type 0 where
   pub entries : List Entry
-  pub in_range : FitsNode 1 want.addr want.level entries
+  pub sized : length key ≡ key_size (version_of key)
+  pub in_range : FitsNode (version_of key) want.addr want.level entries
   pub wanted : IsNodeWanted want want.level entries
   pub level_is : level_of twig ≡ want.level
   pub children : children_of twig ≡ all_kept entries
@@ -37,7 +39,8 @@ pub record CanHold (order least level block high head : ℕ) (child : Child) : T
   pub shaped : HasLeast order least (level - 1) high (out-Child child)
   pub from : low_of child ≤ block
   pub to : block < high
-  pub within : AreBelow head (stubs level high child)
+  pub size : ℕ
+  pub within : AreBelow (bound head size) (stubs level high child)
 
 -- a node over children of a level, on the way to a block
 pub record CanHoldBelow (order level block high head : ℕ) (twig : Twig) : Type 0 where
@@ -49,7 +52,8 @@ pub record CanHoldBelow (order level block high head : ℕ) (twig : Twig) : Type
   pub shaped : IsTwig order level least order low high twig
   pub from : low ≤ block
   pub to : block < high
-  pub within : AreBelow head (stubs_below level high twig)
+  pub size : ℕ
+  pub within : AreBelow (bound head size) (stubs_below level high twig)
 
 -- a root on the way to a block
 pub record CanHoldRoot (order level block high head : ℕ) (top : Child) : Type 0 where
@@ -58,7 +62,8 @@ pub record CanHoldRoot (order level block high head : ℕ) (top : Child) : Type 
   pub most : order ≤ 64
   pub shaped : IsRoot order (level - 1) high top
   pub to : block < high
-  pub within : AreBelow head (stubs level high top)
+  pub size : ℕ
+  pub within : AreBelow (bound head size) (stubs level high top)
 
 -- so many nodes on the way at most, and so many neighbours beside it, were added to those that were held; and no more pages were read than nodes were added
 pub record HoldsFew {S : Type 0} (P : Ghosts S) (way beside : ℕ) (platform after : S) (held held_now : List Twig) (helpers helpers_now : List (Option Twig)) : Type 0 where

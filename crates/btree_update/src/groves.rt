@@ -21,7 +21,7 @@ ghost use Rattle.btree_walk.specs.Sights.{StandsOver};
 ghost use Rattle.btree_update.specs.Among.{HaveNodes, CachesAmong};
 ghost use Rattle.btree_twigs.specs.declared.twigs.Child.{Child};
 ghost use Rattle.btree_update.specs.declared.refusals.ReadyRefusal.{ReadyRefusal};
-ghost use Rattle.btree_update.specs.Held.{AreBelow};
+ghost use Rattle.btree_update.specs.Held.{Bound, bound, AreBelow};
 ghost use Rattle.btree_update.specs.Holding.{HoldsFew};
 ghost use Rattle.btree_update.specs.Finding.{GroveFinds, GroveStops, KeepsWay, UsesCache};
 ghost use Rattle.btree_update.specs.Groves.{KeepsTree, IsSound, IsReadFrom, IsReadBeside, IsReadBesideAt, HasLevels, RefusesWrong, MayRise, CanInsert, CanRemove, GroveMaps, places_of, grown_in, IsAddressOf, LetsGo, Goes};
@@ -59,17 +59,16 @@ pub struct Grove {
 }
 
 impl Grove {
-    /// The tree of a root record, which so far is of version 1, with no node in memory. It takes no memory.
+    /// The tree of a root record, with no node in memory. It takes no memory.
     pub fn of(alloc: Global, root: &Root) -> Grove
         requires root { FitsRoot root.now }
-        requires version { root.now.version ≡ 1 }
         ensures sound { IsSound result }
         ensures size { (result.order ≡ root.now.order) × (result.blocks ≡ root.now.blocks) × (result.head ≡ root.now.head) × (result.level ≡ root.now.level) }
         ensures top { result.top ≡ Kept 0 root.now.addr root.now.key }
         ensures lists { (result.gone.items ≡ []) × (result.never.items ≡ []) }
         ensures none_held { (result.held.items ≡ []) × (result.beside.items ≡ []) × (result.spares.items ≡ []) }
         ensures levels { (pages : List (List ℕ)) (parts : Parts) → Tree pages root.now parts → (levels : ℕ → List Node) × HasLevels pages result levels }
-        ensures below { (head : ℕ) → root.now.addr < head → AreBelow head (places_of result) }
+        ensures below { (head : ℕ) → root.now.addr < head → AreBelow (bound head (length root.now.key)) (places_of result) }
     {
         Grove {
             order: root.order,
@@ -138,7 +137,7 @@ impl Grove {
     ) -> Result<Option<Entry>, FetchRefusal>
         requires sound { IsSound self.now }
         requires to { block < self.now.blocks }
-        requires within { AreBelow (P.head platform.old) (places_of self.now) }
+        requires within { (size : ℕ) × AreBelow (bound (P.head platform.old) size) (places_of self.now) }
         ensures found { P.tells → StandsOver (P.history platform.old).present.readable reader.old.cache → IfOk result (GroveFinds (P.history platform.old).present.readable block self.now) }
         ensures maps { P.tells → StandsOver (P.history platform.old).present.readable reader.old.cache → (mapped : List Mapped) → GroveMaps (P.history platform.old).present.readable self.now mapped →
             IfOk result (IsMappedAs mapped block) }
@@ -176,7 +175,7 @@ impl Grove {
     ) -> Result<bool, ReadyRefusal>
         requires sound { IsSound self.old }
         requires to { block < self.old.blocks }
-        requires within { AreBelow (P.head platform.old) (places_of self.old) }
+        requires within { (size : ℕ) × AreBelow (bound (P.head platform.old) size) (places_of self.old) }
         // What was held before is not held any more. A node is read for each that is held now, at most.
         ensures can { IfOk result (λ mapped. CanInsert block self.new × (IsTrue mapped → CanRemove block self.new)
             × HoldsFew P.Platform self.old.level (self.old.level - 1) platform.old platform.new [] self.new.held.items [] self.new.beside.items) }
@@ -241,7 +240,7 @@ impl Grove {
             (places_of self.old) self.old.gone.items self.new.gone.items self.old.never.items self.new.never.items }
         ensures levels { (pages : List (List ℕ)) (levels : ℕ → List Node) → IsReadFrom pages block self.old → HasLevels pages self.old levels
             → (after : ℕ → List Node) × HasLevels pages self.new after × Reshape self.old.order block self.old.level self.new.level levels after }
-        ensures below { (head : ℕ) → AreBelow head (places_of self.old) → addr < head → length key ≡ 32 → AreBelow head (places_of self.new) }
+        ensures below { (most : Bound) → AreBelow most (places_of self.old) → addr < most.head → length key ≡ most.size → AreBelow most (places_of self.new) }
         ensures grown { grown_in self.new ≤ grown_in self.old + (2 * self.old.level + 1) }
     {
         open_root(
@@ -280,7 +279,7 @@ impl Grove {
             (places_of self.old) self.old.gone.items self.new.gone.items self.old.never.items self.new.never.items }
         ensures levels { (pages : List (List ℕ)) (levels : ℕ → List Node) → IsReadFrom pages block self.old → IsReadBeside pages block self.old → HasLevels pages self.old levels
             → (after : ℕ → List Node) × HasLevels pages self.new after × ReshapeDown self.old.order block self.old.level self.new.level levels after }
-        ensures below { (head : ℕ) → AreBelow head (places_of self.old) → AreBelow head (places_of self.new) }
+        ensures below { (most : Bound) → AreBelow most (places_of self.old) → AreBelow most (places_of self.new) }
         ensures grown { grown_in self.new ≤ grown_in self.old + 2 * self.old.level }
     {
         open_root(

@@ -3,7 +3,7 @@ ghost use Rattle.btree_twigs.specs.Stubs.{children_of, stubs, stubs_below, nodes
 ghost use Rattle.btree_twigs.specs.declared.twigs.Child.{out-Child};
 ghost use Rattle.btree_twigs.specs.declared.twigs.Child.TheOpen.{Grown};
 ghost use Rattle.btree_twigs.specs.declared.twigs.Twig.{Twig};
-ghost use Rattle.btree_update.specs.Held.{AreBelow, IsReadAs, HeldFor, OnWay, CanOpen, IsOpened, IsTakenUp, IsNoted, IsAtHand, CanOpenBelow, IsOpenedBelow};
+ghost use Rattle.btree_update.specs.Held.{Bound, AreBelow, IsReadAs, HeldFor, OnWay, CanOpen, IsOpened, IsTakenUp, IsNoted, IsAtHand, CanOpenBelow, IsOpenedBelow};
 ghost use Rattle.btree_update.specs.Opens.{HasWay, Fitting, GivesChild, GivesBelow};
 ghost use Rattle.btree_update.specs.Beside.{HelpsBelow, HelpsFrom, HelpsWide, Source, ReadOver};
 ghost use Rattle.btree_update.specs.Roots.{CanOpenRoot, IsRootOpened, HeldRoot, RootMaps};
@@ -24,7 +24,7 @@ pub fn open_way(child: &mut Child, level: u8, block: u64, held: &mut Vec<Twig>, 
         → GivesChild pages at.order (Fitting pages (want_of at.order) (HasWay block)) level at.high child.old child.new gone.old.items gone.new.items }
     ensures room { vec_len gone.new + vec_len held.new ≤ vec_capacity gone.new }
     ensures spare { vec_len gone.new + vec_len held.new + vec_capacity gone.old ≤ vec_len gone.old + vec_len held.old + vec_capacity gone.new }
-    ensures below { (head : ℕ) (at : CanOpen level block held.old.items child.old) → AreBelow head (stubs level at.high child.old) → AreBelow head (stubs level at.high child.new) }
+    ensures below { (most : Bound) (at : CanOpen level block held.old.items child.old) → AreBelow most (stubs level at.high child.old) → AreBelow most (stubs level at.high child.new) }
     ensures helps { (at : CanOpen level block held.old.items child.old) (source : Source) (width : ℕ) (beside : List (Option Twig)) (loses : ℕ) → HelpsWide (ReadOver source at.order) at.order block (level - 1) at.high width child.old held.old.items beside loses
         → HelpsWide (ReadOver source at.order) at.order block (level - 1) at.high width child.new held.new.items beside loses }
     ensures nodes { (at : CanOpen level block held.old.items child.old) → nodes level child.new ≤ nodes level child.old + level }
@@ -56,7 +56,7 @@ pub(crate) fn open_below(
         → GivesBelow pages at.order (Fitting pages (want_of at.order) (HasWay block)) level at.high twig.old twig.new gone.old.items gone.new.items }
     ensures room { vec_len gone.new + vec_len held.new ≤ vec_capacity gone.new }
     ensures spare { vec_len gone.new + vec_len held.new + vec_capacity gone.old ≤ vec_len gone.old + vec_len held.old + vec_capacity gone.new }
-    ensures below { (head : ℕ) (at : CanOpenBelow level block held.old.items twig.old) → AreBelow head (stubs_below level at.high twig.old) → AreBelow head (stubs_below level at.high twig.new) }
+    ensures below { (most : Bound) (at : CanOpenBelow level block held.old.items twig.old) → AreBelow most (stubs_below level at.high twig.old) → AreBelow most (stubs_below level at.high twig.new) }
     ensures helps { (at : CanOpenBelow level block held.old.items twig.old) (source : Source) (beside : List (Option Twig)) (loses : ℕ) → HelpsBelow (ReadOver source at.order) at.order block level at.high twig.old held.old.items beside loses
         → HelpsBelow (ReadOver source at.order) at.order block level at.high twig.new held.new.items beside loses }
     ensures wide { length (children_of twig.new) ≡ length (children_of twig.old) }
@@ -88,7 +88,7 @@ pub(crate) fn open_root(
         → (mapped : List Mapped) → RootMaps pages at.order at.below at.high top.old mapped → Maps pages at.order (stubs level at.high top.new) mapped }
     ensures room { vec_len gone.new + vec_len held.new ≤ vec_capacity gone.new }
     ensures spare { vec_len gone.new + vec_len held.new + vec_capacity gone.old ≤ vec_len gone.old + vec_len held.old + vec_capacity gone.new }
-    ensures below { (head : ℕ) (at : CanOpenRoot level block held.old.items top.old) → AreBelow head (stubs level at.high top.old) → AreBelow head (stubs level at.high top.new) }
+    ensures below { (most : Bound) (at : CanOpenRoot level block held.old.items top.old) → AreBelow most (stubs level at.high top.old) → AreBelow most (stubs level at.high top.new) }
     ensures helps { (at : CanOpenRoot level block held.old.items top.old) (source : Source) (beside : List (Option Twig)) (loses : ℕ) → HelpsFrom (ReadOver source at.order) at.order block at.below at.high top.old held.old.items beside loses
         → HelpsFrom (ReadOver source at.order) at.order block at.below at.high top.new held.new.items beside loses }
     ensures nodes { (at : CanOpenRoot level block held.old.items top.old) → nodes level top.new ≤ nodes level top.old + level }

@@ -1,5 +1,5 @@
 ghost use Rattle.btree_update.specs.declared.refusals.ReadyRefusal.{ReadyRefusal};
-ghost use Rattle.std.specs.Prelude.{◌≡◌, ◌<◌, ◌≤◌, ◌^◌, ℕ, IfOk, IsErrOf, length, vec_capacity};
+ghost use Rattle.std.specs.Prelude.{◌≡◌, ◌<◌, ◌≤◌, ◌^◌, ℕ, IfOk, IsErrOf, vec_capacity};
 ghost use Rattle.sdbt_base.specs.Faults.{TellsOf};
 ghost use Rattle.page_store.specs.Places.{NothingFits};
 ghost use Rattle.btree_walk.specs.Looks.{Looks};
@@ -34,9 +34,7 @@ pub(crate) fn read_node<P: Platform>(
     requires within { want.now.addr < P.head platform.old }
     requires level { 1 ≤ want.now.level }
     requires small { want.now.addr < 2 ^ 64 }
-    // So far trees of version 1 alone are updated.
-    requires plain { length key.now ≡ 32 }
-    ensures fits { IfOk result (IsNodeFor want.now) }
+    ensures fits { IfOk result (IsNodeFor want.now key.now) }
     ensures reads { P.tells → StandsOver (P.history platform.old).present.readable reader.old.cache →
         IfOk result (IsNodeOf (P.history platform.old).present.readable want.now key.now) }
     ensures bad { P.tells → StandsOver (P.history platform.old).present.readable reader.old.cache → (addr : ℕ) → IsErrOf result (ReadyRefusal.BadRecord addr) →
@@ -53,6 +51,7 @@ pub(crate) fn read_node<P: Platform>(
     ensures fills { IfOk result (λ twig. (node : NodeBody) × (children_of twig ≡ all_kept node.entries.items)
         × MakesFirst (cached_node want.now.addr key.now node) reader.old.cache reader.new.cache) }
 {
+    let version = version_of(key);
     if let Some(node) = reader.cache.get(want.addr, key) {
         if !fits(want, key, node) {
             return Err(ReadyRefusal::BadRecord { addr: want.addr });
@@ -61,7 +60,7 @@ pub(crate) fn read_node<P: Platform>(
     }
     let node: &mut NodeBody = &mut reader.node;
     node.level = want.level;
-    node.version = version_of(key);
+    node.version = version;
     fetch_node(platform, want, key, &mut reader.buffers, &mut node.entries)?;
     reader.cache.put(want.addr, key, node);
     in_memory(alloc, node)

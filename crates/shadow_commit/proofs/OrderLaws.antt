@@ -15,7 +15,7 @@ use Rattle.btree_twigs.specs.Stubs.{Stub, start_by, stubs_by, stubs_in, low_of, 
 use Rattle.btree_twigs.specs.Shape.{EachBy, IsChildBy, IsChild, IsTwig}
 use Rattle.btree_twigs.proofs.ListLaws.{each_le, each_front, each_back, stubs_append}
 use Rattle.shadow_commit.specs.Sealed.{Sealed, page_of, SealsEach, SealsNode, SealsDatum, SealsIn, Seals}
-use Rattle.btree_update.specs.Held.{AreBelow}
+use Rattle.btree_update.specs.Held.{bound, AreBelow}
 use Rattle.shadow_commit.specs.NewTree.{IsNodeAt, AreFrom, Fits, AreInOrder, AreNodesOver, keys_at}
 use Rattle.shadow_commit.proofs.KeyLaws.{Within, AreListed, keys_in, keys_append, keys_more, listed_more, append_within, in_places_left, children_keys}
 use Rattle.shadow_commit.proofs.SealLaws.{entries_are, node_fits, below_front, below_back}
@@ -33,10 +33,10 @@ none_in_order first ns is = subst (AreInOrder first) (sym is) (record { from = t
 
 abbrev ChildFits : ℕ → ℕ → ℕ → Type 0
 ChildFits order level head = (first high : ℕ) (c : Child) (ns : List Sealed) (e : Entry) → Seals level first c ns e → IsChild order level high c → order ≤ 64 → level ≤ 20 → high ≤ 1048576 →
-    AreBelow head (stubs level high c) → head ≤ first → AreInOrder first ns
+    AreBelow (bound head 32) (stubs level high c) → head ≤ first → AreInOrder first ns
 
 children_fit_by : (order level head : ℕ) → ChildFits order level head → (first high : ℕ) (cs : List Child) (ns : List Sealed) (es : List Entry) → SealsEach (Seals level) first cs ns es → EachBy low_of (IsChild order level) high cs →
-    order ≤ 64 → level ≤ 20 → high ≤ 1048576 → AreBelow head (stubs_by low_of (stubs level) high cs) → head ≤ first → AreInOrder first ns
+    order ≤ 64 → level ≤ 20 → high ≤ 1048576 → AreBelow (bound head 32) (stubs_by low_of (stubs level) high cs) → head ≤ first → AreInOrder first ns
 children_fit_by order level head one first high [] ns es h shaped most deep blocks below le = none_in_order first ns h.0
 children_fit_by order level head one first high (c ∷ cs) ns es h shaped most deep blocks below le =
     let end = each_le low_of (IsChild order level) high cs shaped.2 in
@@ -45,7 +45,7 @@ children_fit_by order level head one first high (c ∷ cs) ns es h shaped most d
     order_append first h.here h.rest ns h.nodes_are here rest
 
 node_in_order_by : (order level head : ℕ) → ChildFits order level head → (least first low high addr : ℕ) (key : List ℕ) (twig : Twig) (ns : List Sealed) → SealsNode (Seals level) level first (children_of twig) ns addr key →
-    IsTwig order level least order low high twig → order ≤ 64 → level < 20 → high ≤ 1048576 → AreBelow head (stubs_below level high twig) → head ≤ first → AreInOrder first ns
+    IsTwig order level least order low high twig → order ≤ 64 → level < 20 → high ≤ 1048576 → AreBelow (bound head 32) (stubs_below level high twig) → head ≤ first → AreInOrder first ns
 node_in_order_by order level head one least first low high addr key twig ns h shaped most deep blocks below le =
     let under = children_fit_by order level head one first high (children_of twig) h.below h.entries h.each shaped.node.each most (omega (arith, deep)) blocks below le in
     let are = entries_are level first head high (children_of twig) h.below h.entries h.each below le in
@@ -62,12 +62,12 @@ child_in_order order zero head first high c ns e h shaped most deep blocks below
     here (Grown low twig) h = absurd h
 child_in_order order (suc level) head first high c ns e h shaped most deep blocks below le = here (child_in_order order level head) (out-Child c) h shaped below
   where
-    here : ChildFits order level head → (x : Child-F Child Twig) → SealsIn (Seals level) level first x ns e → IsChildBy (IsChild order level) order level high x → AreBelow head (stubs_in (stubs level) (suc level) high x) → AreInOrder first ns
+    here : ChildFits order level head → (x : Child-F Child Twig) → SealsIn (Seals level) level first x ns e → IsChildBy (IsChild order level) order level high x → AreBelow (bound head 32) (stubs_in (stubs level) (suc level) high x) → AreInOrder first ns
     here one (Kept low addr key) h shaped below = none_in_order first ns h.none
     here one (Grown low twig) h shaped below = node_in_order_by order level head one (order / 2) first low high e.addr e.key twig ns h.node shaped most (omega (arith, deep)) blocks below le
 
 pub node_in_order : (order level least head first low high addr : ℕ) (key : List ℕ) (twig : Twig) (ns : List Sealed) → SealsNode (Seals level) level first (children_of twig) ns addr key →
-    IsTwig order level least order low high twig → order ≤ 64 → level < 20 → high ≤ 1048576 → AreBelow head (stubs_below level high twig) → head ≤ first → AreInOrder first ns
+    IsTwig order level least order low high twig → order ≤ 64 → level < 20 → high ≤ 1048576 → AreBelow (bound head 32) (stubs_below level high twig) → head ≤ first → AreInOrder first ns
 node_in_order order level least head first low high addr key twig ns h shaped most deep blocks below le =
     node_in_order_by order level head (child_in_order order level head) least first low high addr key twig ns h shaped most deep blocks below le
 
@@ -83,7 +83,7 @@ records_at first pages (n ∷ ns) at from fits small =
     subst (λ all. IsNodeAt all n × AllByRecursion (IsNodeAt all) ns) assoc (here, rest)
 
 pub children_fit : (order level head first high : ℕ) (cs : List Child) (ns : List Sealed) (es : List Entry) → SealsEach (Seals level) first cs ns es → EachBy low_of (IsChild order level) high cs →
-    order ≤ 64 → level ≤ 20 → high ≤ 1048576 → AreBelow head (stubs_by low_of (stubs level) high cs) → head ≤ first → AreInOrder first ns
+    order ≤ 64 → level ≤ 20 → high ≤ 1048576 → AreBelow (bound head 32) (stubs_by low_of (stubs level) high cs) → head ≤ first → AreInOrder first ns
 children_fit order level head first high cs ns es h shaped most deep blocks below le = children_fit_by order level head (child_in_order order level head) first high cs ns es h shaped most deep blocks below le
 
 each_take : (Below : ℕ → Child → Type 0) (high i : ℕ) (cs : List Child) → EachBy low_of Below high cs → EachBy low_of Below (start_by low_of (drop i cs) high) (take i cs)
@@ -91,13 +91,13 @@ each_take Below high i cs h = each_front low_of Below high (take i cs) (drop i c
 
 -- what was sealed so far is in order
 pub so_far_in_order : (order level head high i : ℕ) (cs : List Child) (ns : List Sealed) (es : List Entry) → SealsEach (Seals level) head (take i cs) ns es → EachBy low_of (IsChild order level) high cs →
-    order ≤ 64 → level ≤ 20 → high ≤ 1048576 → AreBelow head (stubs_by low_of (stubs level) high cs) → AreInOrder head ns
+    order ≤ 64 → level ≤ 20 → high ≤ 1048576 → AreBelow (bound head 32) (stubs_by low_of (stubs level) high cs) → AreInOrder head ns
 so_far_in_order order level head high i cs ns es h each most deep blocks below =
     let split = sym (take-append-drop i cs) in
     let front = each_take (IsChild order level) high i cs each in
     let back = each_back low_of (IsChild order level) high (take i cs) (drop i cs) (subst (EachBy low_of (IsChild order level) high) split each) in
     let end = each_le low_of (IsChild order level) high (drop i cs) back in
-    let places = subst (AreBelow head) (ap (stubs_by low_of (stubs level) high) split ∙ stubs_append low_of (stubs level) high (take i cs) (drop i cs)) below in
+    let places = subst (AreBelow (bound head 32)) (ap (stubs_by low_of (stubs level) high) split ∙ stubs_append low_of (stubs level) high (take i cs) (drop i cs)) below in
     children_fit order level head head (start_by low_of (drop i cs) high) (take i cs) ns es h front most deep (omega (arith, end, blocks)) (below_front head _ _ places) (omega arith)
 
 -- ---- nodes over places
@@ -115,7 +115,7 @@ pub record IsSoFar (head : ℕ) (places : List Stub) (ns : List Sealed) (es : Li
   pub listed : AreListed (keys_at places ++ keys_in ns) es
 
 pub so_far_over : (order level head high i : ℕ) (cs : List Child) (ns : List Sealed) (es : List Entry) → SealsEach (Seals level) head (take i cs) ns es → EachBy low_of (IsChild order level) high cs →
-    order ≤ 64 → level ≤ 20 → high ≤ 1048576 → AreBelow head (stubs_by low_of (stubs level) high cs) → IsSoFar head (stubs_by low_of (stubs level) high cs) ns es
+    order ≤ 64 → level ≤ 20 → high ≤ 1048576 → AreBelow (bound head 32) (stubs_by low_of (stubs level) high cs) → IsSoFar head (stubs_by low_of (stubs level) high cs) ns es
 so_far_over order level head high i cs ns es h each most deep blocks below =
     let end = start_by low_of (drop i cs) high in
     let front = stubs_by low_of (stubs level) end (take i cs) in

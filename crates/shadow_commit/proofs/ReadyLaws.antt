@@ -33,7 +33,7 @@ use Rattle.sdbt_base.specs.Traces.{Traced}
 use Rattle.sdbt_base.specs.declared.lists.Unkept.{Unkept}
 use Rattle.page_store.proofs.TreeLaws.{one_tree}
 use Rattle.shadow_commit.specs.Sealed.{Sealed, page_of, with_nodes, SealsNode, Seals}
-use Rattle.btree_update.specs.Held.{AreBelow}
+use Rattle.btree_update.specs.Held.{bound, AreBelow}
 use Rattle.shadow_commit.specs.CanSeal.{CanSeal}
 use Rattle.shadow_commit.specs.Caching.{with_sealed}
 use Rattle.shadow_commit.specs.NewTree.{place_of, keys_at, AreNodesOver}
@@ -46,20 +46,24 @@ use Rattle.shadow_commit.proofs.OrderLaws.{node_in_order, records_at}
 use Rattle.grove_accounts.proofs.ListLaws.{apart_permutation}
 use Rattle.shadow_commit.proofs.ApartLaws.{IsWithin, ReadsAs, with_fresh, fresh_within, kept_reads, fresh_reads}
 
+-- in version 1 keys have no digest
+pub plain_below : (head version : ℕ) (ss : List Stub) → version ≡ 1 → AreBelow (bound head (key_size version)) ss → AreBelow (bound head 32) ss
+plain_below head version ss first h = subst (λ (v : ℕ). AreBelow (bound head (key_size v)) ss) first h
+
 -- the root node in memory
 pub record IsRootTwig (order blocks level head : ℕ) (top : Child) (twig : Twig) : Type 0 where
   pub shaped : IsTwig order level (top_least level) order 0 blocks twig
-  pub under : AreBelow head (stubs_below level blocks twig)
+  pub under : AreBelow (bound head 32) (stubs_below level blocks twig)
   pub count : nodes (suc level) top ≡ suc (nodes_below level twig)
   pub places : stubs (suc level) blocks top ≡ stubs_below level blocks twig
 
-pub root_twig : (order blocks level head low : ℕ) (top : Child) (twig : Twig) → top ≡ made.Grown low twig → IsTop order level blocks top → AreBelow head (stubs (suc level) blocks top) → IsRootTwig order blocks level head top twig
+pub root_twig : (order blocks level head low : ℕ) (top : Child) (twig : Twig) → top ≡ made.Grown low twig → IsTop order level blocks top → AreBelow (bound head 32) (stubs (suc level) blocks top) → IsRootTwig order blocks level head top twig
 unfolding stubs nodes
 root_twig order blocks level head low top twig is shaped under =
     let out = ap out-Child is ∙ made.outs-Grown low twig in
     record {
       shaped = (subst (IsTopBy order level blocks) out shaped).1;
-      under = subst (λ x. AreBelow head (stubs_in (stubs level) (suc level) blocks x)) out under;
+      under = subst (λ x. AreBelow (bound head 32) (stubs_in (stubs level) (suc level) blocks x)) out under;
       count = ap (nodes_in (nodes level)) out;
       places = ap (stubs_in (stubs level) (suc level) blocks) out;
     }
@@ -222,7 +226,7 @@ can_top head capacity root mapped grove top same can room = record {
   level = grove.level - 1;
   level_most = omega (arith, can.level_most, level_is grove can.sound);
   shaped = subst (IsTop root.order (grove.level - 1) root.blocks) (sym same) (top_shaped head root mapped grove can);
-  below = subst (λ t. AreBelow head (stubs (suc (grove.level - 1)) root.blocks t)) (sym same) (subst (AreBelow head) (sym (places_are head root mapped grove can)) can.below);
+  below = subst (λ t. AreBelow (bound head (key_size root.version)) (stubs (suc (grove.level - 1)) root.blocks t)) (sym same) (subst (AreBelow (bound head (key_size root.version))) (sym (places_are head root mapped grove can)) can.below);
   room = omega (arith, room, ap (nodes (suc (grove.level - 1))) same, grown_are grove can.sound);
 }
 
@@ -230,8 +234,8 @@ pub grove_twig : (head at : ℕ) (root : Root) (mapped : ℕ) (grove : Grove) (t
     IsRootTwig root.order root.blocks (grove.level - 1) at top twig
 grove_twig head at root mapped grove top low twig at_is can same is =
     let shaped = subst (IsTop root.order (grove.level - 1) root.blocks) (sym same) (top_shaped head root mapped grove can) in
-    let below = subst (λ t. AreBelow head (stubs (suc (grove.level - 1)) root.blocks t)) (sym same) (subst (AreBelow head) (sym (places_are head root mapped grove can)) can.below) in
-    root_twig root.order root.blocks (grove.level - 1) at low top twig is shaped (subst (λ n. AreBelow n (stubs (suc (grove.level - 1)) root.blocks top)) (sym at_is) below)
+    let below = subst (λ t. AreBelow (bound head 32) (stubs (suc (grove.level - 1)) root.blocks t)) (sym same) (subst (AreBelow (bound head 32)) (sym (places_are head root mapped grove can)) (plain_below head root.version (places_of grove) can.version can.below)) in
+    root_twig root.order root.blocks (grove.level - 1) at low top twig is shaped (subst (λ n. AreBelow (bound n 32) (stubs (suc (grove.level - 1)) root.blocks top)) (sym at_is) below)
 
 abbrev pub can_twig : (head at capacity : ℕ) (root : Root) (mapped : ℕ) (grove : Grove) (top : Child) (twig : Twig) → at ≡ head → top ≡ grove.top → (can : CanPrepare head root mapped grove) → IsRootTwig root.order root.blocks (grove.level - 1) at top twig →
     head + grown_in grove ≤ capacity → CanSeal at capacity twig

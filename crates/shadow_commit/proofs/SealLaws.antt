@@ -15,7 +15,7 @@ use Rattle.btree_twigs.specs.Stubs.{Stub, start_by, stubs_by, stubs_in, datum_in
 use Rattle.btree_twigs.specs.Shape.{EachBy, IsChild, IsTwig}
 use Rattle.btree_twigs.proofs.ListLaws.{start_least}
 use Rattle.shadow_commit.specs.Sealed.{Sealed, SealsEach, SealsKept, SealsDatum, SealsIn, Seals}
-use Rattle.btree_update.specs.Held.{AreBelow}
+use Rattle.btree_update.specs.Held.{bound, AreBelow}
 
 -- ---- how many nodes
 
@@ -91,16 +91,16 @@ kept_entry head first low addr key c ns e is lt le h =
       key_is = subst (IsBytes 32) (sym (ap (λ (e : Entry). e.key) h.entry_is)) h.key_is;
     }
 
-pub child_entry : (level first head high : ℕ) (c : Child) (ns : List Sealed) (e : Entry) → Seals level first c ns e → AreBelow head (stubs level high c) → head ≤ first → IsEntryOf first c ns e
+pub child_entry : (level first head high : ℕ) (c : Child) (ns : List Sealed) (e : Entry) → Seals level first c ns e → AreBelow (bound head 32) (stubs level high c) → head ≤ first → IsEntryOf first c ns e
 unfolding Seals stubs
 child_entry zero first head high c ns e h below le = here (out-Child c) refl h below
   where
-    here : (x : Child-F Child Twig) → low_in x ≡ low_of c → SealsDatum x ns e → AreBelow head (datum_in x) → IsEntryOf first c ns e
+    here : (x : Child-F Child Twig) → low_in x ≡ low_of c → SealsDatum x ns e → AreBelow (bound head 32) (datum_in x) → IsEntryOf first c ns e
     here (Kept low addr key) is h below = kept_entry head first low addr key c ns e is below.0.0 le h
     here (Grown low twig) is h below = absurd h
 child_entry (suc level) first head high c ns e h below le = here (out-Child c) refl h below
   where
-    here : (x : Child-F Child Twig) → low_in x ≡ low_of c → SealsIn (Seals level) level first x ns e → AreBelow head (stubs_in (stubs level) (suc level) high x) → IsEntryOf first c ns e
+    here : (x : Child-F Child Twig) → low_in x ≡ low_of c → SealsIn (Seals level) level first x ns e → AreBelow (bound head 32) (stubs_in (stubs level) (suc level) high x) → IsEntryOf first c ns e
     here (Kept low addr key) is h below = kept_entry head first low addr key c ns e is below.0.0 le h
     here (Grown low twig) is h below = record {
       low_is = h.low_is ∙ is;
@@ -108,11 +108,11 @@ child_entry (suc level) first head high c ns e h below le = here (out-Child c) r
       key_is = h.node.key_is;
     }
 
-pub below_front : (head : ℕ) (xs ys : List Stub) → AreBelow head (xs ++ ys) → AreBelow head xs
+pub below_front : (head : ℕ) (xs ys : List Stub) → AreBelow (bound head 32) (xs ++ ys) → AreBelow (bound head 32) xs
 below_front head [] ys h = tt
 below_front head (x ∷ xs) ys h = (h.0, below_front head xs ys h.1)
 
-pub below_back : (head : ℕ) (xs ys : List Stub) → AreBelow head (xs ++ ys) → AreBelow head ys
+pub below_back : (head : ℕ) (xs ys : List Stub) → AreBelow (bound head 32) (xs ++ ys) → AreBelow (bound head 32) ys
 below_back head [] ys h = h
 below_back head (x ∷ xs) ys h = below_back head xs ys h.1
 
@@ -126,7 +126,7 @@ entries_cons : (end : ℕ) (c : Child) (cs : List Child) (e : Entry) (es all : L
 entries_cons end c cs e es all is low lt key h =
     subst (AreEntriesOf end (c ∷ cs)) (sym is) (record { lows = λ i. low i ∷ h.lows i; below = (lt, h.below); keys = (key, h.keys) })
 
-pub entries_are : (level first head high : ℕ) (cs : List Child) (ns : List Sealed) (es : List Entry) → SealsEach (Seals level) first cs ns es → AreBelow head (stubs_by low_of (stubs level) high cs) → head ≤ first →
+pub entries_are : (level first head high : ℕ) (cs : List Child) (ns : List Sealed) (es : List Entry) → SealsEach (Seals level) first cs ns es → AreBelow (bound head 32) (stubs_by low_of (stubs level) high cs) → head ≤ first →
     AreEntriesOf (first + length ns) cs es
 entries_are level first head high [] ns es h below le = subst (AreEntriesOf (first + length ns) []) (sym h.1) (record { lows = refl; below = tt; keys = tt })
 entries_are level first head high (c ∷ cs) ns es h below le =
@@ -157,7 +157,7 @@ count_is cs es is = sym (length-map es (λ (e : Entry). e.low)) ∙ ap length is
 -- ---- the node's record is in range
 
 pub node_fits : (order level least low high first head : ℕ) (twig : Twig) (ns : List Sealed) (es : List Entry) → IsTwig order level least order low high twig → order ≤ 64 → level < 20 → high ≤ 1048576 →
-    AreBelow head (stubs_below level high twig) → head ≤ first → SealsEach (Seals level) first (children_of twig) ns es → FitsNode 1 (first + length ns) (suc level) es
+    AreBelow (bound head 32) (stubs_below level high twig) → head ≤ first → SealsEach (Seals level) first (children_of twig) ns es → FitsNode 1 (first + length ns) (suc level) es
 node_fits order level least low high first head twig ns es shaped most deep blocks below le h =
     let are = entries_are level first head high (children_of twig) ns es h below le in
     let each = shaped.node.each in

@@ -29,7 +29,7 @@ use Rattle.shadow_commit.specs.Handing.{Adds, Stops, MayHave, OnlyAdds}
 use Rattle.shadow_commit.specs.NewTree.{keys_at}
 use Rattle.shadow_commit.proofs.KeyLaws.{Within, in_places_left, in_places_right}
 use Rattle.page_store.specs.Keeping.{DrewAll}
-use Rattle.btree_update.specs.Held.{AreBelow}
+use Rattle.btree_update.specs.Held.{bound, AreBelow}
 use Rattle.shadow_commit.specs.CanSeal.{CanSeal, CanSealChild}
 use Rattle.shadow_commit.proofs.SealLaws.{below_front, below_back}
 
@@ -88,11 +88,11 @@ pub record IsGrownAt (order level high head : ℕ) (c : Child) (low : ℕ) (twig
   pub below : ℕ
   pub level_is : level ≡ suc below
   pub shaped : IsTwig order below (order / 2) order low high twig
-  pub under : AreBelow head (stubs_below below high twig)
+  pub under : AreBelow (bound head 32) (stubs_below below high twig)
   pub places : stubs level high c ≡ stubs_below below high twig
   pub count : nodes level c ≡ suc (nodes_below below twig)
 
-pub grown_at : (order level high head : ℕ) (c : Child) (low : ℕ) (twig : Twig) → c ≡ made.Grown low twig → IsChild order level high c → AreBelow head (stubs level high c) → IsGrownAt order level high head c low twig
+pub grown_at : (order level high head : ℕ) (c : Child) (low : ℕ) (twig : Twig) → c ≡ made.Grown low twig → IsChild order level high c → AreBelow (bound head 32) (stubs level high c) → IsGrownAt order level high head c low twig
 unfolding IsChild stubs nodes
 grown_at order zero high head c low twig is shaped under =
     let out = ap out-Child is ∙ made.outs-Grown low twig in
@@ -103,17 +103,17 @@ grown_at order (suc level) high head c low twig is shaped under =
       below = level;
       level_is = refl;
       shaped = subst (IsChildBy (IsChild order level) order level high) out shaped;
-      under = subst (λ x. AreBelow head (stubs_in (stubs level) (suc level) high x)) out under;
+      under = subst (λ x. AreBelow (bound head 32) (stubs_in (stubs level) (suc level) high x)) out under;
       places = ap (stubs_in (stubs level) (suc level) high) out;
       count = ap (nodes_in (nodes level)) out;
     }
 
 -- the key of a child on the medium has no digest
-pub kept_plain : (level high head : ℕ) (c : Child) (low addr : ℕ) (key : List ℕ) → c ≡ made.Kept low addr key → AreBelow head (stubs level high c) → length key ≡ 32
+pub kept_plain : (level high head : ℕ) (c : Child) (low addr : ℕ) (key : List ℕ) → c ≡ made.Kept low addr key → AreBelow (bound head 32) (stubs level high c) → length key ≡ 32
 unfolding stubs
-kept_plain zero high head c low addr key is under = (subst (λ x. AreBelow head (datum_in x)) (ap out-Child is ∙ made.outs-Kept low addr key) under).0.1
+kept_plain zero high head c low addr key is under = (subst (λ x. AreBelow (bound head 32) (datum_in x)) (ap out-Child is ∙ made.outs-Kept low addr key) under).0.1
 kept_plain (suc level) high head c low addr key is under =
-    (subst (λ x. AreBelow head (stubs_in (stubs level) (suc level) high x)) (ap out-Child is ∙ made.outs-Kept low addr key) under).0.1
+    (subst (λ x. AreBelow (bound head 32) (stubs_in (stubs level) (suc level) high x)) (ap out-Child is ∙ made.outs-Kept low addr key) under).0.1
 
 abbrev pub can_below : (head capacity : ℕ) (c : Child) (low : ℕ) (twig : Twig) (at : CanSealChild head capacity c) → IsGrownAt at.order at.level at.high head c low twig → CanSeal head capacity twig
 can_below head capacity c low twig at s = record {
@@ -146,7 +146,7 @@ seals_kept (suc level) first c low addr key ns e is h = subst (λ x. SealsIn (Se
 
 -- ---- a child of a node
 
-pub below_later : (head head' : ℕ) (ss : List Stub) → head ≤ head' → AreBelow head ss → AreBelow head' ss
+pub below_later : (head head' : ℕ) (ss : List Stub) → head ≤ head' → AreBelow (bound head 32) ss → AreBelow (bound head' 32) ss
 below_later head head' [] le h = tt
 below_later head head' (s ∷ ss) le h = ((omega (arith, h.0.0, le), h.0.1), below_later head head' ss le h.1)
 
@@ -156,12 +156,12 @@ end_at high i cs = start_by low_of (drop (suc i) cs) high
 pub record IsChildAt (order level high head : ℕ) (cs : List Child) (i : ℕ) (c : Child) : Type 0 where
   pub shaped : IsChild order level (end_at high i cs) c
   pub end : end_at high i cs ≤ high
-  pub under : AreBelow head (stubs level (end_at high i cs) c)
+  pub under : AreBelow (bound head 32) (stubs level (end_at high i cs) c)
   pub places : Within (keys_at (stubs level (end_at high i cs) c)) (keys_at (stubs_by low_of (stubs level) high cs))
   pub count : sum_by (nodes level) cs ≡ sum_by (nodes level) (take i cs) + nodes level c + sum_by (nodes level) (drop (suc i) cs)
   pub more : take (i + 1) cs ≡ take i cs ++ c ∷ []
 
-pub child_at : (order level high head : ℕ) (cs : List Child) (i : ℕ) (c : Child) → i < length cs → c ≡ get_or cs i c → EachBy low_of (IsChild order level) high cs → AreBelow head (stubs_by low_of (stubs level) high cs) → IsChildAt order level high head cs i c
+pub child_at : (order level high head : ℕ) (cs : List Child) (i : ℕ) (c : Child) → i < length cs → c ≡ get_or cs i c → EachBy low_of (IsChild order level) high cs → AreBelow (bound head 32) (stubs_by low_of (stubs level) high cs) → IsChildAt order level high head cs i c
 child_at order level high head cs i c lt is each under =
     let split = split_here cs i c lt is in
     let fs = take i cs in
@@ -171,7 +171,7 @@ child_at order level high head cs i c lt is each under =
     let front = stubs_by low_of (stubs level) (low_of c) fs in
     let behind = stubs_by low_of (stubs level) high bs in
     let all : stubs_by low_of (stubs level) high cs ≡ front ++ (here ++ behind) = ap (stubs_by low_of (stubs level) high) split ∙ stubs_append low_of (stubs level) high fs (c ∷ bs) in
-    let places = subst (AreBelow head) all under in
+    let places = subst (AreBelow (bound head 32)) all under in
     record {
       shaped = back.1;
       end = each_le low_of (IsChild order level) high bs back.2;
@@ -185,7 +185,7 @@ child_at order level high head cs i c lt is each under =
 pub loop_child : (head capacity : ℕ) (twig : Twig) (cs : List Child) (i : ℕ) (c : Child) (at : CanSeal head capacity twig) → cs ≡ children_of twig → i < length cs → c ≡ get_or cs i c → IsChildAt at.order at.level at.high head cs i c
 loop_child head capacity twig cs i c at same lt here =
     child_at at.order at.level at.high head cs i c lt here (subst (EachBy low_of (IsChild at.order at.level) at.high) (sym same) at.shaped.node.each)
-    (subst (λ xs. AreBelow head (stubs_by low_of (stubs at.level) at.high xs)) (sym same) at.below)
+    (subst (λ xs. AreBelow (bound head 32) (stubs_by low_of (stubs at.level) at.high xs)) (sym same) at.below)
 
 abbrev pub can_child : (head capacity now capacity' : ℕ) (twig : Twig) (cs : List Child) (i : ℕ) (c : Child) (at : CanSeal head capacity twig) → IsChildAt at.order at.level at.high head cs i c →
     cs ≡ children_of twig → head ≤ now → now ≡ head + sum_by (nodes at.level) (take i cs) → capacity' ≡ capacity → CanSealChild now capacity' c

@@ -4,7 +4,7 @@ use Rattle.btree_twigs.specs.declared.twigs.Child.{Child}
 use Rattle.btree_twigs.specs.declared.twigs.Twig.{Twig}
 use Rattle.btree_twigs.specs.Stubs.{stubs, stubs_below, nodes, nodes_below}
 use Rattle.btree_twigs.specs.Shape.{IsChild, IsTwig}
-use Rattle.btree_update.specs.Held.{AreBelow}
+use Rattle.btree_update.specs.Held.{bound, AreBelow}
 
 -- a node over children of some level, within the limits of records, over places that are on the medium; and there is room for it and all
 -- nodes in memory below it
@@ -18,7 +18,7 @@ pub record CanSeal (head capacity : ℕ) (twig : Twig) : Type 0 where
   pub order_most : order ≤ 64
   pub level_most : level < 20
   pub blocks : high ≤ 1048576
-  pub below : AreBelow head (stubs_below level high twig)
+  pub below : AreBelow (bound head 32) (stubs_below level high twig)
   pub room : head + suc (nodes_below level twig) ≤ capacity
 
 -- the same of a child
@@ -30,5 +30,5 @@ pub record CanSealChild (head capacity : ℕ) (child : Child) : Type 0 where
   pub order_most : order ≤ 64
   pub level_most : level ≤ 20
   pub blocks : high ≤ 1048576
-  pub below : AreBelow head (stubs level high child)
+  pub below : AreBelow (bound head 32) (stubs level high child)
   pub room : head + nodes level child ≤ capacity

@@ -3,7 +3,7 @@ use Rattle.std.specs.Prelude.{◌≡◌, ◌≢◌, ◌-◌, ℕ, suc, ◌+◌, 
 use Rattle.std.specs.FinMap.{from_entries}
 use Rattle.sdbt_base.specs.Arrays.{Device}
 use Rattle.sdbt_base.specs.Faults.{Rose}
-use Rattle.sdbt_base.specs.Keys.{bare}
+use Rattle.sdbt_base.specs.Keys.{bare, key_size}
 use Rattle.sdbt_base.specs.Traces.{Traced}
 use Rattle.sdbt_base.specs.declared.lists.Unkept.{Unkept}
 use Rattle.sdbt_base.specs.declared.tapes.Tape.{Ghosts as TapeGhosts}
@@ -25,7 +25,7 @@ use Rattle.btree_twigs.specs.declared.twigs.Child.{Child}
 use Rattle.btree_twigs.specs.Stubs.{Stub, addr_of, stubs, nodes}
 use Rattle.btree_twigs.specs.Top.{IsTop}
 use Rattle.btree_update.specs.GroveTree.{HasEach}
-use Rattle.btree_update.specs.Held.{AreBelow}
+use Rattle.btree_update.specs.Held.{bound, AreBelow}
 use Rattle.btree_update.specs.Groves.{IsSound, places_of}
 use Rattle.btree_update.specs.declared.groves.Grove.{Grove}
 use Rattle.shadow_commit.specs.Sealed.{Sealed, Seals}
@@ -46,7 +46,7 @@ pub record CanPrepare (head : ℕ) (root : Root) (mapped : ℕ) (grove : Grove) 
   pub blocks : grove.blocks ≡ root.blocks
   pub level_most : grove.level ≤ 20
   pub in_memory : addr_of grove.top ≡ None
-  pub below : AreBelow head (places_of grove)
+  pub below : AreBelow (bound head (key_size root.version)) (places_of grove)
   pub within : root.head ≤ head
   pub most : mapped ≤ root.blocks
 
@@ -59,7 +59,7 @@ pub record CanSealTop (head capacity : ℕ) (root : Root) (mapped : ℕ) (top : 
   pub level : ℕ
   pub level_most : level < 20
   pub shaped : IsTop root.order level root.blocks top
-  pub below : AreBelow head (stubs (suc level) root.blocks top)
+  pub below : AreBelow (bound head (key_size root.version)) (stubs (suc level) root.blocks top)
   pub room : head + nodes (suc level) top ≤ capacity
 
 -- below these places stand these parts, all of them recorded and apart, and they map so many blocks

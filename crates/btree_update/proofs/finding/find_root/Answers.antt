@@ -13,6 +13,7 @@ use Rattle.btree_twigs.specs.Search.{IsSpot}
 use Rattle.btree_twigs.specs.Top.{top_least}
 use Rattle.btree_update.specs.GroveTree.{want_at, top_want}
 use Rattle.btree_update.specs.Roots.{IsRootBy}
+use Rattle.btree_update.specs.Held.{bound}
 use Rattle.btree_update.specs.Holding.{CanHoldRoot}
 use Rattle.btree_update.specs.Finding.{FindsBelow, ComesToWrong, RootFinds, RootFindsBy, RootStops, RootStopsBy, RootKeeps}
 use Rattle.btree_update.proofs.RootHolds.{root_grown, root_lt}
@@ -39,7 +40,7 @@ find_from-requires g c =
     let head = g.P.Platform.head c.args.platform.now in
     let at = root_grown c.args.order c.args.level c.args.block c.args.high head c.in-Grown.low c.in-Grown.twig (subst (CanHoldRoot c.args.order c.args.level c.args.block c.args.high head) c.in-Grown.is c.requires.can) in
     record {
-      can = goes_on c.args.order c.args.block head (stubs_below (c.args.level - 1) c.args.high c.in-Grown.twig) c.find-spot.result c.requires.can.four
+      can = goes_on c.args.order c.args.block (bound head at.size) (stubs_below (c.args.level - 1) c.args.high c.in-Grown.twig) c.find-spot.result c.requires.can.four
           (spot_is c.args.order c.args.level c.args.block c.args.high head c.in-Grown.low c.in-Grown.twig c.args.top.now c.find-spot.result c.requires.can c.in-Grown.is c.find-spot.ensures) at.within;
     }
 

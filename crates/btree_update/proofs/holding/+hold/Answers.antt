@@ -12,11 +12,11 @@ use Rattle.btree_twigs.specs.Updates.{IsNode}
 use Rattle.btree_update.specs.Held.{AnyRead, IsReadAs, OnWay, HeldFor, HeldFrom}
 use Rattle.btree_walk.specs.Sights.{StandsOver}
 use Rattle.btree_update.specs.Holding.{CanHold, CanHoldBelow, IsNodeFor, IsNodeOf}
-use Rattle.btree_update.specs.Held.{AreBelow}
+use Rattle.btree_update.specs.Held.{bound, AreBelow}
 use Rattle.btree_update.proofs.OpenLaws.{IsOnWay, on_way, child_is, has_least}
 use Rattle.btree_update.proofs.GroveLaws.{above_it}
 use Rattle.btree_update.proofs.FewLaws.{few_none, few_more, few_read, few_beside}
-use Rattle.btree_update.proofs.HoldLaws.{no_way, leaf_way, one_way, below_child, read_as, way_grown, held_grown, way_lt, way_plain, way_read, way_held, held_for}
+use Rattle.btree_update.proofs.HoldLaws.{no_way, leaf_way, one_way, below_child, read_as, way_grown, held_grown, way_lt, way_read, way_held, held_for}
 use Rattle.btree_update.specs.Wrong.{ComesToWrong, Here, WrongOnWay, WrongUnder, WrongFrom}
 use Rattle.btree_update.specs.declared.refusals.ReadyRefusal.TheVariants.{BadRecord}
 use Rattle.btree_update.proofs.WrongLaws.{wrong_child, wrong_near, wrong_below, wrong_kept, wrong_on_way}
@@ -80,7 +80,8 @@ held_child order level block high head n end twig c at w some is = record {
   shaped = has_least order (level - 1) end c (subst (λ k. IsChild order k end c) (above level some) (subst (λ m. IsChild order level m c) (sym is) (child_is order level at.least at.low high block (take w.at (children_of twig)) c (drop (suc w.at) (children_of twig)) (subst (IsNode order level at.least order at.low high) w.split at.shaped.node))));
   from = w.from;
   to = subst (λ m. block < m) (sym is) w.to;
-  within = subst (λ m. AreBelow head (stubs level m c)) (sym is) (below_child order level high block n head twig c w at.within);
+  size = at.size;
+  within = subst (λ m. AreBelow (bound head at.size) (stubs level m c)) (sym is) (below_child order level high block n (bound head at.size) twig c w at.within);
 }
 
 end_is : (high n i end : ℕ) (ds cs : List Child) → ds ≡ cs → suc i ≡ n → end ≡ start_by low_of (drop n ds) high → end ≡ start_by low_of (drop (suc i) cs) high
@@ -251,11 +252,6 @@ hold_way-read_node-requires-clause-within g t c =
     way_lt c.args.order c.args.least c.args.level c.args.block c.args.high (g.P.Platform.head c.args.platform.now) c.in-Kept.low c.in-Kept.addr c.in-Kept.key
     (subst (CanHold c.args.order c.args.least c.args.level c.args.block c.args.high (g.P.Platform.head c.args.platform.now)) c.in-Kept.is c.requires.can)
 
-pub hold_way-read_node-requires-clause-plain : goal.hold_way-read_node-requires-clause-plain
-hold_way-read_node-requires-clause-plain g t c =
-    way_plain c.args.order c.args.least c.args.level c.args.block c.args.high (g.P.Platform.head c.args.platform.now) c.in-Kept.low c.in-Kept.addr c.in-Kept.key
-    (subst (CanHold c.args.order c.args.least c.args.level c.args.block c.args.high (g.P.Platform.head c.args.platform.now)) c.in-Kept.is c.requires.can)
-
 pub hold_way-hold_below-requires-in-Kept : goal.hold_way-hold_below-requires-in-Kept
 hold_way-hold_below-requires-in-Kept g t c κs within =
     let at = subst (CanHold c.args.order c.args.least c.args.level c.args.block c.args.high (g.P.Platform.head c.args.platform.now)) c.in-Kept.is c.requires.can in (
@@ -338,7 +334,7 @@ hold_way-returns-in_err-left-in-Kept-clause-bad g t c =
     let w = subst (λ p. WrongUnder p c.args.order c.args.block addr (c.args.level - 1) c.args.high twig) same (c.in_err-left-in-Kept.ensures.bad tells stands' addr (ap Err err)) in
     let node = subst (λ k. IsNodeOf pages (want_at c.args.order k c.in-Kept.low c.args.high c.in-Kept.addr c.args.least) c.in-Kept.key twig) l
     (c.in_ok-twig-in-Kept.ensures.reads tells stands) in
-    let fits = subst (λ k. IsNodeFor (want_at c.args.order k c.in-Kept.low c.args.high c.in-Kept.addr c.args.least) twig) l c.in_ok-twig-in-Kept.ensures.fits in
+    let fits = subst (λ k. IsNodeFor (want_at c.args.order k c.in-Kept.low c.args.high c.in-Kept.addr c.args.least) c.in-Kept.key twig) l c.in_ok-twig-in-Kept.ensures.fits in
     let comes = wrong_below pages c.args.order c.args.block addr (c.args.level - 1) c.in-Kept.low c.args.high c.in-Kept.addr c.args.least c.args.order c.in-Kept.key twig fits node w in
     subst (WrongFrom pages c.args.order c.args.least c.args.block addr (c.args.level - 1) c.args.high) (sym c.in-Kept.is)
     (wrong_kept pages c.args.order c.args.least c.args.block addr c.args.level c.args.high c.in-Kept.low c.in-Kept.addr c.in-Kept.key at.one
@@ -442,7 +438,7 @@ hold_way-returns-in_ok-hold-in-Kept-clause-finds g t c = λ tells stands.
     let same : (g.P.Platform.history c.read_node.new.platform).present.readable ≡ pages = ap (λ i. i.readable) (c.in_ok-twig-in-Kept.ensures.looks.image tells) in
     let stands' = subst (λ p. StandsOver p c.read_node.new.reader.cache) (sym same) (c.in_ok-twig-in-Kept.ensures.stands tells stands) in
     let can = way_read c.args.order c.args.least c.args.level c.args.block c.args.high head c.in-Kept.low c.in-Kept.addr c.in-Kept.key twig at c.in_ok-twig-in-Kept.ensures.fits in
-    let fits = subst (λ k. IsNodeFor (want_at c.args.order k c.in-Kept.low c.args.high c.in-Kept.addr c.args.least) twig) l c.in_ok-twig-in-Kept.ensures.fits in
+    let fits = subst (λ k. IsNodeFor (want_at c.args.order k c.in-Kept.low c.args.high c.in-Kept.addr c.args.least) c.in-Kept.key twig) l c.in_ok-twig-in-Kept.ensures.fits in
     let node = subst (λ k. IsNodeOf pages (want_at c.args.order k c.in-Kept.low c.args.high c.in-Kept.addr c.args.least) c.in-Kept.key twig) l (c.in_ok-twig-in-Kept.ensures.reads tells stands) in
     let below = subst (λ p. IsFoundBy (FindsAmong (FitsAt p) c.args.order c.args.block (stubs_below (c.args.level - 1) c.args.high twig)) c.in_ok-left-in-Kept.left) same (c.in_ok-left-in-Kept.ensures.finds tells stands') in
     subst (λ x. IsFoundBy (ChildFinds (FitsAt pages) c.args.order c.args.least c.args.block (c.args.level - 1) c.args.high x) c.in_ok-left-in-Kept.left) (sym c.in-Kept.is)

@@ -94,17 +94,17 @@ open_below-returns-clause-gives t c pages at held =
     (subst (IsNode at.order c.args.level at.least at.order at.low at.high) w.split at.shaped.node) w.split (children_of_roll new ∙ same) (c.open_way.ensures.opened can).low_is g
 
 pub open_below-returns-clause-below : goal.open_below-returns-clause-below
-open_below-returns-clause-below t c head at below =
+open_below-returns-clause-below t c most at below =
     let w = on_way at.order c.args.block c.args.level at.high c.place-at.result (children_of c.args.twig.now) c.deref.result.now c.index_mut.result.now c.deref.ensures.value c.if-at-eq0.false
     c.place-at.ensures.within c.place-at.ensures.before c.place-at.ensures.after at.to c.index_mut.ensures.value in
     let cs = children_of c.args.twig.now in
     let can = below_at at.order c.args.level c.args.block c.place-at.result at.least at.low at.high c.args.held.now.items c.args.twig.now c.index_mut.result.now at.shaped at.at_hand w in
     let same = set_is c.place-at.result w.at cs c.open_way.new.child w.at_is w.within in
     let r = still_below at.order c.args.level at.least at.low at.high c.args.block (take w.at cs) c.index_mut.result.now (drop (suc w.at) cs) (subst (IsNode at.order c.args.level at.least at.order at.low at.high) w.split at.shaped.node)
-    head c.open_way.new.child (c.open_way.ensures.opened can).low_is (c.open_way.ensures.below head can)
-    (subst (λ xs. AreBelow head (stubs_under c.args.level at.high xs)) w.split below) in
-    subst (λ xs. AreBelow head (stubs_under c.args.level at.high xs)) (sym (children_of_roll (record { level = (out-Twig c.args.twig.now).level; children = with_item (out-Twig c.args.twig.now).children (c.place-at.result - 1) c.open_way.new.child })))
-    (subst (λ xs. AreBelow head (stubs_under c.args.level at.high xs)) (sym same) r)
+    most c.open_way.new.child (c.open_way.ensures.opened can).low_is (c.open_way.ensures.below most can)
+    (subst (λ xs. AreBelow most (stubs_under c.args.level at.high xs)) w.split below) in
+    subst (λ xs. AreBelow most (stubs_under c.args.level at.high xs)) (sym (children_of_roll (record { level = (out-Twig c.args.twig.now).level; children = with_item (out-Twig c.args.twig.now).children (c.place-at.result - 1) c.open_way.new.child })))
+    (subst (λ xs. AreBelow most (stubs_under c.args.level at.high xs)) (sym same) r)
 
 pub open_below-returns-clause-nodes : goal.open_below-returns-clause-nodes
 open_below-returns-clause-nodes t c at =
@@ -199,7 +199,7 @@ open_way-returns-clause-nodes t c at =
     rw (c.in-Grown.is, made.outs-Grown c.in-Grown.low c.in-Grown.twig) (subst (λ k. nodes k new ≤ nodes k c.args.child.now + k) (sym level_is) r)
 
 pub open_way-returns-clause-below : goal.open_way-returns-clause-below
-open_way-returns-clause-below t c head at below =
+open_way-returns-clause-below t c most at below =
     let is = ap out-Child c.in-Grown.is ∙ made.outs-Grown c.in-Grown.low c.in-Grown.twig in
     let l = c.args.level - 1 in
     let level_is : c.args.level ≡ suc l = above c.args.level c.if-level-eq0.false in
@@ -207,12 +207,12 @@ open_way-returns-clause-below t c head at below =
     let at_hand_is = subst (λ m. HeldFor AnyRead at.order c.args.block m at.high c.args.child.now c.args.held.now.items) level_is at.at_hand in
     let u = up AnyRead at.order c.args.block l at.high c.args.child.now c.take_held.new.child c.args.held.now.items c.take_held.new.held.items c.in-Grown.low c.in-Grown.twig shaped at_hand_is c.take_held.ensures.taken is in
     let e = rw (c.in-Grown.is, made.outs-Grown c.in-Grown.low c.in-Grown.twig) at c.open_below.ensures in
-    let first = up_below at.order c.args.block l at.high head c.args.child.now c.take_held.new.child c.args.held.now.items c.take_held.new.held.items c.in-Grown.low c.in-Grown.twig at_hand_is c.take_held.ensures.taken is
-    (subst (λ k. AreBelow head (stubs k at.high c.args.child.now)) level_is below) in
-    let second = e.below head (below_up at.order c.args.block l at.high c.args.child.now c.in-Grown.low c.in-Grown.twig c.take_held.new.held.items at.from at.to u) first in
+    let first = up_below at.order c.args.block l at.high most c.args.child.now c.take_held.new.child c.args.held.now.items c.take_held.new.held.items c.in-Grown.low c.in-Grown.twig at_hand_is c.take_held.ensures.taken is
+    (subst (λ k. AreBelow most (stubs k at.high c.args.child.now)) level_is below) in
+    let second = e.below most (below_up at.order c.args.block l at.high c.args.child.now c.in-Grown.low c.in-Grown.twig c.take_held.new.held.items at.from at.to u) first in
     let new = made.Grown c.in-Grown.low c.open_below.new.twig in
     rw (c.in-Grown.is, made.outs-Grown c.in-Grown.low c.in-Grown.twig)
-    (subst (λ k. AreBelow head (stubs k at.high new)) (sym level_is) (subst (AreBelow head) (sym (stubs_of_grown l at.high c.in-Grown.low c.open_below.new.twig)) second))
+    (subst (λ k. AreBelow most (stubs k at.high new)) (sym level_is) (subst (AreBelow most) (sym (stubs_of_grown l at.high c.in-Grown.low c.open_below.new.twig)) second))
 
 pub open_below-returns-clause-helps : goal.open_below-returns-clause-helps
 open_below-returns-clause-helps t c at source beside loses h =

@@ -95,19 +95,19 @@ returns-clause-nodes c at =
     rw (c.in-Grown.is, made.outs-Grown c.in-Grown.low c.in-Grown.twig) (subst (λ k. nodes k new ≤ nodes k c.args.top.now + k) (sym at.level_is) r)
 
 pub returns-clause-below : goal.returns-clause-below
-returns-clause-below c head at below =
+returns-clause-below c most at below =
     let is = ap out-Child c.in-Grown.is ∙ made.outs-Grown c.in-Grown.low c.in-Grown.twig in
     let l = below_is c.args.level at.below at.level_is in
     let u = root_up AnyRead at.order c.args.block at.below at.high c.args.top.now c.take_held.new.child c.args.held.now.items c.take_held.new.held.items c.in-Grown.low c.in-Grown.twig at.shaped at.at_hand c.take_held.ensures.taken is in
     let e = rw (c.in-Grown.is, made.outs-Grown c.in-Grown.low c.in-Grown.twig) at c.open_below.ensures in
-    let first = root_below at.order c.args.block at.below at.high head c.args.top.now c.take_held.new.child c.args.held.now.items c.take_held.new.held.items c.in-Grown.low c.in-Grown.twig at.at_hand c.take_held.ensures.taken is
-    (subst (λ k. AreBelow head (stubs k at.high c.args.top.now)) at.level_is below) in
-    let second = subst (λ m. AreBelow head (stubs_below m at.high c.open_below.new.twig)) l
-    (e.below head (below_root at.order c.args.block at.below (c.args.level - 1) at.high c.in-Grown.low (out-Child c.args.top.now) c.in-Grown.twig c.take_held.new.held.items l at.to u)
-    (subst (λ m. AreBelow head (stubs_below m at.high c.in-Grown.twig)) (sym l) first)) in
+    let first = root_below at.order c.args.block at.below at.high most c.args.top.now c.take_held.new.child c.args.held.now.items c.take_held.new.held.items c.in-Grown.low c.in-Grown.twig at.at_hand c.take_held.ensures.taken is
+    (subst (λ k. AreBelow most (stubs k at.high c.args.top.now)) at.level_is below) in
+    let second = subst (λ m. AreBelow most (stubs_below m at.high c.open_below.new.twig)) l
+    (e.below most (below_root at.order c.args.block at.below (c.args.level - 1) at.high c.in-Grown.low (out-Child c.args.top.now) c.in-Grown.twig c.take_held.new.held.items l at.to u)
+    (subst (λ m. AreBelow most (stubs_below m at.high c.in-Grown.twig)) (sym l) first)) in
     let new = made.Grown c.in-Grown.low c.open_below.new.twig in
     rw (c.in-Grown.is, made.outs-Grown c.in-Grown.low c.in-Grown.twig)
-    (subst (λ k. AreBelow head (stubs k at.high new)) (sym at.level_is) (subst (AreBelow head) (sym (stubs_of_grown at.below at.high c.in-Grown.low c.open_below.new.twig)) second))
+    (subst (λ k. AreBelow most (stubs k at.high new)) (sym at.level_is) (subst (AreBelow most) (sym (stubs_of_grown at.below at.high c.in-Grown.low c.open_below.new.twig)) second))
 
 pub returns-clause-helps : goal.returns-clause-helps
 returns-clause-helps c at source beside loses h =

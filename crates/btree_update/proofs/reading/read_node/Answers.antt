@@ -1,8 +1,7 @@
 use Rattle.std.proofs.Common.{◌≡◌, ℕ, ◌<◌, List, length, refl, ap, sym, subst, inl, inr, ◌∙◌, Option, Bor, Err}
 use Rattle.std.specs.Prelude.{vec_capacity}
 use Rattle.std.proofs.lemmas.Bool.{false≢true}
-use Rattle.sdbt_base.specs.Keys.{version_of}
-use Rattle.sdbt_base.proofs.KeyLaws.{version_plain}
+use Rattle.sdbt_base.specs.Keys.{version_of, key_size}
 use Rattle.node_codec.specs.Record.{FitsNode}
 use Rattle.page_store.specs.declared.wants.Want.{Want}
 use Rattle.page_store.specs.Places.{IsNodeWanted}
@@ -24,11 +23,12 @@ use Rattle.btree_walk.proofs.AmongLaws.{but_same, but_filled, but_used}
 use Rattle.btree_update.proofs.reading.read_node.Goals as goal
 
 -- a node that fits, in memory
-node_for : (want : Want) (key : List ℕ) (node : NodeBody) (twig : Twig) → length key ≡ 32 → NodeFits want key node → (level_of twig ≡ node.level) × (children_of twig ≡ all_kept node.entries.items) × (64 < vec_capacity (out-Twig twig).children) → IsNodeFor want twig
-node_for want key node twig plain fits made = record {
+node_for : (want : Want) (key : List ℕ) (node : NodeBody) (twig : Twig) (version : ℕ) → (version ≡ version_of key) × (length key ≡ key_size version) → NodeFits want key node →
+    (level_of twig ≡ node.level) × (children_of twig ≡ all_kept node.entries.items) × (64 < vec_capacity (out-Twig twig).children) → IsNodeFor want key twig
+node_for want key node twig version is fits made = record {
   entries = node.entries.items;
-  in_range = subst (λ v. FitsNode v want.addr want.level node.entries.items) (version_plain key plain)
-      (subst (λ l. FitsNode (version_of key) want.addr l node.entries.items) fits.wanted.same_level fits.in_range);
+  sized = is.1 ∙ ap key_size is.0;
+  in_range = subst (λ l. FitsNode (version_of key) want.addr l node.entries.items) fits.wanted.same_level fits.in_range;
   wanted = subst (λ l. IsNodeWanted want l node.entries.items) fits.wanted.same_level fits.wanted;
   level_is = made.0 ∙ fits.wanted.same_level;
   children = made.1;
@@ -37,13 +37,13 @@ node_for want key node twig plain fits made = record {
 
 pub returns-in-Some-clause-fits : goal.returns-in-Some-clause-fits
 returns-in-Some-clause-fits g c =
-    IfOk_map _ _ c.in_memory.result (λ twig is. node_for c.args.want.now c.args.key.now c.in-Some.node.now twig c.requires.plain (c.fits.ensures.0 c.if-not-fits.false) is) c.in_memory.ensures.node
+    IfOk_map _ _ c.in_memory.result (λ twig is. node_for c.args.want.now c.args.key.now c.in-Some.node.now twig c.version_of-version.result (c.version_of-version.ensures.value, c.version_of-version.ensures.size) (c.fits.ensures.0 c.if-not-fits.false) is) c.in_memory.ensures.node
 
 pub returns-clause-fits : goal.returns-clause-fits
 returns-clause-fits g c =
     let wanted = c.in_ok-fetch_node.ensures.wanted in
     IfOk_map _ _ c.in_memory-2.result
-    (λ twig is. node_for c.args.want.now c.args.key.now (record { level = c.args.want.now.level; version = c.version_of-node.result; entries = c.fetch_node.new.entries }) twig c.requires.plain (record { version = c.version_of-node.ensures.value; in_range = wanted.in_range.0; wanted = wanted.wanted }) is)
+    (λ twig is. node_for c.args.want.now c.args.key.now (record { level = c.args.want.now.level; version = c.version_of-version.result; entries = c.fetch_node.new.entries }) twig c.version_of-version.result (c.version_of-version.ensures.value, c.version_of-version.ensures.size) (record { version = c.version_of-version.ensures.value; in_range = wanted.in_range.0; wanted = wanted.wanted }) is)
     c.in_memory-2.ensures.node
 
 pub returns-then-not-fits-clause-bad : goal.returns-then-not-fits-clause-bad
@@ -71,10 +71,10 @@ returns-in-Some-clause-stands g c = λ tells stands.
 pub returns-clause-stands : goal.returns-clause-stands
 returns-clause-stands g c = λ tells stands.
     (let uses = subst (λ (r : Option (Bor _)). Uses c.args.reader.now.cache c.args.want.now.addr c.args.key.now (option_copied r) c.get.follows.lender-at-none) c.in_default.is c.get.follows.holds-at-none in
-    let kept = cached_node c.args.want.now.addr c.args.key.now (record { level = c.args.want.now.level; version = c.version_of-node.result; entries = c.fetch_node.new.entries }) in
+    let kept = cached_node c.args.want.now.addr c.args.key.now (record { level = c.args.want.now.level; version = c.version_of-version.result; entries = c.fetch_node.new.entries }) in
     let pages = (g.P.Platform.history c.args.platform.now).present.readable in
     let fits = c.in_ok-fetch_node.ensures.fits tells in
-    let keeps = subst (KeepsOnly pages c.args.reader.now.cache) (sym (c.put.ensures.cached ∙ ap (λ (old : Cached). filled old kept) uses.0)) (keeps_filled pages c.args.reader.now.cache kept (inr record { version = c.version_of-node.ensures.value; is = fits.0 })) in
+    let keeps = subst (KeepsOnly pages c.args.reader.now.cache) (sym (c.put.ensures.cached ∙ ap (λ (old : Cached). filled old kept) uses.0)) (keeps_filled pages c.args.reader.now.cache kept (inr record { version = c.version_of-version.ensures.value; is = fits.0 })) in
     stands_on pages c.args.reader.now.cache c.put.new.self stands keeps)
 
 pub returns-in_err-fetch_node-clause-bad : goal.returns-in_err-fetch_node-clause-bad
@@ -114,7 +114,7 @@ returns-in-Some-clause-but g c =
 pub returns-clause-but : goal.returns-clause-but
 returns-clause-but g c =
     let uses = subst (λ (r : Option (Bor _)). Uses c.args.reader.now.cache c.args.want.now.addr c.args.key.now (option_copied r) c.get.follows.lender-at-none) c.in_default.is c.get.follows.holds-at-none in
-    let kept = cached_node c.args.want.now.addr c.args.key.now (record { level = c.args.want.now.level; version = c.version_of-node.result; entries = c.fetch_node.new.entries }) in
+    let kept = cached_node c.args.want.now.addr c.args.key.now (record { level = c.args.want.now.level; version = c.version_of-version.result; entries = c.fetch_node.new.entries }) in
     subst (KeepsBut c.args.want.now.addr c.args.key.now c.args.reader.now.cache) (sym (c.put.ensures.cached ∙ ap (λ (old : Cached). filled old kept) uses.0)) (but_filled c.args.reader.now.cache kept)
 
 pub returns-in_err-fetch_node-clause-but : goal.returns-in_err-fetch_node-clause-but
@@ -149,6 +149,6 @@ returns-in-Some-clause-fills g c =
 pub returns-clause-fills : goal.returns-clause-fills
 returns-clause-fills g c =
     let uses = subst (λ (r : Option (Bor _)). Uses c.args.reader.now.cache c.args.want.now.addr c.args.key.now (option_copied r) c.get.follows.lender-at-none) c.in_default.is c.get.follows.holds-at-none in
-    let node : NodeBody = record { level = c.args.want.now.level; version = c.version_of-node.result; entries = c.fetch_node.new.entries } in
+    let node : NodeBody = record { level = c.args.want.now.level; version = c.version_of-version.result; entries = c.fetch_node.new.entries } in
     let first = c.put.ensures.cached ∙ ap (λ (old : Cached). filled old (cached_node c.args.want.now.addr c.args.key.now node)) uses.0 in
     IfOk_map _ _ c.in_memory-2.result (λ twig is. (node, is.1, inr first)) c.in_memory-2.ensures.node

@@ -8,7 +8,7 @@ use Rattle.btree_twigs.specs.Updates.{stubs_under}
 use Rattle.btree_twigs.proofs.ListLaws.{split_here, stubs_append, each_back}
 use Rattle.btree_update.specs.declared.refusals.ReadyRefusal.TheVariants.{BadRecord}
 use Rattle.btree_update.specs.declared.siblings.Left.{Left}
-use Rattle.btree_update.specs.Held.{AreBelow, AnyRead, IsReadAs}
+use Rattle.btree_update.specs.Held.{bound, AreBelow, AnyRead, IsReadAs}
 use Rattle.btree_update.specs.Holding.{CanHoldBelow}
 use Rattle.btree_update.specs.Wrong.{IsWrongChild}
 use Rattle.btree_update.specs.Beside.{CanRead, loses_for, LendsFrom, HoldsBeside, HoldsHelp}
@@ -31,8 +31,9 @@ can_read : (order level block high head end i : ℕ) (twig : Twig) (d : Child) �
     end ≡ start_by low_of (drop (suc i) (children_of twig)) high → CanRead order level end head d
 can_read order level block high head end i twig d at one split is =
     let cs = children_of twig in
+    let most = bound head at.size in
     let each = each_back low_of (IsChild order level) high (take i cs) (d ∷ drop (suc i) cs) (subst (EachBy low_of (IsChild order level) high) split at.shaped.node.each) in
-    let all = subst (AreBelow head) (ap (stubs_under level high) split ∙ stubs_append low_of (stubs level) high (take i cs) (d ∷ drop (suc i) cs)) at.within in
+    let all = subst (AreBelow most) (ap (stubs_under level high) split ∙ stubs_append low_of (stubs level) high (take i cs) (d ∷ drop (suc i) cs)) at.within in
     record {
       below = level - 1;
       level_is = omega (arith, one);
@@ -40,7 +41,8 @@ can_read order level block high head end i twig d at one split is =
       most = at.most;
       shaped = subst (λ m. IsChild order level m d) (sym is) each.1;
       starts = omega (arith, each.0, is);
-      within = subst (λ m. AreBelow head (stubs level m d)) (sym is) (below_front head (stubs level (start_by low_of (drop (suc i) cs) high) d) (stubs_under level high (drop (suc i) cs)) (below_back head (stubs_under level (low_of d) (take i cs)) _ all));
+      size = at.size;
+      within = subst (λ m. AreBelow most (stubs level m d)) (sym is) (below_front most (stubs level (start_by low_of (drop (suc i) cs) high) d) (stubs_under level high (drop (suc i) cs)) (below_back most (stubs_under level (low_of d) (take i cs)) _ all));
     }
 
 pub read_help-requires : goal.read_help-requires

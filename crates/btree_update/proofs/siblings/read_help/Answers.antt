@@ -9,18 +9,13 @@ use Rattle.btree_update.specs.Holding.{IsNodeOf}
 use Rattle.btree_update.specs.Wrong.{IsWrongIn, IsWrongChild}
 use Rattle.btree_update.specs.Beside.{CanRead, loses_for, LendsFrom}
 use Rattle.btree_update.proofs.HoldLaws.{read_as}
-use Rattle.btree_update.proofs.BesideLaws.{want_beside, spares_of, beside_lt, beside_plain, node_at, lends_kept}
+use Rattle.btree_update.proofs.BesideLaws.{want_beside, spares_of, beside_lt, node_at, lends_kept}
 use Rattle.btree_update.proofs.CacheLaws.{caches_read}
 use Rattle.btree_update.proofs.siblings.read_help.Goals as goal
 
 pub read_node-requires-clause-within : goal.read_node-requires-clause-within
 read_node-requires-clause-within g c =
     beside_lt c.args.order c.args.level c.args.high (g.P.Platform.head c.args.platform.now) c.in-Kept.low c.in-Kept.addr c.in-Kept.key
-    (subst (CanRead c.args.order c.args.level c.args.high (g.P.Platform.head c.args.platform.now)) c.in-Kept.is c.requires.can)
-
-pub read_node-requires-clause-plain : goal.read_node-requires-clause-plain
-read_node-requires-clause-plain g c =
-    beside_plain c.args.order c.args.level c.args.high (g.P.Platform.head c.args.platform.now) c.in-Kept.low c.in-Kept.addr c.in-Kept.key
     (subst (CanRead c.args.order c.args.level c.args.high (g.P.Platform.head c.args.platform.now)) c.in-Kept.is c.requires.can)
 
 pub returns-in_err-twig-in-Kept-clause-bad : goal.returns-in_err-twig-in-Kept-clause-bad

@@ -15,14 +15,14 @@ use Rattle.shadow_commit.specs.Ready.{IsNextRoot}
 use Rattle.shadow_commit.proofs.KeyLaws.{node_keys}
 use Rattle.shadow_commit.proofs.OrderLaws.{node_in_order}
 use Rattle.shadow_commit.proofs.StepLaws.{grown_level, seals_grown, beside_call, beside_then, adds_stops, stops_none, stops_as}
-use Rattle.shadow_commit.proofs.ReadyLaws.{root_twig, can_root, top_low, stands_with, next_fits, one_more}
+use Rattle.shadow_commit.proofs.ReadyLaws.{plain_below, root_twig, can_root, top_low, stands_with, next_fits, one_more}
 use Rattle.shadow_commit.proofs.preparing.seal_all.Goals as goal
 
 pub seal_twig-requires-clause-can : goal.seal_twig-requires-clause-can
 seal_twig-requires-clause-can g c =
     let at = c.requires.can in
     let head = g.P.Platform.head c.args.platform.now in
-    can_root head (g.P.Platform.capacity c.args.platform.now) c.args.root.now c.args.mapped c.args.top.now c.in-Grown.twig at (root_twig c.args.root.now.order c.args.root.now.blocks at.level head c.in-Grown.low c.args.top.now c.in-Grown.twig c.in-Grown.is at.shaped at.below)
+    can_root head (g.P.Platform.capacity c.args.platform.now) c.args.root.now c.args.mapped c.args.top.now c.in-Grown.twig at (root_twig c.args.root.now.order c.args.root.now.blocks at.level head c.in-Grown.low c.args.top.now c.in-Grown.twig c.in-Grown.is at.shaped (plain_below head _ _ at.version at.below))
 
 pub seal_twig-requires-clause-room : goal.seal_twig-requires-clause-room
 seal_twig-requires-clause-room g c = omega (arith, c.requires.room, grown_level c.args.top.now c.in-Grown.low c.in-Grown.twig c.in-Grown.is)
@@ -30,7 +30,7 @@ seal_twig-requires-clause-room g c = omega (arith, c.requires.room, grown_level 
 pub returns-in_err-placed-clause-within : goal.returns-in_err-placed-clause-within
 returns-in_err-placed-clause-within g c at =
     let head = g.P.Platform.head c.args.platform.now in
-    let s = root_twig c.args.root.now.order c.args.root.now.blocks at.level head c.in-Grown.low c.args.top.now c.in-Grown.twig c.in-Grown.is at.shaped at.below in
+    let s = root_twig c.args.root.now.order c.args.root.now.blocks at.level head c.in-Grown.low c.args.top.now c.in-Grown.twig c.in-Grown.is at.shaped (plain_below head _ _ at.version at.below) in
     let w = c.seal_twig.ensures.within (can_root head (g.P.Platform.capacity c.args.platform.now) c.args.root.now c.args.mapped c.args.top.now c.in-Grown.twig at s) in
     omega (arith, w, s.count)
 
@@ -38,7 +38,7 @@ pub returns-in_err-placed-clause-stops : goal.returns-in_err-placed-clause-stops
 returns-in_err-placed-clause-stops g c at = λ err.
     let head = g.P.Platform.head c.args.platform.now in
     let root = c.args.root.now in
-    let s = root_twig root.order root.blocks at.level head c.in-Grown.low c.args.top.now c.in-Grown.twig c.in-Grown.is at.shaped at.below in
+    let s = root_twig root.order root.blocks at.level head c.in-Grown.low c.args.top.now c.in-Grown.twig c.in-Grown.is at.shaped (plain_below head _ _ at.version at.below) in
     let can = can_root head (g.P.Platform.capacity c.args.platform.now) root c.args.mapped c.args.top.now c.in-Grown.twig at s in
     record {
       written = (g.P.Platform.history c.seal_twig.new.platform).present;
@@ -50,7 +50,7 @@ returns-in_err-placed-clause-stops g c at = λ err.
 pub returns-in_default-sync-clause-within : goal.returns-in_default-sync-clause-within
 returns-in_default-sync-clause-within g c at =
     let head = g.P.Platform.head c.args.platform.now in
-    let s = root_twig c.args.root.now.order c.args.root.now.blocks at.level head c.in-Grown.low c.args.top.now c.in-Grown.twig c.in-Grown.is at.shaped at.below in
+    let s = root_twig c.args.root.now.order c.args.root.now.blocks at.level head c.in-Grown.low c.args.top.now c.in-Grown.twig c.in-Grown.is at.shaped (plain_below head _ _ at.version at.below) in
     let w = c.seal_twig.ensures.within (can_root head (g.P.Platform.capacity c.args.platform.now) c.args.root.now c.args.mapped c.args.top.now c.in-Grown.twig at s) in
     omega (arith, w, s.count, c.sync.ensures.head)
 
@@ -64,7 +64,7 @@ pub overflow_add-result-2 : goal.overflow_add-result-2
 overflow_add-result-2 g c =
     let at = c.requires.can in
     let head = g.P.Platform.head c.args.platform.now in
-    let s = root_twig c.args.root.now.order c.args.root.now.blocks at.level head c.in-Grown.low c.args.top.now c.in-Grown.twig c.in-Grown.is at.shaped at.below in
+    let s = root_twig c.args.root.now.order c.args.root.now.blocks at.level head c.in-Grown.low c.args.top.now c.in-Grown.twig c.in-Grown.is at.shaped (plain_below head _ _ at.version at.below) in
     let can = can_root head (g.P.Platform.capacity c.args.platform.now) c.args.root.now c.args.mapped c.args.top.now c.in-Grown.twig at s in
     let A = c.in_ok-placed.ensures.sealed can in
     let up = one_more at.level head (children_of c.in-Grown.twig) A.nodes c.in_ok-placed.placed.addr c.in_ok-placed.placed.key A.is.0 in
@@ -74,7 +74,7 @@ overflow_add-result-2 g c =
 pub returns-clause-within : goal.returns-clause-within
 returns-clause-within g c at =
     let head = g.P.Platform.head c.args.platform.now in
-    let s = root_twig c.args.root.now.order c.args.root.now.blocks at.level head c.in-Grown.low c.args.top.now c.in-Grown.twig c.in-Grown.is at.shaped at.below in
+    let s = root_twig c.args.root.now.order c.args.root.now.blocks at.level head c.in-Grown.low c.args.top.now c.in-Grown.twig c.in-Grown.is at.shaped (plain_below head _ _ at.version at.below) in
     let w = c.seal_twig.ensures.within (can_root head (g.P.Platform.capacity c.args.platform.now) c.args.root.now c.args.mapped c.args.top.now c.in-Grown.twig at s) in
     omega (arith, w, s.count, c.sync.ensures.head)
 
@@ -95,7 +95,7 @@ returns-clause-sealed g c at =
     let top = c.args.top.now in
     let twig = c.in-Grown.twig in
     let placed = c.in_ok-placed.placed in
-    let s = root_twig root.order root.blocks at.level head c.in-Grown.low top twig c.in-Grown.is at.shaped at.below in
+    let s = root_twig root.order root.blocks at.level head c.in-Grown.low top twig c.in-Grown.is at.shaped (plain_below head _ _ at.version at.below) in
     let can = can_root head (g.P.Platform.capacity c.args.platform.now) root c.args.mapped top twig at s in
     let A = c.in_ok-placed.ensures.sealed can in
     let ns = A.nodes in
@@ -143,7 +143,7 @@ returns-in_default-sync-clause-stops g c at = λ err.
     let twig = c.in-Grown.twig in
     let placed = c.in_ok-placed.placed in
     let mid = (history c.seal_twig.new.platform).present in
-    let s = root_twig root.order root.blocks at.level head c.in-Grown.low top twig c.in-Grown.is at.shaped at.below in
+    let s = root_twig root.order root.blocks at.level head c.in-Grown.low top twig c.in-Grown.is at.shaped (plain_below head _ _ at.version at.below) in
     let can = can_root head (g.P.Platform.capacity c.args.platform.now) root c.args.mapped top twig at s in
     let A = c.in_ok-placed.ensures.sealed can in
     let ns = A.nodes in

@@ -23,7 +23,7 @@ use Rattle.shadow_commit.specs.Sealed.{Sealed, SealsEach, SealsNode, Seals}
 use Rattle.node_cache.specs.Cached.{cached_node, node_of, filled}
 use Rattle.shadow_commit.specs.Caching.{AreCached, with_sealed}
 use Rattle.shadow_commit.specs.Handing.{Adds, Stops}
-use Rattle.btree_update.specs.Held.{AreBelow}
+use Rattle.btree_update.specs.Held.{bound, AreBelow}
 use Rattle.shadow_commit.proofs.SealLaws.{grows_by, keeps_front, entries_are, children_count, each_snoc, node_fits}
 use Rattle.shadow_commit.proofs.CachingLaws.{sealed_then}
 use Rattle.shadow_commit.proofs.StepLaws.{adds_none, adds_as, adds_then, adds_page, grown_at, kept_plain, can_below, seals_grown, seals_kept, loop_child, can_child, end_at, beside_start, beside_call, beside_then, fits_as, body_as, adds_stops, stops_as, stops_none, stops_one, fault_cases, grown_level, level_within}
@@ -277,7 +277,7 @@ seal_twig-returns-in_err-entry-clause-stops g t c at = λ err.
     let places = stubs_by low_of (stubs at.level) at.high cs in
     let same : places ≡ stubs_below at.level at.high c.args.twig.now = ap (stubs_by low_of (stubs at.level) at.high) inv.same in
     let each = subst (EachBy low_of (IsChild at.order at.level) at.high) (sym inv.same) at.shaped.node.each in
-    let below = subst (AreBelow head) (sym same) at.below in
+    let below = subst (AreBelow (bound head 32)) (sym same) at.below in
     let done = so_far_over at.order at.level head at.high i cs so_far.nodes es so_far.is.0 each at.order_most (omega (arith, at.level_most)) at.blocks below in
     let count = children_count at.level head (take i cs) so_far.nodes es so_far.is.0 in
     let s = loop_child head (g.P.Platform.capacity c.args.platform.now) c.args.twig.now cs i c.child-item.result at inv.same c.loop-child-test.true c.child-item.is in
@@ -304,7 +304,7 @@ seal_twig-returns-in_err-placed-clause-stops g t c at = λ _.
     let places = stubs_by low_of (stubs at.level) at.high cs in
     let same : places ≡ stubs_below at.level at.high twig = ap (stubs_by low_of (stubs at.level) at.high) inv.same in
     let each = subst (EachBy low_of (IsChild at.order at.level) at.high) (sym inv.same) at.shaped.node.each in
-    let below = subst (AreBelow head) (sym same) at.below in
+    let below = subst (AreBelow (bound head 32)) (sym same) at.below in
     let done = so_far_over at.order at.level head at.high i cs so_far.nodes es so_far.is.0 each at.order_most (omega (arith, at.level_most)) at.blocks below in
     let mid = (history c.loop-child.platform).present in
     let new = (history c.append.new.platform).present in

@@ -174,9 +174,9 @@ returns-clause-grown c =
     subst (λ k. nodes k c.put_top.new.top ≤ nodes c.args.self.now.level c.args.self.now.top + (2 * c.args.self.now.level + 1)) (sym l) r
 
 pub returns-clause-below : goal.returns-clause-below
-returns-clause-below c head below lt plain =
+returns-clause-below c most below lt same =
     let can = can_open c.args.block c.args.self.now c.requires.can in
     let p = c.put_top.ensures.put (can_put c.args.block c.args.self.now c.open_root.new.top c.requires.can c.requires.small (c.open_root.ensures.opened can)) in
     let l = c.level_of-self.ensures ∙ top_level c.args.self.now.order p.new_level c.args.self.now.blocks c.put_top.new.top p.shaped in
-    let opened = subst (λ k. AreBelow head (stubs k c.args.self.now.blocks c.open_root.new.top)) can.level_is (c.open_root.ensures.below head can below) in
-    subst (λ k. AreBelow head (stubs k c.args.self.now.blocks c.put_top.new.top)) (sym l) (puts_below 0 c.args.self.now.blocks c.args.block c.args.addr head _ _ _ p.puts opened lt plain)
+    let opened = subst (λ k. AreBelow most (stubs k c.args.self.now.blocks c.open_root.new.top)) can.level_is (c.open_root.ensures.below most can below) in
+    subst (λ k. AreBelow most (stubs k c.args.self.now.blocks c.put_top.new.top)) (sym l) (puts_below 0 c.args.self.now.blocks c.args.block c.args.addr most _ _ _ p.puts opened lt same)

@@ -1,5 +1,5 @@
-use Rattle.std.proofs.Common.{arith, refl, ap, ◌∙◌}
-use Rattle.sdbt_base.specs.Keys.{key_size}
+use Rattle.std.proofs.Common.{arith, length, refl}
+use Rattle.btree_update.specs.Held.{bound}
 use Rattle.btree_twigs.specs.Levels.{rows_at}
 use Rattle.btree_twigs.specs.declared.twigs.Child.TheVariants as made
 use Rattle.page_store.specs.Places.{root_want}
@@ -8,7 +8,7 @@ use Rattle.btree_update.proofs.MediumLaws.{tree_told, kept_told}
 use Rattle.btree_update.proofs.groves.Grove.of.Goals as goal
 
 pub returns-clause-below : goal.returns-clause-below
-returns-clause-below c head lt = kept_place c.args.root.now.level c.args.root.now.blocks 0 c.args.root.now.addr head _ c.requires.root.level_least lt (c.requires.root.sized ∙ ap key_size c.requires.version)
+returns-clause-below c head lt = kept_place c.args.root.now.level c.args.root.now.blocks 0 c.args.root.now.addr (bound head (length c.args.root.now.key)) c.args.root.now.key c.requires.root.level_least lt refl
 
 pub returns-clause-levels : goal.returns-clause-levels
 returns-clause-levels c pages parts tree =

@@ -5,14 +5,13 @@ use Rattle.btree_update.specs.GroveTree.{MapsFrom}
 use Rattle.btree_twigs.specs.declared.twigs.Twig.{Twig}
 use Rattle.btree_twigs.specs.Stubs.{stubs}
 use Rattle.btree_twigs.specs.Top.{top_least}
-use Rattle.btree_update.specs.Held.{AreBelow, AnyRead, IsReadAs, HeldFrom}
+use Rattle.btree_update.specs.Held.{bound, AnyRead, IsReadAs, HeldFrom}
 use Rattle.btree_update.specs.Holding.{HoldsFew}
 use Rattle.btree_update.specs.Wrong.{WrongFrom}
 use Rattle.btree_update.specs.Groves.{IsWrongOnWay}
 use Rattle.btree_update.proofs.RootHolds.{root_holds}
 use Rattle.btree_update.proofs.BesideLaws.{loses_of}
-use Rattle.btree_update.proofs.OpenLaws.{lower}
-use Rattle.btree_update.proofs.FitsLaws.{from_never}
+use Rattle.btree_update.proofs.FitsLaws.{AreSmall, are_small, from_never}
 use Rattle.btree_update.proofs.GroveLaws.{sound_as, above_it}
 use Rattle.btree_update.proofs.MappedLaws.{told}
 use Rattle.page_store.specs.Places.{FitsAt}
@@ -23,7 +22,7 @@ use Rattle.btree_update.proofs.groves.Grove.ready.Goals as goal
 pub hold_way-requires : goal.hold_way-requires
 hold_way-requires g c = record {
   can = root_holds c.args.self.now.order c.least_of_root-least.result c.args.self.now.level c.args.block c.args.self.now.blocks (g.P.Platform.head c.args.platform.now) c.args.self.now.top
-      (record { one = c.requires.sound.one; four = c.requires.sound.least; most = c.requires.sound.most; shaped = c.requires.sound.shaped; to = c.requires.to; within = c.requires.within }) c.least_of_root-least.ensures;
+      (record { one = c.requires.sound.one; four = c.requires.sound.least; most = c.requires.sound.most; shaped = c.requires.sound.shaped; to = c.requires.to; size = c.requires.within.0; within = c.requires.within.1 }) c.least_of_root-least.ensures;
 }
 
 pub returns-in_err-left-clause-bad : goal.returns-in_err-left-clause-bad
@@ -39,7 +38,7 @@ returns-in_err-left-clause-bad g c =
       never = λ mapped maps addr is.
           (let same : c.in_err-left.field-0.0 ≡ BadRecord addr = cc in
           let head : g.P.Platform.head c.args.platform.now ≤ 2 ^ 64 = omega (arith, g.met.P.Platform.has_room c.args.platform.now, g.met.P.Platform.is_limited c.args.platform.now) in
-          let small = subst (λ k. AreBelow (2 ^ 64) (stubs k grove.blocks grove.top)) (above_it grove.level c.requires.sound.one) (lower _ (2 ^ 64) (stubs grove.level grove.blocks grove.top) head c.requires.within) in
+          let small = subst (λ k. AreSmall (stubs k grove.blocks grove.top)) (above_it grove.level c.requires.sound.one) (are_small (bound (g.P.Platform.head c.args.platform.now) c.requires.within.0) (stubs grove.level grove.blocks grove.top) head c.requires.within.1) in
           from_never pages grove.order (top_least (grove.level - 1)) c.args.block addr (grove.level - 1) grove.blocks grove.top mapped small maps (wrong addr same));
     }))
 

@@ -199,13 +199,13 @@ returns-clause-levels c pages levels held beside has =
     )
 
 pub returns-clause-below : goal.returns-clause-below
-returns-clause-below c head below =
+returns-clause-below c most below =
     let can = can_open c.args.block c.args.self.now c.requires.can in
     let h = c.help_root.ensures.helped (can_help c.args.block c.args.self.now c.open_root.new.top c.open_root.new.held.items c.requires.can (c.open_root.ensures.opened can) (c.open_root.ensures.helps can Anywhere c.args.self.now.beside.items c.requires.can.loses c.requires.can.beside)) in
     let p = c.take_top.ensures.taken (can_take c.args.block c.args.self.now c.open_root.new.top c.help_root.new.top _ _ c.requires.can h) in
     let l = c.level_of-self.ensures ∙ top_level c.args.self.now.order p.new_level c.args.self.now.blocks c.take_top.new.top p.shaped in
-    let opened = subst (λ k. AreBelow head (stubs k c.args.self.now.blocks c.open_root.new.top)) can.level_is (c.open_root.ensures.below head can below) in
-    subst (λ k. AreBelow head (stubs k c.args.self.now.blocks c.take_top.new.top)) (sym l) (takes_below 0 c.args.self.now.blocks c.args.block head _ _ p.takes (h.below_it head opened))
+    let opened = subst (λ k. AreBelow most (stubs k c.args.self.now.blocks c.open_root.new.top)) can.level_is (c.open_root.ensures.below most can below) in
+    subst (λ k. AreBelow most (stubs k c.args.self.now.blocks c.take_top.new.top)) (sym l) (takes_below 0 c.args.self.now.blocks c.args.block most _ _ p.takes (h.below_it most opened))
 
 pub returns-clause-grown : goal.returns-clause-grown
 returns-clause-grown c =
