@@ -34,10 +34,10 @@ pub record Stops (Are : List Sealed → Type 0) (tells : Type 0) (old new : Imag
   pub image : tells → MayHave (with_nodes old nodes) last new
   pub drew : DrewAll drawn (map (λ n. bare n.key) (nodes ++ last)) drawn_now
 
--- a fault came in a sealing from this address on over these places, or in the sync after it
-pub record StopsFrom (head : ℕ) (places : List Stub) (tells : Type 0) (old new : Image) (drawn drawn_now : Option (List (List ℕ))) : Type 0 where
+-- a fault came in a sealing of a version from this address on over these places, or in the sync after it
+pub record StopsFrom (version head : ℕ) (places : List Stub) (tells : Type 0) (old new : Image) (drawn drawn_now : Option (List (List ℕ))) : Type 0 where
   pub written : Image
-  pub stops : Stops (AreNodesOver head places) tells old written drawn drawn_now
+  pub stops : Stops (AreNodesOver version head places) tells old written drawn drawn_now
   pub synced : tells → IsEither written (all_synced written) new
 
 -- beside its purpose a call only adds pages: at each moment the cell is the one from before, no page is read, and counts of faults don't fall

@@ -2,14 +2,15 @@
 use Rattle.std.specs.Prelude.{◌≡◌, ℕ, suc, List, [], ◌∷◌, ◌++◌, Contains, length, map}
 use Rattle.std.specs.List.{AllByRecursion}
 use Rattle.std.specs.List.Sorted.{IsPermutation}
-use Rattle.sdbt_base.specs.Keys.{bare}
+use Rattle.sdbt_base.specs.Keys.{bare, key_size, version_of}
 use Rattle.sdbt_base.specs.Traces.{NodeOver}
 use Rattle.node_codec.specs.declared.body.Entry.{Entry}
 use Rattle.node_codec.specs.Record.{NodeRecord, FitsRecord}
+use Rattle.page_digest.specs.Digest.{FitsDigest}
 use Rattle.page_store.specs.Places.{IsRecordAt}
 use Rattle.page_store.specs.Tree.{Parts, Place, joined}
 use Rattle.btree_twigs.specs.Stubs.{Stub}
-use Rattle.shadow_commit.specs.Sealed.{Sealed}
+use Rattle.shadow_commit.specs.Sealed.{Sealed, page_of}
 
 -- the page of a sealed node is there
 abbrev pub IsNodeAt : List (List ℕ) → Sealed → Type 0
@@ -29,14 +30,16 @@ abbrev pub AreFrom : ℕ → List Sealed → Type 0
 AreFrom first [] = Unit {0}
 AreFrom first (n ∷ ns) = (n.addr ≡ first) × AreFrom (suc first) ns
 
--- a sealed node's record is in range, and its key has no digest
-abbrev pub Fits : Sealed → Type 0
-Fits n = FitsRecord 1 n.addr (NodeRecord n.level n.entries) × (length n.key ≡ 32)
+-- a sealed node's record is in range, and its key is one of the version, with the digest of the node's page where it has one
+pub record Fits (version : ℕ) (n : Sealed) : Type 0 where
+  pub in_range : FitsRecord (version_of n.key) n.addr (NodeRecord n.level n.entries)
+  pub sized : length n.key ≡ key_size version
+  pub digested : FitsDigest n.key (page_of n)
 
--- nodes have consecutive addresses, and their records are in range
-pub record AreInOrder (first : ℕ) (ns : List Sealed) : Type 0 where
+-- nodes have consecutive addresses, and their records are in range and of this version
+pub record AreInOrder (version first : ℕ) (ns : List Sealed) : Type 0 where
   pub from : AreFrom first ns
-  pub fits : AllByRecursion Fits ns
+  pub fits : AllByRecursion (Fits version) ns
 
 -- every key in a node's entries is, without its digest, one of these, or that of a node before it
 abbrev pub KeysAreFrom : List (List ℕ) → List Sealed → Type 0
@@ -47,7 +50,7 @@ KeysAreFrom keys (n ∷ ns) = AllByRecursion (λ (e : Entry). Contains keys (bar
 abbrev pub keys_at : List Stub → List (List ℕ)
 keys_at places = map (λ (s : Stub). bare s.key) places
 
--- nodes in order, and every key in their entries is that of one of these places or of a node before
-pub record AreNodesOver (first : ℕ) (places : List Stub) (ns : List Sealed) : Type 0 where
-  pub order : AreInOrder first ns
+-- nodes of a version in order, and every key in their entries is that of one of these places or of a node before
+pub record AreNodesOver (version first : ℕ) (places : List Stub) (ns : List Sealed) : Type 0 where
+  pub order : AreInOrder version first ns
   pub keys : KeysAreFrom (keys_at places) ns

@@ -3,7 +3,7 @@ use Rattle.std.specs.Prelude.{◌≡◌, ◌≢◌, ◌-◌, ℕ, suc, ◌+◌, 
 use Rattle.std.specs.FinMap.{from_entries}
 use Rattle.sdbt_base.specs.Arrays.{Device}
 use Rattle.sdbt_base.specs.Faults.{Rose}
-use Rattle.sdbt_base.specs.Keys.{bare, key_size}
+use Rattle.sdbt_base.specs.Keys.{bare, key_size, IsKeyOf}
 use Rattle.sdbt_base.specs.Traces.{Traced}
 use Rattle.sdbt_base.specs.declared.lists.Unkept.{Unkept}
 use Rattle.sdbt_base.specs.declared.tapes.Tape.{Ghosts as TapeGhosts}
@@ -37,11 +37,11 @@ use Rattle.shadow_commit.specs.declared.prepared.Prepared.{Prepared}
 use Rattle.shadow_commit.specs.declared.refusals.CommitRefusal.{CommitRefusal}
 use Rattle.shadow_commit.specs.declared.refusals.CommitRefusal.TheVariants as refused
 
--- the tree is that of a root record with changes, which so far is of version 1: its root node is in memory, and all that it has on the medium is below the head
+-- the tree is that of a root record with changes: its root node is in memory, and all that it has on the medium is below the head, under keys
+-- of the root record's version
 pub record CanPrepare (head : ℕ) (root : Root) (mapped : ℕ) (grove : Grove) : Type 0 where
   pub sound : IsSound grove
   pub in_range : FitsRoot root
-  pub version : root.version ≡ 1
   pub order : grove.order ≡ root.order
   pub blocks : grove.blocks ≡ root.blocks
   pub level_most : grove.level ≤ 20
@@ -53,7 +53,6 @@ pub record CanPrepare (head : ℕ) (root : Root) (mapped : ℕ) (grove : Grove) 
 -- a root node in memory that can be sealed, with changes to the tree of a root record
 pub record CanSealTop (head capacity : ℕ) (root : Root) (mapped : ℕ) (top : Child) : Type 0 where
   pub in_range : FitsRoot root
-  pub version : root.version ≡ 1
   pub within : root.head ≤ head
   pub most : mapped ≤ root.blocks
   pub level : ℕ
@@ -70,7 +69,7 @@ pub record Stand (image : Image) (order : ℕ) (places : List Stub) (each : List
   pub recorded : All (λ p. slice_get image.readable p.addr ≡ slice_get image.recorded p.addr) (joined each).places
   pub count : length (joined each).mapped ≡ mapped
 
--- the root record that follows another by a commit: it names the last of so many pages
+-- the root record that follows another by a commit: it is of the same version, and names the last of so many pages
 pub record IsNextRoot (root : Root) (mapped level head : ℕ) (next : Root) : Type 0 where
   pub version : next.version ≡ root.version
   pub order : next.order ≡ root.order
@@ -79,11 +78,12 @@ pub record IsNextRoot (root : Root) (mapped level head : ℕ) (next : Root) : Ty
   pub level_is : next.level ≡ level
   pub mapped_is : next.mapped ≡ mapped
   pub addr : next.addr + 1 ≡ head
+  pub key : IsKeyOf next.version next.key
   pub head_is : next.head ≡ head
 
 -- the device that a commit makes
 abbrev pub device_with : Root → List Parts → Device
-device_with root each = record { version = 1; blocks = root.blocks; order = root.order; number = root.commit; contents = from_entries (pairs_of (joined each)) }
+device_with root each = record { version = root.version; blocks = root.blocks; order = root.order; number = root.commit; contents = from_entries (pairs_of (joined each)) }
 
 -- with the root record in the cell the image stands for the device, by the sealed nodes and the parts below them
 pub record StandsWith (image : Image) (root : Root) (ns : List Sealed) (each : List Parts) : Type 0 where
@@ -94,8 +94,8 @@ pub record StandsWith (image : Image) (root : Root) (ns : List Sealed) (each : L
 -- the nodes in memory of a root node were sealed, their pages appended and synced, the cache keeps them, and the root record is known that makes the commit
 pub record IsSealed (tells : Type 0) (old new : Image) (head head_now : ℕ) (drawn drawn_now : Option (List (List ℕ))) (cache cache_now : Cached) (root : Root) (mapped level : ℕ) (top : Child) (places : List Stub) (next : Root) : Type 0 where
   pub written : Image
-  pub adds : Adds (λ ns. Seals level head top ns (record { low = 0; addr = next.addr; key = next.key })) tells old written head head_now drawn drawn_now
-  pub over : AreNodesOver head places adds.nodes
+  pub adds : Adds (λ ns. Seals root.version level head top ns (record { low = 0; addr = next.addr; key = next.key })) tells old written head head_now drawn drawn_now
+  pub over : AreNodesOver root.version head places adds.nodes
   pub cached : cache_now ≡ with_sealed cache adds.nodes
   pub synced : tells → new ≡ all_synced written
   pub next_is : IsNextRoot root mapped level head_now next

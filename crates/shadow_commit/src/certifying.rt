@@ -31,9 +31,9 @@ pub(crate) fn certify(
     gone: &[u64],
     never: &[Unkept],
 ) -> Result<Certified, Memory>
-    requires can { CanSeal head 4294967296 twig.now }
+    requires can { CanSeal root.now.version head 4294967296 twig.now }
     requires number { root.now.commit < 4294967296 }
-    ensures cert { (at : CanSeal head 4294967296 twig.now) (ns : List Sealed) (addr : ℕ) (key : List ℕ) → SealsNode (Seals at.level) at.level head (children_of twig.now) ns addr key
+    ensures cert { (at : CanSeal root.now.version head 4294967296 twig.now) (ns : List Sealed) (addr : ℕ) (key : List ℕ) → SealsNode root.now.version (Seals root.now.version at.level) at.level head (children_of twig.now) ns addr key
         → IfOk result (λ made. CertifiesBy (root.now.commit + 1) root.now.head (addr + 1) addr (added_by root.now.head (stubs_below at.level at.high twig.now) ns) gone.now never.now made.cert) }
     ensures line { IfOk result (λ made. (made.line ≡ entry made.cert) × FitsText made.cert) }
 {

@@ -21,9 +21,9 @@ pub(crate) fn plan_twig(
     first: u64,
     added: &mut AddedList,
 ) -> Result<u64, Memory>
-    requires can { CanSeal first 4294967296 twig.now }
-    ensures addr { (at : CanSeal first 4294967296 twig.now) → IfOk result (λ addr. addr ≡ first + nodes_below at.level twig.now) }
-    ensures planned { (at : CanSeal first 4294967296 twig.now) (ns : List Sealed) (addr : ℕ) (key : List ℕ) → SealsNode (Seals at.level) at.level first (children_of twig.now) ns addr key
+    requires can { (version : ℕ) × CanSeal version first 4294967296 twig.now }
+    ensures addr { (version : ℕ) (at : CanSeal version first 4294967296 twig.now) → IfOk result (λ addr. addr ≡ first + nodes_below at.level twig.now) }
+    ensures planned { (version : ℕ) (at : CanSeal version first 4294967296 twig.now) (ns : List Sealed) (addr : ℕ) (key : List ℕ) → SealsNode version (Seals version at.level) at.level first (children_of twig.now) ns addr key
         → IfOk result (λ planned. (addr ≡ planned) × AddsOf base (stubs_below at.level at.high twig.now) ns added.old added.new) }
 {
     let mut children = Addrs::new(alloc);
@@ -50,9 +50,9 @@ fn plan_child(
     next: &mut u64,
     added: &mut AddedList,
 ) -> Result<u64, Memory>
-    requires can { CanSealChild next.old 4294967296 child.now }
-    ensures next { (at : CanSealChild next.old 4294967296 child.now) → IfOk result (λ addr. next.new ≡ next.old + nodes at.level child.now) }
-    ensures planned { (at : CanSealChild next.old 4294967296 child.now) → in_leaf ≡ (at.level == 0) → (ns : List Sealed) (e : Entry) → Seals at.level next.old child.now ns e
+    requires can { (version : ℕ) × CanSealChild version next.old 4294967296 child.now }
+    ensures next { (version : ℕ) (at : CanSealChild version next.old 4294967296 child.now) → IfOk result (λ addr. next.new ≡ next.old + nodes at.level child.now) }
+    ensures planned { (version : ℕ) (at : CanSealChild version next.old 4294967296 child.now) → in_leaf ≡ (at.level == 0) → (ns : List Sealed) (e : Entry) → Seals version at.level next.old child.now ns e
         → IfOk result (λ addr. (e.addr ≡ addr) × AddsOf base (stubs at.level at.high child.now) ns added.old added.new) }
 {
     match child {

@@ -23,8 +23,8 @@ use sdbt_base::Tape;
 use std::alloc::Global;
 
 /// Seals the nodes of a tree that are in memory, each after all below it, appends and syncs their pages, and answers what is left
-/// to do: to replace the root record, that of the last commit, by one that says that so many blocks are mapped. The cache forgets the
-/// nodes that are gone, and then keeps those that are sealed, as the most recent ones.
+/// to do: to replace the root record, that of the last commit, by one that says that so many blocks are mapped. All are of that root
+/// record's version. The cache forgets the nodes that are gone, and then keeps those that are sealed, as the most recent ones.
 ///
 /// `Full` comes exactly where there are more nodes in memory than free pages. All memory is taken before the first key is drawn.
 /// After a fault pages may have been handed over, each under a key drawn for it. At each moment the cell is as before.
@@ -40,7 +40,7 @@ pub fn prepare<P: Platform, T: Tape>(
     requires can { CanPrepare (P.head platform.old) root.now mapped grove.now }
     ensures ready { IfOk result (IsReady P.tells (P.history platform.old).present (P.history platform.new).present (P.head platform.old) (P.head platform.new) (T.drawn tape.old) (T.drawn tape.new)
         reader.old.cache reader.new.cache root.now mapped grove.now) }
-    ensures stops { IsErr result → StopsFrom (P.head platform.old) (places_of grove.now) P.tells (P.history platform.old).present (P.history platform.new).present (T.drawn tape.old) (T.drawn tape.new) }
+    ensures stops { IsErr result → StopsFrom root.now.version (P.head platform.old) (places_of grove.now) P.tells (P.history platform.old).present (P.history platform.new).present (T.drawn tape.old) (T.drawn tape.new) }
     ensures cause { IsPrepareCause P.Platform T.Tape platform.old platform.new tape.old tape.new (grown_in grove.now) result }
     ensures unbegun { IsUnbegun result → reader.new ≡ reader.old }
     ensures within { P.head platform.new ≤ P.head platform.old + grown_in grove.now }
@@ -94,7 +94,7 @@ fn seal_all<P: Platform, T: Tape>(
         (P.head platform.old) (P.head platform.new) (T.drawn tape.old) (T.drawn tape.new) reader.old.cache reader.new.cache root.now mapped (suc at.level) top.now (stubs (suc at.level) root.now.blocks top.now)) }
     ensures within { (at : CanSealTop (P.head platform.old) (P.capacity platform.old) root.now mapped top.now) → P.head platform.new ≤ P.head platform.old + nodes (suc at.level) top.now }
     ensures stops { (at : CanSealTop (P.head platform.old) (P.capacity platform.old) root.now mapped top.now) → IsErr result →
-        StopsFrom (P.head platform.old) (stubs (suc at.level) root.now.blocks top.now) P.tells (P.history platform.old).present (P.history platform.new).present (T.drawn tape.old) (T.drawn tape.new) }
+        StopsFrom root.now.version (P.head platform.old) (stubs (suc at.level) root.now.blocks top.now) P.tells (P.history platform.old).present (P.history platform.new).present (T.drawn tape.old) (T.drawn tape.new) }
     ensures beside { OnlyAdds P.Platform T.Tape platform.old platform.new tape.old tape.new }
     ensures platform_cause { TellsOf AppendFault.PlatformFault result (P.faults platform.old) (P.faults platform.new) }
     ensures tape_cause { TellsOf AppendFault.TapeFault result (T.faults tape.old) (T.faults tape.new) }
@@ -102,7 +102,7 @@ fn seal_all<P: Platform, T: Tape>(
     let Child::Grown { twig, .. } = top else {
         unreachable!()
     };
-    let placed = seal_twig(twig, entries, reader, platform, tape)?;
+    let placed = seal_twig(twig, root.version, entries, reader, platform, tape)?;
     let Ok(()) = platform.sync() else {
         return Err(AppendFault::PlatformFault);
     };

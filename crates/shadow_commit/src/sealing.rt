@@ -1,7 +1,8 @@
 //! How the nodes in memory are sealed.
-ghost use Rattle.std.specs.Prelude.{◌≡◌, ◌<◌, ◌≤◌, ◌+◌, ◌*◌, ◌++◌, [], ◌∷◌, suc, vec_len, vec_capacity, IfOk, IsErr, All, length};
-ghost use Rattle.sdbt_base.specs.Bytes.{IsBytes};
+ghost use Rattle.std.specs.Prelude.{◌≡◌, ◌<◌, ◌≤◌, ◌+◌, ◌*◌, ◌++◌, [], ◌∷◌, suc, vec_len, vec_capacity, IfOk, IsErr, length};
+ghost use Rattle.sdbt_base.specs.Keys.{key_size, IsKeyOf};
 ghost use Rattle.sdbt_base.specs.Faults.{TellsOf};
+ghost use Rattle.record_versions.specs.Versions.{IsVersion};
 ghost use Rattle.btree_twigs.specs.Top.{child_level};
 ghost use Rattle.btree_twigs.specs.Stubs.{level_of, children_of, nodes, nodes_below, stubs, stubs_below};
 ghost use Rattle.shadow_commit.specs.Sealed.{Seals, SealsNode};
@@ -15,30 +16,29 @@ use btree_walk::NodeReader;
 use node_codec::Entry;
 use page_store::{AppendFault, Placed};
 use platform::Platform;
+use record_versions::is_key;
 use sdbt_base::{Key, Tape};
 
-/// The version of the records that are sealed, so far.
-const VERSION: u8 = 1;
-
-/// Seals the nodes in memory, each after all below it, has the cache keep them, and answers where the topmost is. After a fault
-/// each page that was handed over is one of theirs, in order. `entries` has room for those of a node of each level, behind what is
-/// there; that stays.
+/// Seals the nodes in memory in a version, each after all below it, has the cache keep them, and answers where the topmost is.
+/// After a fault each page that was handed over is one of theirs, in order. `entries` has room for those of a node of each
+/// level, behind what is there; that stays.
 #[cycle(seal)]
 pub(crate) fn seal_twig<P: Platform, T: Tape>(
     twig: &Twig,
+    version: u8,
     entries: &mut Vec<Entry>,
     reader: &mut NodeReader,
     platform: &mut P,
     tape: &mut T,
 ) -> Result<Placed, AppendFault>
-    requires can { CanSeal (P.head platform.old) (P.capacity platform.old) twig.now }
+    requires can { CanSeal version (P.head platform.old) (P.capacity platform.old) twig.now }
     requires room { vec_len entries.old + 64 * level_of twig.now ≤ vec_capacity entries.old }
-    ensures sealed { (at : CanSeal (P.head platform.old) (P.capacity platform.old) twig.now) → IfOk result (λ placed.
-        Adds (AreCached (λ nodes. SealsNode (Seals at.level) at.level (P.head platform.old) (children_of twig.now) nodes placed.addr placed.key) reader.old.cache reader.new.cache)
+    ensures sealed { (at : CanSeal version (P.head platform.old) (P.capacity platform.old) twig.now) → IfOk result (λ placed.
+        Adds (AreCached (λ nodes. SealsNode version (Seals version at.level) at.level (P.head platform.old) (children_of twig.now) nodes placed.addr placed.key) reader.old.cache reader.new.cache)
         P.tells (P.history platform.old).present (P.history platform.new).present (P.head platform.old) (P.head platform.new) (T.drawn tape.old) (T.drawn tape.new)) }
-    ensures within { (at : CanSeal (P.head platform.old) (P.capacity platform.old) twig.now) → P.head platform.new ≤ P.head platform.old + suc (nodes_below at.level twig.now) }
-    ensures stops { (at : CanSeal (P.head platform.old) (P.capacity platform.old) twig.now) → IsErr result →
-        Stops (AreNodesOver (P.head platform.old) (stubs_below at.level at.high twig.now)) P.tells (P.history platform.old).present (P.history platform.new).present (T.drawn tape.old) (T.drawn tape.new) }
+    ensures within { (at : CanSeal version (P.head platform.old) (P.capacity platform.old) twig.now) → P.head platform.new ≤ P.head platform.old + suc (nodes_below at.level twig.now) }
+    ensures stops { (at : CanSeal version (P.head platform.old) (P.capacity platform.old) twig.now) → IsErr result →
+        Stops (AreNodesOver version (P.head platform.old) (stubs_below at.level at.high twig.now)) P.tells (P.history platform.old).present (P.history platform.new).present (T.drawn tape.old) (T.drawn tape.new) }
     ensures beside { OnlyAdds P.Platform T.Tape platform.old platform.new tape.old tape.new }
     ensures platform_cause { TellsOf AppendFault.PlatformFault result (P.faults platform.old) (P.faults platform.new) }
     ensures tape_cause { TellsOf AppendFault.TapeFault result (T.faults tape.old) (T.faults tape.new) }
@@ -47,17 +47,17 @@ pub(crate) fn seal_twig<P: Platform, T: Tape>(
 {
     let begin = entries.len();
     for child in twig.children.iter() {
-        let entry = seal_child(child, entries, reader, platform, tape)?;
+        let entry = seal_child(child, version, entries, reader, platform, tape)?;
         add(entries, entry);
     }
     let (_, own) = entries.split_at(begin);
     reader
         .buffers
-        .put_node(platform.head(), twig.level, VERSION, own);
-    let placed = reader.buffers.append(platform, tape)?;
+        .put_node(platform.head(), twig.level, version, own);
+    let placed = reader.buffers.append(platform, tape, version)?;
     reader
         .cache
-        .put_node(placed.addr, &placed.key, twig.level, VERSION, own);
+        .put_node(placed.addr, &placed.key, twig.level, version, own);
     entries.truncate(begin);
     Ok(placed)
 }
@@ -66,19 +66,20 @@ pub(crate) fn seal_twig<P: Platform, T: Tape>(
 #[cycle(seal)]
 fn seal_child<P: Platform, T: Tape>(
     child: &Child,
+    version: u8,
     entries: &mut Vec<Entry>,
     reader: &mut NodeReader,
     platform: &mut P,
     tape: &mut T,
 ) -> Result<Entry, AppendFault>
-    requires can { CanSealChild (P.head platform.old) (P.capacity platform.old) child.now }
+    requires can { CanSealChild version (P.head platform.old) (P.capacity platform.old) child.now }
     requires room { vec_len entries.old + 64 * child_level child.now ≤ vec_capacity entries.old }
-    ensures sealed { (at : CanSealChild (P.head platform.old) (P.capacity platform.old) child.now) → IfOk result (λ entry.
-        Adds (AreCached (λ nodes. Seals at.level (P.head platform.old) child.now nodes entry) reader.old.cache reader.new.cache)
+    ensures sealed { (at : CanSealChild version (P.head platform.old) (P.capacity platform.old) child.now) → IfOk result (λ entry.
+        Adds (AreCached (λ nodes. Seals version at.level (P.head platform.old) child.now nodes entry) reader.old.cache reader.new.cache)
         P.tells (P.history platform.old).present (P.history platform.new).present (P.head platform.old) (P.head platform.new) (T.drawn tape.old) (T.drawn tape.new)) }
-    ensures within { (at : CanSealChild (P.head platform.old) (P.capacity platform.old) child.now) → P.head platform.new ≤ P.head platform.old + nodes at.level child.now }
-    ensures stops { (at : CanSealChild (P.head platform.old) (P.capacity platform.old) child.now) → IsErr result →
-        Stops (AreNodesOver (P.head platform.old) (stubs at.level at.high child.now)) P.tells (P.history platform.old).present (P.history platform.new).present (T.drawn tape.old) (T.drawn tape.new) }
+    ensures within { (at : CanSealChild version (P.head platform.old) (P.capacity platform.old) child.now) → P.head platform.new ≤ P.head platform.old + nodes at.level child.now }
+    ensures stops { (at : CanSealChild version (P.head platform.old) (P.capacity platform.old) child.now) → IsErr result →
+        Stops (AreNodesOver version (P.head platform.old) (stubs at.level at.high child.now)) P.tells (P.history platform.old).present (P.history platform.new).present (T.drawn tape.old) (T.drawn tape.new) }
     ensures beside { OnlyAdds P.Platform T.Tape platform.old platform.new tape.old tape.new }
     ensures platform_cause { TellsOf AppendFault.PlatformFault result (P.faults platform.old) (P.faults platform.new) }
     ensures tape_cause { TellsOf AppendFault.TapeFault result (T.faults tape.old) (T.faults tape.new) }
@@ -86,9 +87,9 @@ fn seal_child<P: Platform, T: Tape>(
     ensures room { vec_capacity entries.old ≤ vec_capacity entries.new }
 {
     match child {
-        Child::Kept { low, addr, key } => Ok(kept_entry(*low, *addr, key)),
+        Child::Kept { low, addr, key } => Ok(kept_entry(*low, *addr, key, version)),
         Child::Grown { low, twig } => {
-            let placed = seal_twig(twig, entries, reader, platform, tape)?;
+            let placed = seal_twig(twig, version, entries, reader, platform, tape)?;
             Ok(Entry {
                 low: *low,
                 addr: placed.addr,
@@ -108,20 +109,16 @@ fn add(entries: &mut Vec<Entry>, entry: Entry)
 }
 
 /// The entry of a child on the medium.
-fn kept_entry(low: u64, addr: u64, key: &Key) -> Entry
-    requires { length key.now ≡ 32 }
+fn kept_entry(low: u64, addr: u64, key: &Key, version: u8) -> Entry
+    requires version { IsVersion version }
+    requires size { length key.now ≡ key_size version }
     ensures entry { result ≡ record { low = low; addr = addr; key = key.now } }
-    ensures key { IsBytes 32 key.now }
+    ensures key { IsKeyOf version key.now }
 {
-    are_bytes(&key.bytes());
+    is_key(key);
     Entry {
         low,
         addr,
         key: *key,
     }
 }
-
-/// A fact: each is below 256.
-fn are_bytes(bytes: &[u8])
-    ensures { All (λ b. b < 256) bytes.now }
-{}
