@@ -97,7 +97,6 @@ first_leaf image root blocks order whole first at = record {
   in_range = first.fits;
   key = first.key;
   version = first.version;
-  first = refl;
   level = first.level;
   order = first.order_is;
   blocks = first.blocks_are;

@@ -74,7 +74,7 @@ made_size tells old looked mid new root blocks order all told =
 made_served : (tells : Type 0) (old looked mid new : History) (root : Root) (blocks order : ℕ) → IsFormatting tells old looked mid new root blocks order → tells → IsServedImage (with_root mid.present root)
 made_served tells old looked mid new root blocks order all told =
     served_published (all_synced mid.present) root (root.addr + 1) (made_size tells old looked mid new root blocks order all told)
-    (record { in_range = all.first.fits; version = all.first.version; key = all.first.key; within = omega (arith, all.first.head) })
+    (record { in_range = all.first.fits; key = all.first.key; within = omega (arith, all.first.head) })
 
 pub format_time : (tells : Type 0) (old looked mid new : History) (root : Root) (blocks order : ℕ) (device : Option Device) → IsFormatting tells old looked mid new root blocks order → tells → Stands old.present device
     → Turns old new (LeavesOnly (λ left. Stands left device)) (LeavesOnly (λ left. Stands left (Some (new_device blocks order))))

@@ -85,7 +85,7 @@ pub fn format<P: Platform, T: Tape, L: Sink>(
         return Err(FormatRefusal::Memory);
     };
     buffers.put_node(addr, 1, VERSION, &[]);
-    let placed = match buffers.append(platform, tape) {
+    let placed = match buffers.append(platform, tape, VERSION) {
         Ok(placed) => placed,
         Err(AppendFault::TapeFault) => return Err(FormatRefusal::TapeFault),
         Err(AppendFault::PlatformFault) => return Err(FormatRefusal::PlatformFault),

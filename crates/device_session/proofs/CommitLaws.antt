@@ -4,9 +4,8 @@ use Rattle.std.specs.Prelude.{Contains, Option}
 use Rattle.std.proofs.lemmas.List.{map-append}
 use Rattle.std.proofs.lemmas.List.Elements.{All-weaker, All-append, All-contains, All-from_recursion, Contains-append_left, Contains-append_cases}
 use Rattle.std.proofs.lemmas.List.Sorted.{All-permutation, Contains-permutation, IsPermutation-sym}
-use Rattle.sdbt_base.specs.Bytes.{IsBytes}
 use Rattle.sdbt_base.specs.Arrays.{Device, Blocks, committed_with}
-use Rattle.sdbt_base.specs.Keys.{bare, IsKeyOf}
+use Rattle.sdbt_base.specs.Keys.{bare, key_size, IsKey, IsKeyOf}
 use Rattle.platform.specs.Image.{Image, LeavesOnly, with_cell}
 use Rattle.platform.specs.History.{History, Turns, CellStays}
 use Rattle.platform.proofs.Moments.{During-now, Extends-earlier}
@@ -59,7 +58,7 @@ listed_sound session image keys h = (Some h.device, held_stands session image h.
 -- the root node comes last, under the key that was drawn last
 pub record IsSealedLast (first : ℕ) (ns : List Sealed) (e : Entry) : Type 0 where
   pub from : first ≤ e.addr
-  pub key : IsBytes 32 e.key
+  pub key : IsKey e.key
   pub earlier : List (List ℕ)
   pub keys : map (λ (n : Sealed). bare n.key) ns ≡ earlier ++ bare e.key ∷ []
 
@@ -101,16 +100,17 @@ last_sealed tells old mid drawn drawn_now session pages now prepared r =
     top_sealed grove.order (grove.level - 1) pages grove.blocks grove.top r.ready.is.adds.nodes e tree.top
     (subst (λ n. Seals n pages grove.top r.ready.is.adds.nodes e) (above_it grove.level tree.sound.one) r.ready.is.adds.is)
 
+-- a key of so many bytes as those of a version is one of that version
+key_sized : (version : ℕ) (key : List ℕ) → IsKey key → length key ≡ key_size version → IsKeyOf version key
+key_sized version key is sized = (sized, elim is [ inl plain ↦ plain.1 | inr long ↦ long.1 ])
+
 -- the new root record can be served over the pages that there are now
 pub next_within : (tells : Type 0) (old mid : History) (drawn drawn_now : Option (List (List ℕ))) (session : Session) (pages now : ℕ) (prepared : Prepared) → IsReadied tells old mid drawn drawn_now session pages now prepared → IsRootWithin now prepared.root
-next_within tells old mid drawn drawn_now session pages now prepared r =
-    let version : prepared.root.version ≡ 1 = r.ready.is.next_is.version ∙ r.is_open.served.version in
-    record {
-      in_range = r.ready.is.in_range;
-      version = version;
-      key = subst (λ v. IsKeyOf v prepared.root.key) (sym version) (last_sealed tells old mid drawn drawn_now session pages now prepared r).key;
-      within = omega (arith, r.ready.is.next_is.head_is);
-    }
+next_within tells old mid drawn drawn_now session pages now prepared r = record {
+  in_range = r.ready.is.in_range;
+  key = key_sized prepared.root.version prepared.root.key (last_sealed tells old mid drawn drawn_now session pages now prepared r).key r.ready.is.in_range.sized;
+  within = omega (arith, r.ready.is.next_is.head_is);
+}
 
 -- what stands below the tree's places
 stand : (session : Session) (pages : ℕ) (image : Image) (device : Device) (contents : Blocks) → IsOpen session pages → session.is_touched ≡ true → (h : Holds session image device contents) → Stand image session.root.order (places_of session.grove) h.each session.mapped
@@ -127,10 +127,10 @@ pub next_tree : (tells : Type 0) (old mid : History) (drawn drawn_now : Option (
 next_tree tells old mid drawn drawn_now session pages now prepared device contents r told h = r.ready.is.stands told h.each (stand session pages old.present device contents r.is_open r.touched h)
 
 -- the device that it is
-next_device : (device : Device) (contents : Blocks) (root next : Root) (each : List Parts) → (next.order ≡ root.order) → (next.blocks ≡ root.blocks) → next.commit ≡ root.commit + 1 → (device.version ≡ 1) → (root.order ≡ device.order) → (root.blocks ≡ device.blocks) → root.commit ≡ device.number →
+next_device : (device : Device) (contents : Blocks) (root next : Root) (each : List Parts) → (next.order ≡ root.order) → (next.blocks ≡ root.blocks) → next.commit ≡ root.commit + 1 → (next.version ≡ device.version) → (root.order ≡ device.order) → (root.blocks ≡ device.blocks) → root.commit ≡ device.number →
     contents ≡ (device_with next each).contents → device_with next each ≡ committed_with device contents
 next_device device contents root next each order blocks commit version was_order was_blocks was_number are = λ i. record {
-  version = sym version i;
+  version = version i;
   blocks = (blocks ∙ was_blocks) i;
   order = (order ∙ was_order) i;
   number = (commit ∙ ap (λ (n : ℕ). n + 1) was_number) i;
@@ -143,7 +143,7 @@ next_stands tells old mid drawn drawn_now session pages now prepared device cont
     let with = next_tree tells old mid drawn drawn_now session pages now prepared device contents r told h in
     let next = r.ready.is.next_is in
     subst (λ (d : Device). StandsBy (with_next mid prepared) d prepared.root with.parts)
-    (next_device device contents session.root prepared.root h.each next.order next.blocks next.commit h.stands.first h.stands.order h.stands.blocks h.stands.number h.contents_are) with.stands
+    (next_device device contents session.root prepared.root h.each next.order next.blocks next.commit (next.version ∙ h.stands.version) h.stands.order h.stands.blocks h.stands.number h.contents_are) with.stands
 
 -- ---- a commit whose last step was taken or failed
 

@@ -2,6 +2,7 @@
 use Rattle.std.proofs.Common.{◌≡◌, ◌⊎◌, inl, inr, ℕ, ◌-◌, ◌^◌, ◌<◌, ◌≤◌, Bool, true, false, List, [], ◌∷◌, IsTrue, length, refl, sym, ap, subst, ◌∙◌, arith, append-nil}
 use Rattle.std.specs.Prelude.{None, Some, Result, Ok, Err, IfOk}
 use Rattle.std.specs.Bool.{OnTrue, OnFalse}
+use Rattle.sdbt_base.specs.Keys.{key_size}
 use Rattle.platform.specs.Image.{Image, IsEarlier, IsWhole}
 use Rattle.node_codec.specs.declared.body.Entry.{Entry}
 use Rattle.node_codec.specs.Record.{DataRecord}
@@ -14,7 +15,7 @@ use Rattle.node_cache.specs.Cached.{Cached}
 use Rattle.btree_twigs.specs.Stubs.{Stub}
 use Rattle.btree_walk.specs.Sights.{StandsOver}
 use Rattle.btree_update.specs.declared.groves.Grove.{Grove}
-use Rattle.btree_update.specs.Held.{AreBelow}
+use Rattle.btree_update.specs.Held.{bound, AreBelow}
 use Rattle.btree_update.specs.Finding.{GroveFinds}
 use Rattle.btree_update.specs.Maps.{MapPuts, MapTakes, HasBlock, LacksBlock}
 use Rattle.btree_update.specs.Opens.{HasWay}
@@ -96,8 +97,8 @@ update_is_wrong session image block addr pages o f wrong = update_wrong image.re
 pub are_alike : (image later : Image) → IsEarlier image later → AreAlike (length image.recorded) image.readable later.readable
 are_alike image later earlier addr less = alike (length image.recorded) image.readable later.readable addr earlier.readable less
 
-many_later : (image later : Image) (grove : Grove) (count : ℕ) → IsEarlier image later → IsSound grove → AreBelow (length image.recorded) (places_of grove) → MapsMany image.readable grove count → MapsMany later.readable grove count
-many_later image later grove count earlier sound low m = record { mapped = m.mapped; maps = maps_alike (length image.recorded) image.readable later.readable grove m.mapped sound (are_alike image later earlier) low m.maps; many = m.many }
+many_later : (image later : Image) (size : ℕ) (grove : Grove) (count : ℕ) → IsEarlier image later → IsSound grove → AreBelow (bound (length image.recorded) size) (places_of grove) → MapsMany image.readable grove count → MapsMany later.readable grove count
+many_later image later size grove count earlier sound low m = record { mapped = m.mapped; maps = maps_alike (bound (length image.recorded) size) image.readable later.readable grove m.mapped sound (are_alike image later earlier) low m.maps; many = m.many }
 
 -- a root record's tree over later pages is one over the earlier ones, which have its node
 tree_before : (image later : Image) (root : Root) (parts : Parts) → IsEarlier image later → root.addr < length image.recorded → Tree later.readable root parts → Tree image.readable root parts
@@ -110,7 +111,7 @@ node_there session image pages o same = omega (arith, o.served.in_range.addr, o.
 pub follows_later : (session : Session) (buffers : Held) (image later : Image) (pages : ℕ) → IsOpen session pages → pages ≡ length image.recorded → IsWhole image → IsEarlier image later → Follows session image → Follows (record session { buffers = buffers }) later
 follows_later session buffers image later pages o same whole earlier f = record {
   places = tree_later image.readable later.readable session.root (stays_later image later earlier) session.grove f.places;
-  counted = λ parts stands many. many_later image later session.grove session.mapped earlier (open_sound session pages o).0 (subst (λ n. AreBelow n (places_of session.grove)) same o.below)
+  counted = λ parts stands many. many_later image later (key_size session.root.version) session.grove session.mapped earlier (open_sound session pages o).0 (subst (λ n. AreBelow (bound n (key_size session.root.version)) (places_of session.grove)) same o.below)
       (f.counted parts (tree_before image later session.root parts earlier (node_there session image pages o same) stands) many);
   cached = cached_later image later session.cache whole earlier f.cached;
 }
@@ -122,10 +123,10 @@ abbrev pub InsertMaps : List (List ℕ) → ℕ → ℕ → List ℕ → Grove �
 InsertMaps pages block addr key old new = (mapped : List Mapped) (content : List ℕ) → IsReadFrom pages block old → GroveMaps pages old mapped → IsRecordAt pages addr key (DataRecord block content)
     → (after : List Mapped) × GroveMaps pages new after × MapPuts (record { block = block; addr = addr; key = key; content = content }) mapped after
 
-inserted_many : (image later : Image) (block addr : ℕ) (key content : List ℕ) (is_mapped : Bool) (old new : Grove) (count : ℕ) → IsEarlier image later → IsSound old → AreBelow (length image.recorded) (places_of old) → IsReadyFor image.readable block old is_mapped →
+inserted_many : (image later : Image) (block addr : ℕ) (key content : List ℕ) (is_mapped : Bool) (old new : Grove) (size count : ℕ) → IsEarlier image later → IsSound old → AreBelow (bound (length image.recorded) size) (places_of old) → IsReadyFor image.readable block old is_mapped →
     InsertMaps later.readable block addr key old new → IsRecordAt later.readable addr key (DataRecord block content) → MapsMany image.readable old count → MapsMany later.readable new (counted_with is_mapped count)
-inserted_many image later block addr key content is_mapped old new count earlier sound low ready puts there m =
-    let over = maps_alike (length image.recorded) image.readable later.readable old m.mapped sound (are_alike image later earlier) low m.maps in
+inserted_many image later block addr key content is_mapped old new size count earlier sound low ready puts there m =
+    let over = maps_alike (bound (length image.recorded) size) image.readable later.readable old m.mapped sound (are_alike image later earlier) low m.maps in
     let r = puts m.mapped content (read_later image.readable later.readable block old (stays_later image later earlier) ready.way) over there in
     let piece : Mapped = record { block = block; addr = addr; key = key; content = content } in
     record { mapped = r.0; maps = r.1; many = sym (count_is is_mapped piece m.mapped r.0 count (grove_up image.readable old m.mapped sound m.maps) r.2 (ready.mapped m.mapped m.maps) (sym m.many)) }
@@ -137,7 +138,7 @@ follows_inserted session image later block addr key content is_mapped grove buff
     let less : block < session.grove.blocks = let blocks = o.1 in omega (arith, i.to, blocks) in
     record {
       places = insert_follows image.readable later.readable session.root session.grove grove block addr key content (HasWay block) (stays_later image later i.arrives.earlier) o.0 f.places i.size less (omega (arith, i.within, i.arrives.new)) i.turns i.arrives.there;
-      counted = λ parts stands many. inserted_many image later block addr key content is_mapped session.grove grove session.mapped i.arrives.earlier o.0 (subst (λ n. AreBelow n (places_of session.grove)) same i.is_open.below) i.ready puts i.arrives.there
+      counted = λ parts stands many. inserted_many image later block addr key content is_mapped session.grove grove (key_size session.root.version) session.mapped i.arrives.earlier o.0 (subst (λ n. AreBelow (bound n (key_size session.root.version)) (places_of session.grove)) same i.is_open.below) i.ready puts i.arrives.there
           (f.counted parts (tree_before image later session.root parts i.arrives.earlier (node_there session image i.pages i.is_open same) stands) many);
       cached = cached_later image later session.cache i.whole i.arrives.earlier f.cached;
     }

@@ -10,14 +10,15 @@ use Rattle.sdbt_base.specs.declared.lists.Unkept.{Unkept}
 use Rattle.sdbt_base.specs.Bytes.{IsBytes}
 use Rattle.platform.specs.Image.{Image, IsEarlier, IsWhole, with_page}
 use Rattle.seal_record.specs.Sealing.{masked}
-use Rattle.sdbt_base.specs.Keys.{bare}
+use Rattle.sdbt_base.specs.Keys.{bare, key_size, version_of}
+use Rattle.page_digest.specs.Digest.{FitsDigest}
 use Rattle.node_codec.specs.Record.{DataRecord, NodeRecord, record_bytes}
 use Rattle.root_codec.specs.declared.root.Root.{Root}
 use Rattle.page_store.specs.Buffer.{Held}
 use Rattle.page_store.specs.Places.{IsRecordAt}
 use Rattle.page_store.specs.Stands.{StandsBy}
 use Rattle.page_store.specs.Tree.{Parts, Place, Mapped, joined}
-use Rattle.page_store.proofs.RecordLaws.{plain_appended, record_kept, slice_get-end}
+use Rattle.page_store.proofs.RecordLaws.{record_appended, record_kept, slice_get-end}
 use Rattle.page_store.proofs.StandsLaws.{stands_kept}
 use Rattle.node_cache.specs.declared.slots.CachedNode.{CachedNode}
 use Rattle.node_cache.specs.Cached.{Cached}
@@ -25,7 +26,7 @@ use Rattle.btree_twigs.specs.Stubs.{Stub, Puts, datum}
 use Rattle.btree_twigs.specs.Top.{IsTop}
 use Rattle.btree_walk.specs.Sights.{StandsOver, IsOfPage}
 use Rattle.btree_update.specs.declared.groves.Grove.{Grove}
-use Rattle.btree_update.specs.Held.{AreBelow}
+use Rattle.btree_update.specs.Held.{bound, AreBelow}
 use Rattle.btree_update.specs.Maps.{MapPuts, HasBlock, LacksBlock}
 use Rattle.btree_update.specs.Opens.{HasWay}
 use Rattle.btree_update.specs.Groves.{GroveMaps, places_of}
@@ -97,17 +98,17 @@ later_listed session buffers image later keys whole earlier cell h = record {
   listed = h.listed;
 }
 
-below_later : (pages now : ℕ) (ss : List Stub) → pages ≤ now → AreBelow pages ss → AreBelow now ss
-below_later pages now [] le h = tt
-below_later pages now (s ∷ ss) le h = ((omega (arith, h.0.0, le), h.0.1), below_later pages now ss le h.1)
+below_later : (pages now size : ℕ) (ss : List Stub) → pages ≤ now → AreBelow (bound pages size) ss → AreBelow (bound now size) ss
+below_later pages now size [] le h = tt
+below_later pages now size (s ∷ ss) le h = ((omega (arith, h.0.0, le), h.0.1), below_later pages now size ss le h.1)
 
 pub later_open : (session : Session) (buffers : Held) (pages now : ℕ) → pages ≤ now → IsOpen session pages → IsOpen (record session { buffers = buffers }) now
 later_open session buffers pages now le o = record {
-  served = record { in_range = o.served.in_range; version = o.served.version; key = o.served.key; within = omega (arith, o.served.within, le) };
+  served = record { in_range = o.served.in_range; key = o.served.key; within = omega (arith, o.served.within, le) };
   mapped = o.mapped;
   tree = o.tree;
   level = o.level;
-  below = below_later pages now (places_of session.grove) le o.below;
+  below = below_later pages now (key_size session.root.version) (places_of session.grove) le o.below;
 }
 
 -- ---- an insertion
@@ -120,13 +121,13 @@ with_inserted session grove mapped buffers = record session { grove = grove; map
 abbrev pub Inserts : Image → ℕ → ℕ → List ℕ → Grove → Grove → Type 0
 Inserts image block addr key old new = Turns image.readable block (HasWay block) (λ opened. Puts 0 old.blocks (datum block addr key) opened (places_of new)) old new
 
-pub inserted_open : (session : Session) (grove : Grove) (mapped : ℕ) (buffers : Held) (pages now : ℕ) → IsSameSize session.grove grove → IsTop grove.order (grove.level - 1) grove.blocks grove.top → grove.level ≤ 20 → AreBelow now (places_of grove) →
+pub inserted_open : (session : Session) (grove : Grove) (mapped : ℕ) (buffers : Held) (pages now : ℕ) → IsSameSize session.grove grove → IsTop grove.order (grove.level - 1) grove.blocks grove.top → grove.level ≤ 20 → AreBelow (bound now (key_size session.root.version)) (places_of grove) →
     mapped ≤ session.root.blocks → pages ≤ now → IsOpen session pages → IsOpen (with_inserted session grove mapped buffers) now
 inserted_open session grove mapped buffers pages now size top level below few le o =
     let was = open_sound session pages o in
     let is = open_size session pages o in
     record {
-      served = record { in_range = o.served.in_range; version = o.served.version; key = o.served.key; within = omega (arith, o.served.within, le) };
+      served = record { in_range = o.served.in_range; key = o.served.key; within = omega (arith, o.served.within, le) };
       mapped = few;
       tree = record { sound = size.sound; order = size.order ∙ is.0; blocks = size.blocks ∙ was.1; head = size.head ∙ is.1; top = top };
       level = level;
@@ -199,22 +200,22 @@ padded_bytes content most bytes = (
 )
 
 -- a block's data record that was appended arrives
-pub arrived : (image later : Image) (block addr : ℕ) (key content : List ℕ) → IsWhole image → IsEarlier image later → addr ≡ length image.recorded → addr < 2 ^ 64 → block < 1048576 → length key ≡ 32 → IsBytes 4096 content →
-    later ≡ with_page image (masked key (record_bytes 1 addr (DataRecord block content))) (masked key (record_bytes 1 addr (DataRecord block content))) → Arrives image later block addr key content
-arrived image later block addr key content whole earlier at small low plain sized is =
-    let page = masked key (record_bytes 1 addr (DataRecord block content)) in
+pub arrived : (image later : Image) (block addr : ℕ) (key content : List ℕ) → IsWhole image → IsEarlier image later → addr ≡ length image.recorded → addr < 2 ^ 64 → block < 1048576 → IsBytes 4096 content → FitsDigest key (masked key (record_bytes (version_of key) addr (DataRecord block content))) →
+    later ≡ with_page image (masked key (record_bytes (version_of key) addr (DataRecord block content))) (masked key (record_bytes (version_of key) addr (DataRecord block content))) → Arrives image later block addr key content
+arrived image later block addr key content whole earlier at small low sized digested is =
+    let page = masked key (record_bytes (version_of key) addr (DataRecord block content)) in
     record {
       earlier = earlier;
       one = ap (λ (i : Image). length i.recorded) is ∙ length-append image.recorded (page ∷ []) ∙ omega arith;
       new = at;
-      there = subst (λ (i : Image). IsRecordAt i.readable addr key (DataRecord block content)) (sym is) (plain_appended image.readable addr key (DataRecord block content) small (at ∙ sym whole.as_many) plain (low, sized));
+      there = subst (λ (i : Image). IsRecordAt i.readable addr key (DataRecord block content)) (sym is) (record_appended image.readable addr key (DataRecord block content) small (at ∙ sym whole.as_many) (low, sized) digested);
       same = subst (λ (i : Image). slice_get i.readable addr ≡ slice_get i.recorded addr) (sym is) (slice_get-end image.readable page addr (at ∙ sym whole.as_many) ∙ sym (slice_get-end image.recorded page addr at));
     }
 
 -- ---- on any pages
 
-pub below_more : (pages now : ℕ) (grove : Grove) → pages ≤ now → AreBelow pages (places_of grove) → AreBelow now (places_of grove)
-below_more pages now grove le h = below_later pages now (places_of grove) le h
+pub below_more : (pages now size : ℕ) (grove : Grove) → pages ≤ now → AreBelow (bound pages size) (places_of grove) → AreBelow (bound now size) (places_of grove)
+below_more pages now size grove le h = below_later pages now size (places_of grove) le h
 
 pub open_later : (session : Session) (pages more : ℕ) → pages ≤ more → IsOpen session pages → IsOpen session more
 open_later session pages more le h = later_open session session.buffers pages more le h

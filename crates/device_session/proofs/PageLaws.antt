@@ -15,7 +15,7 @@ use Rattle.btree_twigs.specs.Stubs.{Stub, start_by, low_of, stubs, stubs_in, stu
 use Rattle.btree_twigs.specs.Top.{top_least}
 use Rattle.btree_update.specs.declared.groves.Grove.{Grove}
 use Rattle.btree_update.specs.GroveTree.{MapsIn, HasEach, want_of, want_at}
-use Rattle.btree_update.specs.Held.{AreBelow, IsReadAs, HeldFor, HeldIn}
+use Rattle.btree_update.specs.Held.{Bound, AreBelow, IsReadAs, HeldFor, HeldIn}
 use Rattle.btree_update.specs.Roots.{HeldRoot}
 use Rattle.btree_update.specs.Groves.{IsSound, IsReadFrom, GroveMaps, places_of}
 use Rattle.btree_update.proofs.GroveLaws.{above_it}
@@ -52,27 +52,27 @@ subtree_alike n pages others order level want key parts alike less is =
 pub tree_alike : (n : ℕ) (pages others : List (List ℕ)) (root : Root) (parts : Parts) → AreAlike n pages others → root.addr < n → Tree pages root parts → Tree others root parts
 tree_alike n pages others root parts alike less is = subtree_alike n pages others root.order root.level (root_want root) root.key parts alike less is
 
-each_alike : (n : ℕ) (pages others : List (List ℕ)) (order : ℕ) (ss : List Stub) (ps : List Parts) → AreAlike n pages others → AreBelow n ss → HasEach pages order ss ps → HasEach others order ss ps
-each_alike n pages others order [] [] alike below has = tt
-each_alike n pages others order [] (p ∷ ps) alike below has = absurd has
-each_alike n pages others order (s ∷ ss) [] alike below has = absurd has
-each_alike n pages others order (s ∷ ss) (p ∷ ps) alike below has =
-    (subtree_alike n pages others order s.level (want_of order s) s.key p alike below.0.0 has.0, each_alike n pages others order ss ps alike below.1 has.1)
+each_alike : (most : Bound) (pages others : List (List ℕ)) (order : ℕ) (ss : List Stub) (ps : List Parts) → AreAlike most.head pages others → AreBelow most ss → HasEach pages order ss ps → HasEach others order ss ps
+each_alike most pages others order [] [] alike below has = tt
+each_alike most pages others order [] (p ∷ ps) alike below has = absurd has
+each_alike most pages others order (s ∷ ss) [] alike below has = absurd has
+each_alike most pages others order (s ∷ ss) (p ∷ ps) alike below has =
+    (subtree_alike most.head pages others order s.level (want_of order s) s.key p alike below.0.0 has.0, each_alike most pages others order ss ps alike below.1 has.1)
 
-root_alike : (n : ℕ) (pages others : List (List ℕ)) (order below high : ℕ) (x : Child-F Child Twig) (mapped : List Mapped) → AreAlike n pages others → AreBelow n (stubs_in (stubs below) (suc below) high x) → MapsIn pages order (top_least below) below high x mapped →
+root_alike : (most : Bound) (pages others : List (List ℕ)) (order below high : ℕ) (x : Child-F Child Twig) (mapped : List Mapped) → AreAlike most.head pages others → AreBelow most (stubs_in (stubs below) (suc below) high x) → MapsIn pages order (top_least below) below high x mapped →
     MapsIn others order (top_least below) below high x mapped
-root_alike n pages others order below high (Kept low addr key) mapped alike lower m = (m.0, subtree_alike n pages others order (suc below) (want_at order (suc below) low high addr (top_least below)) key m.0 alike lower.0.0 m.1, m.2)
-root_alike n pages others order below high (Grown low twig) mapped alike lower m = record { each = m.each; has = each_alike n pages others order (stubs_below below high twig) m.each alike lower m.has; is = m.is }
+root_alike most pages others order below high (Kept low addr key) mapped alike lower m = (m.0, subtree_alike most.head pages others order (suc below) (want_at order (suc below) low high addr (top_least below)) key m.0 alike lower.0.0 m.1, m.2)
+root_alike most pages others order below high (Grown low twig) mapped alike lower m = record { each = m.each; has = each_alike most pages others order (stubs_below below high twig) m.each alike lower m.has; is = m.is }
 
-below_in : (n level high : ℕ) (c : Child) → AreBelow n (stubs (suc level) high c) → AreBelow n (stubs_in (stubs level) (suc level) high (out-Child c))
+below_in : (most : Bound) (level high : ℕ) (c : Child) → AreBelow most (stubs (suc level) high c) → AreBelow most (stubs_in (stubs level) (suc level) high (out-Child c))
 unfolding stubs
-below_in n level high c h = h
+below_in most level high c h = h
 
 -- what a tree maps whose places are among them
-pub maps_alike : (n : ℕ) (pages others : List (List ℕ)) (grove : Grove) (mapped : List Mapped) → IsSound grove → AreAlike n pages others → AreBelow n (places_of grove) → GroveMaps pages grove mapped → GroveMaps others grove mapped
-maps_alike n pages others grove mapped sound alike below m =
-    let lower = below_in n (grove.level - 1) grove.blocks grove.top (subst (λ l. AreBelow n (stubs l grove.blocks grove.top)) (above_it grove.level sound.one) below) in
-    root_alike n pages others grove.order (grove.level - 1) grove.blocks (out-Child grove.top) mapped alike lower m
+pub maps_alike : (most : Bound) (pages others : List (List ℕ)) (grove : Grove) (mapped : List Mapped) → IsSound grove → AreAlike most.head pages others → AreBelow most (places_of grove) → GroveMaps pages grove mapped → GroveMaps others grove mapped
+maps_alike most pages others grove mapped sound alike below m =
+    let lower = below_in most (grove.level - 1) grove.blocks grove.top (subst (λ l. AreBelow most (stubs l grove.blocks grove.top)) (above_it grove.level sound.one) below) in
+    root_alike most pages others grove.order (grove.level - 1) grove.blocks (out-Child grove.top) mapped alike lower m
 
 -- ---- what was read for an update
 

@@ -24,7 +24,7 @@ use Rattle.btree_walk.specs.Among.{IsAmong, KeepsAmong}
 use Rattle.node_cache.specs.declared.slots.CachedNode.{CachedNode}
 use Rattle.node_cache.specs.Cached.{Cached}
 use Rattle.btree_update.specs.declared.groves.Grove.{Grove}
-use Rattle.btree_update.specs.Held.{AreBelow}
+use Rattle.btree_update.specs.Held.{bound, AreBelow}
 use Rattle.btree_update.specs.Groves.{IsSound, places_of}
 use Rattle.grove_accounts.specs.Holding.{IsTreeOf, root_stub}
 use Rattle.grove_accounts.specs.Certs.{IsOwnStub, page_at}
@@ -75,13 +75,13 @@ fresh_pages session pages within fresh = record {
   only = All-nil (λ (page : Unkept). Contains session.grove.never.items page ⊎ ((s : Stub) × Contains (places_of session.grove) s × IsOwnStub session.root.head s × (page ≡ page_at s)));
 }
 
-pub fresh_open : (session : Session) (pages now : ℕ) → IsRootWithin pages session.root → ((head : ℕ) → session.root.addr < head → AreBelow head (places_of session.grove)) → now ≡ pages → IsFresh session → IsOpen session now
+pub fresh_open : (session : Session) (pages now : ℕ) → IsRootWithin pages session.root → ((head : ℕ) → session.root.addr < head → AreBelow (bound head (length session.root.key)) (places_of session.grove)) → now ≡ pages → IsFresh session → IsOpen session now
 fresh_open session pages now within below same fresh = record {
-  served = record { in_range = within.in_range; version = within.version; key = within.key; within = omega (arith, within.within, same) };
+  served = record { in_range = within.in_range; key = within.key; within = omega (arith, within.within, same) };
   mapped = omega (arith, fresh.mapped, within.in_range.mapped);
   tree = subst (λ t. IsTreeFor t session.root session.grove) (sym fresh.untouched) fresh.tree;
   level = omega (arith, fresh.tree.level, within.in_range.level_most);
-  below = below now (omega (arith, within.in_range.addr, within.within, same));
+  below = subst (λ n. AreBelow (bound now n) (places_of session.grove)) within.in_range.sized (below now (omega (arith, within.in_range.addr, within.within, same)));
 }
 
 pub none_cached : (pages : List (List ℕ)) (cache : Cached) → cache.nodes ≡ [] → StandsOver pages cache

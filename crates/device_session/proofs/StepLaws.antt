@@ -298,7 +298,7 @@ commits_done P T L platform mid new tape tape_now ledger ledger_now session now 
           let counted : device.number + 1 ≡ number = sym (number_is ∙ r.ready.is.next_is.commit ∙ ap (λ (n : ℕ). n + 1) h.stands.number) in
           subst (λ (n : ℕ). Holds now (P.history new).present (record device { number = n; contents = contents }) contents) counted (holds told device contents h);
       goes_on = (
-        taken_open session now r.cache next (P.head new) taken (record { in_range = within.in_range; version = within.version; key = within.key; within = omega (arith, within.within, all.swaps.head) }) (omega (arith, r.is_open.mapped, r.ready.is.next_is.blocks)),
+        taken_open session now r.cache next (P.head new) taken (record { in_range = within.in_range; key = within.key; within = omega (arith, within.within, all.swaps.head) }) (omega (arith, r.is_open.mapped, r.ready.is.next_is.blocks)),
         ap (λ (root : Root). root.blocks) taken.root_is ∙ r.ready.is.next_is.blocks,
         taken.mapped,
         ap (λ (k : Cached). k.capacity) (taken.cached ∙ ap (forgotten session.grove.gone.items) r.ready.is.cached) ∙ capacity_sealed (forgotten session.grove.gone.items session.cache) r.ready.is.adds.nodes,

@@ -4,7 +4,6 @@ use Rattle.std.specs.Prelude.{Contains}
 use Rattle.std.specs.FinMap.{from_entries}
 use Rattle.std.proofs.lemmas.List.Elements.{All-nil}
 use Rattle.sdbt_base.specs.Arrays.{Device}
-use Rattle.sdbt_base.specs.Keys.{key_size}
 use Rattle.platform.specs.Image.{Image}
 use Rattle.root_codec.specs.declared.root.Root.{Root}
 use Rattle.root_codec.specs.RootRecord.{FitsRoot}
@@ -42,7 +41,7 @@ taken_open session now cache root pages taken within most =
       mapped = let blocks = ap (λ (r : Root). r.blocks) taken.root_is in omega (arith, taken.mapped, most, blocks);
       tree = subst (λ t. IsTreeFor t now.root now.grove) (sym taken.untouched) tree;
       level = omega (arith, tree.level, served.in_range.level_most);
-      below = rw (tree_place now.root now.grove tree) ((omega (arith, served.in_range.addr, served.within), served.in_range.sized ∙ ap key_size served.version), tt);
+      below = rw (tree_place now.root now.grove tree) ((omega (arith, served.in_range.addr, served.within), served.in_range.sized), tt);
     }
 
 pub taken_pages : (session now : Session) (cache : Cached) (root : Root) → TakesUp session cache root now → FitsRoot root → AreDataPages now []

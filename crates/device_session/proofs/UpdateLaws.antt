@@ -5,6 +5,7 @@ use Rattle.btree_update.specs.Roots.{RootMaps}
 use Rattle.std.specs.FinMap as maps
 use Rattle.std.specs.Bool.{OnTrue, OnFalse}
 use Rattle.sdbt_base.specs.Arrays.{Device, Blocks}
+use Rattle.sdbt_base.specs.Keys.{key_size}
 use Rattle.platform.specs.Image.{Image}
 use Rattle.root_codec.specs.declared.root.Root.{Root}
 use Rattle.node_codec.specs.declared.body.NodeBody.{NodeBody}
@@ -17,7 +18,7 @@ use Rattle.btree_walk.specs.Among.{StaysAmong}
 use Rattle.btree_update.specs.Among.{HaveNodes}
 use Rattle.device_session.proofs.AmongLaws.{held_nodes}
 use Rattle.btree_update.specs.declared.groves.Grove.{Grove}
-use Rattle.btree_update.specs.Held.{AreBelow, IsReadAs}
+use Rattle.btree_update.specs.Held.{bound, AreBelow, IsReadAs}
 use Rattle.btree_update.specs.Maps.{HasBlock, LacksBlock}
 use Rattle.btree_update.specs.Opens.{HasWay}
 use Rattle.btree_update.specs.Groves.{IsSound, IsReadBeside, IsReadBesideAt, GroveMaps, KeepsTree, places_of}
@@ -68,11 +69,11 @@ ready_tree true root old new k sound t = record {
 
 pub ready_open : (session : Session) (grove : Grove) (cache : Cached) (buffers : Held) (node : NodeBody) (pages now : ℕ) → now ≡ pages → KeepsTree session.grove grove → IsSound grove → IsOpen session pages → IsOpen (with_ready session grove cache buffers node) now
 ready_open session grove cache buffers node pages now same k sound o = record {
-  served = record { in_range = o.served.in_range; version = o.served.version; key = o.served.key; within = omega (arith, o.served.within, same) };
+  served = record { in_range = o.served.in_range; key = o.served.key; within = omega (arith, o.served.within, same) };
   mapped = o.mapped;
   tree = ready_tree session.is_touched session.root session.grove grove k sound o.tree;
   level = omega (arith, o.level, k.level);
-  below = subst (λ n. AreBelow n (places_of grove)) (sym same) (subst (AreBelow pages) (sym (places_same session.grove grove k)) o.below);
+  below = subst (λ n. AreBelow (bound n (key_size session.root.version)) (places_of grove)) (sym same) (subst (AreBelow (bound pages (key_size session.root.version))) (sym (places_same session.grove grove k)) o.below);
 }
 
 pub ready_holds : (session : Session) (grove : Grove) (cache : Cached) (buffers : Held) (node : NodeBody) (image after : Image) (device : Device) (contents : Blocks) → after ≡ image → KeepsTree session.grove grove → IsSound grove → (StandsOver image.readable session.cache → StandsOver image.readable cache) →
@@ -120,7 +121,7 @@ open_size session pages o = go session.is_touched o.tree
 abbrev pub with_removed : Session → Grove → Session
 with_removed session grove = record session { grove = grove; mapped = session.mapped - 1; is_touched = true }
 
-pub removed_open : (session : Session) (grove : Grove) (pages : ℕ) → IsSameSize session.grove grove → IsTop grove.order (grove.level - 1) grove.blocks grove.top → grove.level ≤ 20 → AreBelow pages (places_of grove) → IsOpen session pages → IsOpen (with_removed session grove) pages
+pub removed_open : (session : Session) (grove : Grove) (pages : ℕ) → IsSameSize session.grove grove → IsTop grove.order (grove.level - 1) grove.blocks grove.top → grove.level ≤ 20 → AreBelow (bound pages (key_size session.root.version)) (places_of grove) → IsOpen session pages → IsOpen (with_removed session grove) pages
 removed_open session grove pages size top level below o =
     let was = open_sound session pages o in
     let is = open_size session pages o in

@@ -1,11 +1,12 @@
 -- That a session is open on a medium of so many pages.
 use Rattle.std.specs.Prelude.{◌≡◌, ◌-◌, ◌≤◌, ℕ, Bool, true, false, List}
 use Rattle.sdbt_base.specs.declared.lists.Unkept.{Unkept}
+use Rattle.sdbt_base.specs.Keys.{key_size}
 use Rattle.root_codec.specs.declared.root.Root.{Root}
 use Rattle.page_store.specs.Roots.{IsRootWithin}
 use Rattle.btree_twigs.specs.Top.{IsTop}
 use Rattle.btree_update.specs.declared.groves.Grove.{Grove}
-use Rattle.btree_update.specs.Held.{AreBelow}
+use Rattle.btree_update.specs.Held.{bound, AreBelow}
 use Rattle.btree_update.specs.Groves.{IsSound, places_of, grown_in}
 use Rattle.grove_accounts.specs.Holding.{IsTreeOf}
 use Rattle.grove_accounts.specs.Certs.{AreWritten}
@@ -41,13 +42,13 @@ IsTreeFor false root grove = IsTreeOf root grove
 IsTreeFor true root grove = IsChangedTree root grove
 
 -- the session was opened on a medium of at most so many pages: its root record can be served, and each place of its tree on the medium was
--- handed over
+-- handed over and has a key as the root record's version says
 pub record IsOpen (session : Session) (pages : ℕ) : Type 0 where
   pub served : IsRootWithin pages session.root
   pub mapped : session.mapped ≤ session.root.blocks
   pub tree : IsTreeFor session.is_touched session.root session.grove
   pub level : session.grove.level ≤ 20
-  pub below : AreBelow pages (places_of session.grove)
+  pub below : AreBelow (bound pages (key_size session.root.version)) (places_of session.grove)
 
 -- these are the pages of the data records that a session wrote since its mount or its last commit, whether they are mapped still or not
 abbrev pub AreDataPages : Session → List Unkept → Type 0

@@ -78,8 +78,7 @@ impl Session {
     /// Goes on with the tree of a root record that was just put into the cell: no node is in memory then, and none that is gone in
     /// the cache.
     fn take_up(&mut self, root: Root)
-        requires fits { FitsRoot root }
-        requires version { root.version ≡ 1 }
+        requires { FitsRoot root }
         ensures { TakesUp self.old self.old.cache root self.new }
     {
         self.reader.cache.forget_all(self.grove.gone());

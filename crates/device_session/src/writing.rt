@@ -119,7 +119,8 @@ impl Session {
         are_bytes(content);
         let addr = platform.head();
         self.reader.buffers.put_block(addr, block, content);
-        let placed = match self.reader.buffers.append(platform, tape) {
+        let version = self.root.version;
+        let placed = match self.reader.buffers.append(platform, tape, version) {
             Ok(placed) => placed,
             Err(AppendFault::TapeFault) => return Err(WriteRefusal::TapeFault),
             Err(AppendFault::PlatformFault) => return Err(WriteRefusal::PlatformFault),

@@ -12,7 +12,7 @@ use Rattle.device_terms.proofs.MomentLaws.{HasCell}
 served_more : (cell : Option (List ℕ)) (pages more : ℕ) → pages ≤ more → IsServedCell cell pages → IsServedCell cell more
 served_more None pages more later served = tt
 served_more (Some bytes) pages more later (root, served, is) =
-    (root, record { in_range = served.in_range; version = served.version; key = served.key; within = omega (arith, served.within, later) }, is)
+    (root, record { in_range = served.in_range; key = served.key; within = omega (arith, served.within, later) }, is)
 
 -- the same cell, with as many pages or more
 served_later : (image later : Image) → later.cell ≡ image.cell → length image.recorded ≤ length later.recorded → IsServedImage image → IsServedImage later

@@ -19,7 +19,8 @@ pub record Discloses (tells : Type 0) (drawn drawn_now : Option (List (List ℕ)
   pub serves : tells → IsServedImage old.present → During old new IsServedImage
   pub forgets : tells → (keys : List (List ℕ)) → Ready keys → Forgets old new
 
--- the root record names the last of so many pages and the key that was drawn last, without its digest, and its head field is their number
+-- the root record names the last of so many pages and the key that was drawn last, without its digest, and its head
+-- field is their number
 pub record NamesLast (drawn drawn_now : Option (List (List ℕ))) (pages : ℕ) (root : Root) : Type 0 where
   pub earlier : List (List ℕ)
   pub drew : DrewAll drawn (earlier ++ bare root.key ∷ []) drawn_now

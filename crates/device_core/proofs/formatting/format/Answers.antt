@@ -125,7 +125,7 @@ returns-in-Ok-publish-clause-made g c = λ told.
         ap (λ (i : Image). i.cell) (c.in-Ok-publish.ensures.published told),
         record {
           earlier = [];
-          drew = subst (λ (k : List ℕ). Drew (g.T.Tape.drawn c.args.tape.now) k (g.T.Tape.drawn c.append.new.tape)) (sym (bare_plain c.in-Ok-append.placed.key c.in-Ok-append.ensures.placed.key.0)) c.in-Ok-append.ensures.placed.drew;
+          drew = c.in-Ok-append.ensures.placed.drew;
           node = omega (arith, address, c.in-Ok-append.ensures.placed.head, c.publish.ensures.head);
           head = omega (arith, address, c.in-Ok-append.ensures.placed.head, c.publish.ensures.head);
         },

@@ -4,16 +4,16 @@ use Rattle.sdbt_base.specs.declared.lists.Unkept.{Unkept}
 use Rattle.std.specs.Bool.{OnFalse}
 use Rattle.std.specs.FinMap as maps
 use Rattle.sdbt_base.specs.Arrays.{Device, Blocks, padded}
-use Rattle.sdbt_base.specs.Keys.{bare}
-use Rattle.sdbt_base.specs.Told.{Drew}
-use Rattle.sdbt_base.proofs.KeyLaws.{bare_plain}
+use Rattle.sdbt_base.specs.Keys.{bare, key_size, version_of}
 use Rattle.platform.specs.Image.{with_page}
 use Rattle.platform.proofs.Moments.{Extends-earlier, During-step, whole-now}
 use Rattle.seal_record.specs.Sealing.{masked}
+use Rattle.page_digest.specs.Digest.{FitsDigest}
 use Rattle.node_codec.specs.Record.{DataRecord, record_bytes}
 use Rattle.page_store.specs.Buffer.{Held}
 use Rattle.page_store.specs.Keeping.{KeepsKeys, IsNextRecord}
 use Rattle.page_store.proofs.KeepingLaws.{keeps_from}
+use Rattle.btree_update.specs.Held.{bound}
 use Rattle.btree_update.specs.Groves.{CanInsert, CanRemove, places_of, grown_in}
 use Rattle.btree_twigs.specs.Stubs.{datum}
 use Rattle.grove_accounts.specs.Holding.{Arrives, IsSameSize}
@@ -62,12 +62,13 @@ arrives g c told =
     let key = c.in-Ok.placed.key in
     let text = padded c.args.content.now in
     let address : addr ≡ g.P.Platform.head c.args.platform.now = c.in-Ok.ensures.placed.address in
-    let body : c.put_block.new.self.body ≡ record_bytes 1 addr (DataRecord c.args.block text) = ap (λ (b : Held). b.body) (c.put_block.ensures 1) ∙ ap (λ (n : ℕ). record_bytes 1 n (DataRecord c.args.block text)) (c.head-addr.ensures.value ∙ sym address) in
+    let body : c.put_block.new.self.body ≡ record_bytes (version_of key) addr (DataRecord c.args.block text) = ap (λ (b : Held). b.body) (c.put_block.ensures (version_of key)) ∙ ap (λ (n : ℕ). record_bytes (version_of key) n (DataRecord c.args.block text)) (c.head-addr.ensures.value ∙ sym address) in
     let o = subst (λ (s : Session). IsOpen s (g.P.Platform.head c.args.platform.now)) (sym c.self.view_is) c.requires.open in
     let to = subst (λ (s : Session). c.args.block < s.root.blocks) (sym c.self.view_is) c.requires.room.0 in
     arrived image (g.P.Platform.history c.append.new.platform).present c.args.block addr key text (whole-now (g.P.Platform.history c.args.platform.now)) (Extends-earlier _ _ (c.append.ensures.adds.time told).extends)
     (address ∙ sym (g.met.P.Platform.counts_pages told c.args.platform.now)) (omega (arith, address, g.met.P.Platform.has_room c.args.platform.now, g.met.P.Platform.is_limited c.args.platform.now))
-    (omega (arith, to, o.served.in_range.blocks_most)) c.in-Ok.ensures.placed.key.0 (padded_bytes c.args.content.now c.requires.size c.are_bytes.ensures)
+    (omega (arith, to, o.served.in_range.blocks_most)) (padded_bytes c.args.content.now c.requires.size c.are_bytes.ensures)
+    (subst (λ (b : List ℕ). FitsDigest key (masked key b)) body c.in-Ok.ensures.placed.digested)
     (c.in-Ok.ensures.placed.image told ∙ ap (λ (b : List ℕ). with_page image (masked key b) (masked key b)) body)
 
 -- the insertion, over a tree that is ready for it
@@ -209,7 +210,8 @@ returns-clause-goes_on g c =
     let now = g.P.Platform.head c.append.new.platform in
     let o = is_open g at.After-append in
     let grown : head + 1 ≡ now = omega (arith, c.in-Ok.ensures.placed.head) in
-    let below = c.insert.ensures.below now (below_more head now c.self.inside.grove (omega (arith, grown)) o.below) (omega (arith, c.in-Ok.ensures.placed.address, grown)) c.in-Ok.ensures.placed.key.0 in
+    let size_is = key_size c.self.inside.root.version in
+    let below = c.insert.ensures.below (bound now size_is) (below_more head now size_is c.self.inside.grove (omega (arith, grown)) o.below) (omega (arith, c.in-Ok.ensures.placed.address, grown)) c.in-Ok.ensures.placed.key.0 in
     let limit = subst (λ (s : Session). OnFalse c.args.is_mapped (HasRoom s)) (sym c.self.view_is) c.requires.limit in
     let can = subst (λ (s : Session). CanInsert c.args.block s.grove × (IsTrue c.args.is_mapped → CanRemove c.args.block s.grove)) (sym c.self.view_is) c.requires.can in
     record {
@@ -259,7 +261,7 @@ returns-clause-adds g c =
       c.in-Ok.ensures.placed.head,
       record {
         key = c.in-Ok.placed.key;
-        drew = subst (λ (k : List ℕ). Drew (g.T.Tape.drawn c.args.tape.now) k (g.T.Tape.drawn c.append.new.tape)) (sym (bare_plain c.in-Ok.placed.key c.in-Ok.ensures.placed.key.0)) c.in-Ok.ensures.placed.drew;
+        drew = c.in-Ok.ensures.placed.drew;
         place = subst (λ n. Contains (places_of c.insert.new.self) (datum c.args.block n c.in-Ok.placed.key)) address c.insert.ensures.has;
       },
     )
