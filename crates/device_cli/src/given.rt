@@ -26,8 +26,8 @@ pub(crate) fn are_record_words(words: &[String]) -> bool
     true
 }
 
-/// The keys of the roots whose root records the words are, without digests. None where a word is the root record of no root, of
-/// one of version 2 so far, or of one that speaks of more pages than there are.
+/// The keys of the roots whose root records the words are, without digests. None where a word is the root record of no root, or of
+/// one that speaks of more pages than there are.
 pub(crate) fn keys_given(words: &[String], head: u64) -> Option<ArrayVec<Key, MOST_RECORDS>>
     requires { length words.now ≤ 64 }
     ensures found { IfSome result (λ keys. AreGiven head (map string_bytes words.now) keys.items) }
@@ -43,26 +43,14 @@ pub(crate) fn keys_given(words: &[String], head: u64) -> Option<ArrayVec<Key, MO
     Some(keys)
 }
 
-/// The root whose root record a word is. None where it is that of no root, of one of version 2 so far, or of one that speaks of
-/// more pages than there are.
+/// The root whose root record a word is. None where it is that of no root, or of one that speaks of more pages than there are.
 fn root_given(word: &String, head: u64) -> Option<Root>
     ensures found { IfSome result (IsRecordOf head (string_bytes word.now)) }
     ensures none { IfNone result ((root : Root) → IsRecordOf head (string_bytes word.now) root → ⊥) }
 {
     let record = record_of(word)?;
     let root = decode_root(&record)?;
-    if is_within(&root, head) {
-        Some(root)
-    } else {
-        None
-    }
-}
-
-/// Whether a root is of version 1, and speaks of no more pages than there are.
-fn is_within(root: &Root, head: u64) -> bool
-    ensures { IsTrue result ↔ ((root.now.version ≡ 1) × (root.now.head ≤ head)) }
-{
-    root.version == 1 && root.head <= head
+    if root.head <= head { Some(root) } else { None }
 }
 
 /// The bytes that a word of 256 hex digits stands for. None for every other word.

@@ -1,17 +1,39 @@
 //! Pages and root records that a row makes or changes.
+ghost use Rattle.std.specs.Prelude.{◌≤◌, IfOk};
+
+use medium_trace::Pages;
+use page_digest::digest_of;
 use row_lines::{LineFault, byte, number, word};
 use sdbt_base::{FreshKey, RECORD, ROOT};
 use seal_record::seal;
 use std::str::SplitWhitespace;
 
-/// Where the entries of a node begin in its body.
+/// Where the entries of a node, and the content of a data record, begin in a body.
 const ENTRIES: usize = 32;
+
+const CONTENT: usize = 32;
 
 /// How long an entry is: its low and its child's address in eight bytes each, most significant first, and the child's key in 32.
 const ENTRY: usize = 48;
 
-/// The place of the last entry for which a body has room, from 0 on.
+/// How long an entry of a node of kind 3 is: behind the key stands the digest of the child's page, in 32 bytes.
+const LONG_ENTRY: usize = 80;
+
+/// The place of the last entry for which a body has room, from 0 on, and of the last that is so long.
 const LAST_ENTRY: u64 = 84;
+
+const LAST_LONG_ENTRY: u64 = 50;
+
+/// The kind of a node of version 2.
+const LONG_KIND: u8 = 3;
+
+/// What an entry says.
+#[derive(Clone, Copy)]
+struct Child {
+    low: u64,
+    addr: u64,
+    key: u8,
+}
 
 /// Puts bytes at a place; what reaches beyond the end is left out.
 pub(crate) fn put(into: &mut [u8], place: usize, bytes: &[u8]) {
@@ -20,12 +42,23 @@ pub(crate) fn put(into: &mut [u8], place: usize, bytes: &[u8]) {
     rest[..count].copy_from_slice(&bytes[..count]);
 }
 
-/// The page that these words say, at an address: `key`, `kind`, `addr`, `level`, `count`, `block` with a number each; `child LOW ADDR`
-/// for the next entry, whose key is that of its address; `entry PLACE LOW ADDR KEY` for one anywhere. What isn't said is a node at
-/// that address, under the key of it, which counts its children.
+/// The page at an address; zeros where there is none.
+pub(crate) fn page_at(pages: &Pages, addr: u64) -> [u8; RECORD] {
+    if addr < pages.len() as u64 {
+        *pages.at(addr as usize)
+    } else {
+        [0; RECORD]
+    }
+}
+
+/// The page that these words say, at an address: `key`, `kind`, `addr`, `level`, `count`, `block` with a number each; `content HEX`;
+/// `child LOW ADDR` for the next entry, whose key is that of its address; `entry PLACE LOW ADDR KEY` for one anywhere. Behind
+/// `kind 3` an entry has the digest of its child's page, as that stands among the pages. What isn't said is a node at that address,
+/// under the key of it, which counts its children.
 pub(crate) fn page_of(
     addr: u64,
     words: &mut SplitWhitespace<'_>,
+    pages: &Pages,
 ) -> Result<[u8; RECORD], LineFault> {
     let mut body = [0; RECORD];
     put(&mut body, 0, b"SDBTREC1");
@@ -40,11 +73,11 @@ pub(crate) fn page_of(
         if field == "key" {
             key = byte(words)?;
         } else if field == "child" {
-            put_child(&mut body, u64::from(children), words)?;
+            put_child(&mut body, u64::from(children), words, pages)?;
             children = children.saturating_add(1);
             put(&mut body, 19, &[children]);
         } else {
-            put_field(&mut body, field, words)?;
+            put_field(&mut body, field, words, pages)?;
         }
     }
     let mut page = [0; RECORD];
@@ -62,10 +95,12 @@ fn put_child(
     body: &mut [u8; RECORD],
     place: u64,
     words: &mut SplitWhitespace<'_>,
+    pages: &Pages,
 ) -> Result<(), LineFault> {
     let low = number(words)?;
     let addr = number(words)?;
-    put_entry(body, place, low, addr, key_of(addr))
+    let key = key_of(addr);
+    put_entry(body, place, &Child { low, addr, key }, pages)
 }
 
 /// Puts a field of a record.
@@ -73,13 +108,18 @@ fn put_field(
     body: &mut [u8; RECORD],
     field: &str,
     words: &mut SplitWhitespace<'_>,
+    pages: &Pages,
 ) -> Result<(), LineFault> {
+    if field == "content" {
+        return put_hex(body, CONTENT, word(words)?);
+    }
     let value = number(words)?;
     let bytes = value.to_be_bytes();
     if field == "entry" {
         let low = number(words)?;
         let addr = number(words)?;
-        return put_entry(body, value, low, addr, byte(words)?);
+        let key = byte(words)?;
+        return put_entry(body, value, &Child { low, addr, key }, pages);
     }
     let (place, count) = match field {
         "addr" => (8, 8),
@@ -93,29 +133,48 @@ fn put_field(
     Ok(())
 }
 
-/// Puts an entry at a place.
+/// Puts an entry at a place, as long as those of the body's kind are.
 fn put_entry(
     body: &mut [u8; RECORD],
     place: u64,
-    low: u64,
-    addr: u64,
-    key: u8,
+    child: &Child,
+    pages: &Pages,
 ) -> Result<(), LineFault> {
-    if place > LAST_ENTRY {
+    if body[16] != LONG_KIND {
+        if place > LAST_ENTRY {
+            return Err(LineFault::Unknown);
+        }
+        put_names(body, ENTRY * place as usize + ENTRIES, child);
+        return Ok(());
+    }
+    if place > LAST_LONG_ENTRY {
         return Err(LineFault::Unknown);
     }
-    let at = ENTRY * place as usize + ENTRIES;
-    put(body, at, &low.to_be_bytes());
-    put(body, at + 8, &addr.to_be_bytes());
-    put(body, at + 16, &[key; 32]);
+    let at = LONG_ENTRY * place as usize + ENTRIES;
+    put_names(body, at, child);
+    put(body, at + ENTRY, &digest_of(&page_at(pages, child.addr)));
     Ok(())
 }
 
-/// The root record that these words say: `order`, `level`, `blocks`, `commit`, `addr`, `key`, `mapped` and `pages` with a number each.
-pub(crate) fn root_of(words: &mut SplitWhitespace<'_>) -> Result<[u8; ROOT], LineFault> {
+/// Puts what each entry has, from a place on.
+fn put_names(body: &mut [u8; RECORD], at: usize, child: &Child)
+    requires { at ≤ 4096 }
+{
+    put(body, at, &child.low.to_be_bytes());
+    put(body, at + 8, &child.addr.to_be_bytes());
+    put(body, at + 16, &[child.key; 32]);
+}
+
+/// The root record that these words say: `version`, `order`, `level`, `blocks`, `commit`, `addr`, `key`, `mapped` and `pages` with a
+/// number each. In version 2 it has the digest of the page at `addr`, as that stands among the pages.
+pub(crate) fn root_of(
+    words: &mut SplitWhitespace<'_>,
+    pages: &Pages,
+) -> Result<[u8; ROOT], LineFault> {
     let mut record = [0; ROOT];
     put(&mut record, 0, b"SDBTROOT");
     put(&mut record, 8, &[0, 1]);
+    let mut node = 0;
     for _ in 0..u64::MAX {
         let Some(field) = words.next() else {
             break;
@@ -123,21 +182,35 @@ pub(crate) fn root_of(words: &mut SplitWhitespace<'_>) -> Result<[u8; ROOT], Lin
         if field == "key" {
             put(&mut record, 40, &[byte(words)?; 32]);
         } else {
-            let bytes = number(words)?.to_be_bytes();
-            let (place, count) = match field {
-                "order" => (10, 2),
-                "level" => (12, 1),
-                "blocks" => (16, 8),
-                "commit" => (24, 8),
-                "addr" => (32, 8),
-                "mapped" => (72, 8),
-                "pages" => (80, 8),
-                _ => return Err(LineFault::Unknown),
-            };
-            put(&mut record, place, &bytes[8 - count..]);
+            let value = number(words)?;
+            put_root_field(&mut record, field, value)?;
+            if field == "addr" {
+                node = value;
+            }
         }
     }
+    if record[8..10] == [0, 2] {
+        put(&mut record, 88, &digest_of(&page_at(pages, node)));
+    }
     Ok(record)
+}
+
+/// Puts a number of a root record.
+fn put_root_field(record: &mut [u8; ROOT], field: &str, value: u64) -> Result<(), LineFault> {
+    let bytes = value.to_be_bytes();
+    let (place, count) = match field {
+        "version" => (8, 2),
+        "order" => (10, 2),
+        "level" => (12, 1),
+        "blocks" => (16, 8),
+        "commit" => (24, 8),
+        "addr" => (32, 8),
+        "mapped" => (72, 8),
+        "pages" => (80, 8),
+        _ => return Err(LineFault::Unknown),
+    };
+    put(record, place, &bytes[8 - count..]);
+    Ok(())
 }
 
 /// Does what these words say to bytes: `put PLACE HEX` puts bytes at a place, `flip PLACE HEX` turns those of their bits that are set.
@@ -149,10 +222,7 @@ pub(crate) fn change(
     let place = number(words)?.min(RECORD as u64) as usize;
     let digits = word(words)?;
     let mut bytes = [0; ROOT];
-    let count = digits.len() / 2;
-    if count > ROOT || hex::decode_to_slice(digits, &mut bytes[..count]).is_err() {
-        return Err(LineFault::Unknown);
-    }
+    let count = decoded(digits, &mut bytes)?;
     if how == "flip" {
         for (byte, other) in bytes.iter_mut().zip(into.iter().skip(place)) {
             *byte ^= *other;
@@ -162,4 +232,23 @@ pub(crate) fn change(
     }
     put(into, place, &bytes[..count]);
     Ok(())
+}
+
+/// Puts the bytes that hex digits say at a place.
+fn put_hex(into: &mut [u8], place: usize, digits: &str) -> Result<(), LineFault> {
+    let mut bytes = [0; ROOT];
+    let count = decoded(digits, &mut bytes)?;
+    put(into, place, &bytes[..count]);
+    Ok(())
+}
+
+/// How many bytes hex digits say, which are then the first of these; 128 at most.
+fn decoded(digits: &str, bytes: &mut [u8; ROOT]) -> Result<usize, LineFault>
+    ensures { IfOk result (λ count. count ≤ 128) }
+{
+    let count = digits.len() / 2;
+    if count > ROOT || hex::decode_to_slice(digits, &mut bytes[..count]).is_err() {
+        return Err(LineFault::Unknown);
+    }
+    Ok(count)
 }

@@ -1,5 +1,5 @@
 //! The objects in memory that the runs of a row share.
-use crate::forging::{change, page_of, root_of};
+use crate::forging::{change, page_at, page_of, root_of};
 use crate::keys::Keys;
 use crate::serving::{Faults, Ran, Server, serve, serve_transfer};
 use medium_trace::Pages;
@@ -142,9 +142,9 @@ impl Scene {
         let addr = number(words)?;
         let how = word(words)?;
         let page = if how == "holds" {
-            page_of(addr, words)?
+            page_of(addr, words, self.platform.recorded())?
         } else {
-            let mut page = self.page_at(addr);
+            let mut page = page_at(self.platform.recorded(), addr);
             change(how, &mut page, words)?;
             page
         };
@@ -159,7 +159,7 @@ impl Scene {
         let cell = if how == "clear" {
             None
         } else if how == "holds" {
-            Some(root_of(words)?)
+            Some(root_of(words, self.platform.recorded())?)
         } else {
             let mut cell = self.platform.cell().unwrap_or([0; ROOT]);
             change(how, &mut cell, words)?;
@@ -167,16 +167,6 @@ impl Scene {
         };
         end(words)?;
         self.rebuild(None, cell)
-    }
-
-    /// The page at an address; zeros where there is none.
-    fn page_at(&self, addr: u64) -> [u8; RECORD] {
-        let pages = self.platform.recorded();
-        if addr < pages.len() as u64 {
-            *pages.at(addr as usize)
-        } else {
-            [0; RECORD]
-        }
     }
 
     /// A platform with the same pages but for one, or one more, all of them synced, and this cell.

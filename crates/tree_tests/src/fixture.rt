@@ -2,7 +2,7 @@
 ghost use Rattle.std.specs.Prelude.{◌≡◌, length};
 ghost use Rattle.platform.specs.Mem.{image_of_now};
 ghost use Rattle.btree_update.specs.Groves.{IsSound, places_of};
-ghost use Rattle.btree_update.specs.Held.{AreBelow};
+ghost use Rattle.btree_update.specs.Held.{bound, AreBelow};
 
 use crate::device::{Device, key_of};
 use crate::shape::nodes_of;
@@ -27,13 +27,13 @@ impl Model for Fixture {
     ghost use Rattle.std.specs.Prelude.{◌≡◌, length};
     ghost use Rattle.platform.specs.Mem.{image_of_now};
     ghost use Rattle.btree_update.specs.Groves.{IsSound, places_of};
-    ghost use Rattle.btree_update.specs.Held.{AreBelow};
+    ghost use Rattle.btree_update.specs.Held.{bound, AreBelow};
 
     ghost Value = { Unit {0} };
 
     ghost view = { λ f. tt };
 
-    ghost invariant = { λ f. IsSound f.grove × (f.grove.blocks ≡ f.root.blocks) × AreBelow (length (image_of_now f.device.platform).recorded) (places_of f.grove) };
+    ghost invariant = { λ f. IsSound f.grove × (f.grove.blocks ≡ f.root.blocks) × AreBelow (bound (length (image_of_now f.device.platform).recorded) 32) (places_of f.grove) };
 }
 
 impl Fixture {
