@@ -58,7 +58,7 @@ kept_opened keys image left (Some device) are (root, parts, stands) kept =
 
 served_cell : (cell : Option (List ℕ)) (pages : ℕ) (root : Root) (device : Device) (parts : Parts) (image : Image) → StandsBy image device root parts → image.cell ≡ cell → image.synced ≤ pages → IsServedCell cell pages
 served_cell cell pages root device parts image stands same many =
-    subst (λ (held : Option (List ℕ)). IsServedCell held pages) (sym stands.cell ∙ same) (root, record { in_range = stands.in_range; version = stands.version ∙ stands.first; key = stands.key; within = omega (arith, stands.head, many) }, refl)
+    subst (λ (held : Option (List ℕ)). IsServedCell held pages) (sym stands.cell ∙ same) (root, record { in_range = stands.in_range; key = stands.key; within = omega (arith, stands.head, many) }, refl)
 
 pub served_opened : (image : Image) (left : Files) (device : Option Device) → AreLeft image left → Stands image device → IsServedImage (opened left)
 served_opened image left None are stands = subst (λ (held : Option (List ℕ)). IsServedCell held (length left.handed)) (sym (are.cell ∙ stands)) tt

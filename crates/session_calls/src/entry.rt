@@ -39,17 +39,12 @@ pub fn check_cell<P: Platform>(platform: &mut P) -> Result<Option<Root>, DeviceS
     }
 }
 
-/// The root whose record the 128 bytes are, where it can be served with so many pages on the medium: so far only
-/// one of version 1.
+/// The root whose record the 128 bytes are, where it can be served with so many pages on the medium.
 fn served_root(bytes: &[u8], head: u64) -> Option<Root>
     requires { length bytes.now ≡ 128 }
     ensures found { IfSome result (λ root. IsRootWithin head root × (bytes.now ≡ root_bytes root)) }
     ensures none { IfNone result ((root : Root) → IsRootWithin head root → bytes.now ≡ root_bytes root → ⊥) }
 {
     let root = decode_root(bytes)?;
-    if root.version == 1 && root.head <= head {
-        Some(root)
-    } else {
-        None
-    }
+    if root.head <= head { Some(root) } else { None }
 }
