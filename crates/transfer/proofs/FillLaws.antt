@@ -19,7 +19,7 @@ use Rattle.device_course.specs.States.{IsAt}
 use Rattle.device_course.proofs.MadeLaws.{made_closed, made_then}
 use Rattle.device_session.specs.Open.{blocks_of, number_of, root_of}
 use Rattle.device_session.specs.Sessions.{Session}
-use Rattle.transfer.specs.Copies.{HasCopy, IsAlike, IsCopy, IsOnWay, IsOther, blank_of, copied}
+use Rattle.transfer.specs.Copies.{HasCopy, IsAlike, IsBlank, IsCopy, IsOnWay, IsOther, blank_of, copied}
 use Rattle.transfer.specs.Moving.{Commits, IsHalt, IsReadHalt, IsShort, IsSoundHalt, Matches, OpensNone, Reaches, Refuses}
 use Rattle.transfer.specs.Running.{IsOpened}
 use Rattle.transfer.specs.declared.halts.Halt.{Halt}
@@ -48,15 +48,25 @@ sound_halt device there Short (halts.To stop) full sound = sound
 
 -- ---- a device that was never written
 
+-- a new one is one
+pub new_is_blank : (device there : Device) → there ≡ blank_of device → IsBlank device there
+new_is_blank device there is = λ k. record {
+  version = there.version;
+  blocks = ap (λ (d : Device). d.blocks) is k;
+  order = ap (λ (d : Device). d.order) is k;
+  number = ap (λ (d : Device). d.number) is k;
+  contents = ap (λ (d : Device). d.contents) is k;
+}
+
 -- it isn't another one
-pub blank_not_other : (device there : Device) → there ≡ blank_of device → IsOther device (Some there) → ⊥
+pub blank_not_other : (device there : Device) → IsBlank device there → IsOther device (Some there) → ⊥
 blank_not_other device there blank other = other.1 blank
 
 pub copy_not_other : (device there : Device) → IsCopy device there → IsOther device (Some there) → ⊥
 copy_not_other device there copy other = other.0 copy
 
 -- a device that was never written, and its array with all mapped blocks of another one
-copy_of : (device there : Device) (other : OpenSession) (touched : Bool) → there ≡ blank_of device → other.contents ≡ device.contents → (touched ≡ false → there.contents ≡ device.contents) → IsCopy device (committed_if touched there other)
+copy_of : (device there : Device) (other : OpenSession) (touched : Bool) → IsBlank device there → other.contents ≡ device.contents → (touched ≡ false → there.contents ≡ device.contents) → IsCopy device (committed_if touched there other)
 copy_of device there other true blank contents none = record { blocks = ap (λ (d : Device). d.blocks) blank; order = ap (λ (d : Device). d.order) blank; contents = contents }
 copy_of device there other false blank contents none = record { blocks = ap (λ (d : Device). d.blocks) blank; order = ap (λ (d : Device). d.order) blank; contents = none refl }
 
@@ -97,7 +107,7 @@ reaches_none old new device there Short result other stayed done halt = record {
   other = other;
 }
 
-pub reaches_committed : (old new : History) (device there : Device) (Short : Type 0) (result : Result ℕ Halt) → (result ≡ Err halts.Full → Short × (HasCopy device (Some there) → ⊥)) → there ≡ blank_of device → Commits old new there (copied device.contents (maps.keys device.contents) (session_on there)) result → Reaches old new device (Some there) Short result
+pub reaches_committed : (old new : History) (device there : Device) (Short : Type 0) (result : Result ℕ Halt) → (result ≡ Err halts.Full → Short × (HasCopy device (Some there) → ⊥)) → IsBlank device there → Commits old new there (copied device.contents (maps.keys device.contents) (session_on there)) result → Reaches old new device (Some there) Short result
 reaches_committed old new device there Short (Ok number) full blank commits =
     let other : OpenSession = copied device.contents (maps.keys device.contents) (session_on there) in
     let empty : there.contents ≡ maps.empty = ap (λ (d : Device). d.contents) blank in
@@ -139,7 +149,7 @@ pub reaches_halted : (old new : History) (device there : Device) (Short : Type 0
 reaches_halted old new device there Short halt sound stayed = reaches_none old new device there Short (Err halt) (λ other. refuses_read halt sound) stayed tt (read_halt device (Some there) Short halt sound)
 
 -- or where the device was never written
-pub reaches_blank : (old new : History) (device there : Device) (Short : Type 0) (halt : Halt) → (halt ≡ halts.Full → Short × (HasCopy device (Some there) → ⊥)) → there ≡ blank_of device → IsSoundHalt halt → MadeBetween old new there [] there → Reaches old new device (Some there) Short (Err halt)
+pub reaches_blank : (old new : History) (device there : Device) (Short : Type 0) (halt : Halt) → (halt ≡ halts.Full → Short × (HasCopy device (Some there) → ⊥)) → IsBlank device there → IsSoundHalt halt → MadeBetween old new there [] there → Reaches old new device (Some there) Short (Err halt)
 reaches_blank old new device there Short halt full blank sound stayed = reaches_none old new device there Short (Err halt) (λ other. absurd (blank_not_other device there blank other)) stayed tt (sound_halt device (Some there) Short halt full sound)
 
 -- nothing is moved to another device
@@ -181,7 +191,7 @@ reaches_opened old mid new session blocks order device opened there Was Short ma
     reaches_behind old mid new device opened there Was Short marks result (subst (λ (ms : List (Option Device)). All (IsOnWay device) ms) (sym none) (All-nil (IsOnWay device)))
     (made_closed old mid (Some session) (closed there) (mounted opened (session_on opened)) marks made) (subst (IsOther device) same) (subst (IsOther device) (sym same)) (subst (HasCopy device) same) weaker r
 reaches_opened old mid new session blocks order device opened there Was Short marks result weaker blank (inr (none, is, one)) made r =
-    let fresh : opened ≡ blank_of device = is ∙ blank in
+    let fresh : IsBlank device opened = new_is_blank device opened (is ∙ blank) in
     reaches_behind old mid new device opened there Was Short marks result (subst (λ (ms : List (Option Device)). All (IsOnWay device) ms) (sym one) (All-cons (IsOnWay device) (Some opened) [] (inl fresh) (All-nil (IsOnWay device))))
     (made_closed old mid (Some session) (closed there) (mounted opened (session_on opened)) marks made) (λ o. absurd ((subst (IsOther device) none o).1 tt)) (λ o. absurd (blank_not_other device opened fresh o)) (λ has. absurd (subst (HasCopy device) none has)) weaker r
 
@@ -189,7 +199,7 @@ reaches_opened old mid new session blocks order device opened there Was Short ma
 pub reaches_unopened : (old new : History) (blocks order free : ℕ) (device : Device) (there : Option Device) (halt : Halt) → new_device blocks order ≡ blank_of device → OpensNone old new there blocks order free halt → Reaches old new device there (IsShort device 1 free) (Err halt)
 reaches_unopened old new blocks order free device there halt blank o = record {
   made = o.made;
-  each = All-weaker (λ next. next ≡ Some (new_device blocks order)) (IsOnWay device) (λ next is. subst (IsOnWay device) (sym is) (inl blank)) o.made o.each;
+  each = All-weaker (λ next. next ≡ Some (new_device blocks order)) (IsOnWay device) (λ next is. subst (IsOnWay device) (sym is) (inl (new_is_blank device (new_device blocks order) blank))) o.made o.each;
   came = o.came;
   done = tt;
   halts = sound_halt device there (IsShort device 1 free) halt (λ is. (omega (arith, (o.full is).1), λ has. subst (HasCopy device) (o.full is).0 has)) o.sound;
@@ -242,16 +252,16 @@ unmapped (m ∷ ms) is =
     absurd (let never : ⊥ = cc in never)
 
 -- one of number 0 without a mapped block is one that was never written
-pub fresh_blank : (image : Image) (session : Session) (device there : Device) → IsAt image (Some session) (mounted there (session_on there)) → IsAlike device there → (number_of session ≡ 0) × (session.mapped ≡ 0) → there ≡ blank_of device
+pub fresh_blank : (image : Image) (session : Session) (device there : Device) → IsAt image (Some session) (mounted there (session_on there)) → IsAlike device there → (number_of session ≡ 0) × (session.mapped ≡ 0) → IsBlank device there
 fresh_blank image session device there at alike fresh =
     let holds = at.there.session.0 in
     let number : there.number ≡ 0 = sym holds.stands.number ∙ fresh.0 in
     let none : (joined holds.each).mapped ≡ [] = nothing (joined holds.each).mapped (sym holds.count ∙ fresh.1) in
     let contents : there.contents ≡ maps.empty = holds.contents_are ∙ ap (λ (ms : List Mapped). maps.from_entries {R = nat_cmp} (pairs ms)) none in
-    λ k. record { version = holds.stands.first k; blocks = alike.blocks k; order = alike.order k; number = number k; contents = contents k }
+    λ k. record { version = there.version; blocks = alike.blocks k; order = alike.order k; number = number k; contents = contents k }
 
 -- and the other way round
-blank_fresh : (image : Image) (session : Session) (device there : Device) → IsAt image (Some session) (mounted there (session_on there)) → there ≡ blank_of device → (number_of session ≡ 0) × (session.mapped ≡ 0)
+blank_fresh : (image : Image) (session : Session) (device there : Device) → IsAt image (Some session) (mounted there (session_on there)) → IsBlank device there → (number_of session ≡ 0) × (session.mapped ≡ 0)
 blank_fresh image session device there at blank =
     let holds = at.there.session.0 in
     let empty : maps.from_entries {R = nat_cmp} (pairs (joined holds.each).mapped) ≡ maps.empty = sym holds.contents_are ∙ ap (λ (d : Device). d.contents) blank in
@@ -294,7 +304,7 @@ pub number_at : (image : Image) (session : Session) (there : Device) (array : Op
 number_at image session there array at = at.there.session.0.stands.number
 
 -- a device that was never written has room for one without a mapped block
-pub short_not_copy : (device there : Device) (free : ℕ) → there ≡ blank_of device → IsShort device 0 free → HasCopy device (Some there) → ⊥
+pub short_not_copy : (device there : Device) (free : ℕ) → IsBlank device there → IsShort device 0 free → HasCopy device (Some there) → ⊥
 short_not_copy device there free blank short copy =
     let empty : device.contents ≡ maps.empty = sym copy.contents ∙ ap (λ (d : Device). d.contents) blank in
     let none : length (maps.keys device.contents) ≡ 0 =

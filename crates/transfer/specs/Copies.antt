@@ -13,10 +13,14 @@ pub record IsCopy (device copy : Device) : Type 0 where
 abbrev pub blank_of : Device → Device
 blank_of device = new_device device.blocks device.order
 
+-- such a one, of either version: a new device is of version 1, and one that was there may be of version 2
+abbrev pub IsBlank : Device → Device → Type 0
+IsBlank device there = there ≡ record (blank_of device) { version = there.version }
+
 -- on the way to a copy: never written yet, or a copy
 abbrev pub IsOnWay : Device → Option Device → Type 0
 IsOnWay device None = ⊥
-IsOnWay device (Some there) = (there ≡ blank_of device) ⊎ IsCopy device there
+IsOnWay device (Some there) = IsBlank device there ⊎ IsCopy device there
 
 -- as many blocks, and a tree of the same order
 pub record IsAlike (device there : Device) : Type 0 where
@@ -31,7 +35,7 @@ HasCopy device (Some there) = IsCopy device there
 -- there is none, or one of as many blocks and of the same order that was never written
 abbrev pub IsFresh : Device → Option Device → Type 0
 IsFresh device None = Unit {0}
-IsFresh device (Some there) = there ≡ blank_of device
+IsFresh device (Some there) = IsBlank device there
 
 -- another device, to which none is moved
 abbrev pub IsOther : Device → Option Device → Type 0

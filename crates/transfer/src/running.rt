@@ -8,7 +8,7 @@ ghost use Rattle.sdbt_base.specs.Arrays.{Device, mounted, session_on};
 ghost use Rattle.device_course.specs.States.{IsAt};
 ghost use Rattle.page_store.specs.Stands.{Stands};
 ghost use Rattle.device_terms.specs.Served.{IsServedImage};
-ghost use Rattle.transfer.specs.Copies.{IsAlike, blank_of};
+ghost use Rattle.transfer.specs.Copies.{IsAlike, IsBlank};
 ghost use Rattle.transfer.specs.Moving.{IsShort, Matches, Moves, Reaches, Went};
 ghost use Rattle.transfer.specs.Both.{AreReady, FillsBoth, ReadsBoth};
 ghost use Rattle.transfer.specs.Counts.{counts};
@@ -167,7 +167,7 @@ fn fill_target<P: Platform, Q: Platform, T: Tape, L: Sink>(
     requires target { IsReady Q.tells (around Q.Platform T.Tape L.Sink to.old tape.old ledger.old) target }
     ensures both { FillsBoth P.Platform Q.Platform T.Tape L.Sink from.old from.new to.old to.new tape.old tape.new ledger.old ledger.new source.old source.new target result }
     ensures leads { P.tells → Q.tells → (device there : Device) → IsAt (P.history from.old).present (Some source.old) (mounted device (session_on device))
-        → IsAt (Q.history to.old).present (Some target) (mounted there (session_on there)) → (IsTrue is_new → there ≡ blank_of device)
+        → IsAt (Q.history to.old).present (Some target) (mounted there (session_on there)) → (IsTrue is_new → IsBlank device there)
         → Reaches (Q.history to.old) (Q.history to.new) device (Some there) (IsShort device 0 (Q.capacity to.old - Q.head to.old)) result }
 {
     if !is_alike(source, &target) {
@@ -248,7 +248,7 @@ fn copy<P: Platform, Q: Platform, T: Tape, L: Sink>(
     requires { AreReady P.tells Q.tells (alone P.Platform from.old) (around Q.Platform T.Tape L.Sink to.old tape.old ledger.old) source.old first blocks.now }
     ensures both { FillsBoth P.Platform Q.Platform T.Tape L.Sink from.old from.new to.old to.new tape.old tape.new ledger.old ledger.new source.old source.new first result }
     ensures leads { P.tells → Q.tells → (device there : Device) → IsAt (P.history from.old).present (Some source.old) (mounted device (session_on device))
-        → IsAt (Q.history to.old).present (Some first) (mounted there (session_on there)) → blocks.now ≡ map.keys device.contents → there ≡ blank_of device
+        → IsAt (Q.history to.old).present (Some first) (mounted there (session_on there)) → blocks.now ≡ map.keys device.contents → IsBlank device there
         → Reaches (Q.history to.old) (Q.history to.new) device (Some there) (IsShort device 0 (Q.capacity to.old - Q.head to.old)) result }
 {
     let mut target = first;

@@ -2,7 +2,7 @@ use Rattle.std.proofs.Common.{◌∙◌, ap, arith}
 use Rattle.root_codec.specs.declared.root.Root.{Root}
 use Rattle.session_calls.proofs.AlongLaws.{along_start}
 use Rattle.transfer.proofs.BlameLaws.{blames_as, blames_then}
-use Rattle.transfer.proofs.FillLaws.{new_blank, reaches_opened, reaches_unopened}
+use Rattle.transfer.proofs.FillLaws.{new_blank, new_is_blank, reaches_opened, reaches_unopened}
 use Rattle.transfer.proofs.HaltLaws.{behind_both_all, behind_opening, halted, meets_opening}
 use Rattle.transfer.proofs.LookedLaws.{there_as, there_behind}
 use Rattle.transfer.proofs.ToLaws.{spans_more, spans_opened}
@@ -36,7 +36,7 @@ returns-clause-leads g c from_told to_told device there at stands served =
     let blank = new_blank (g.P.Platform.history c.args.from.now).present c.args.source.now device _ _ _ at c.blocks-blocks.ensures (ap (λ (r : Root). r.order) c.root.ensures) in
     let opened = c.in_ok-target.ensures.target.opened.made to_told there stands served in
     reaches_opened (g.Q.Platform.history c.args.to.now) (g.Q.Platform.history c.open_target.new.to) (g.Q.Platform.history c.fill_target.new.to) c.in_ok-target.target.session _ _ device opened.1 there _ _ opened.0 c.fill_target.result (λ short. omega (arith, short, c.in_ok-target.ensures.target.adds.0, c.in_ok-target.ensures.target.adds.1)) blank opened.2 opened.4
-    (c.fill_target.ensures.leads from_told to_told device opened.1 at opened.4.exits (λ is. c.in_ok-target.ensures.target.is_new to_told is opened.1 opened.4.exits.there.device ∙ blank))
+    (c.fill_target.ensures.leads from_told to_told device opened.1 at opened.4.exits (λ is. new_is_blank device opened.1 (c.in_ok-target.ensures.target.is_new to_told is opened.1 opened.4.exits.there.device ∙ blank)))
 
 pub returns-in_err-target-clause-leads : goal.returns-in_err-target-clause-leads
 returns-in_err-target-clause-leads g c from_told to_told device there at stands served =
