@@ -1,6 +1,7 @@
-use Rattle.std.proofs.Common.{◌≡◌, suc, ◌+◌, ◌≤◌, [], ◌∷◌, ◌++◌, take, refl, sym, ap, subst, ◌∙◌, arith, rules}
+use Rattle.std.proofs.Common.{◌≡◌, List, suc, ◌+◌, ◌≤◌, [], ◌∷◌, ◌++◌, take, refl, sym, ap, subst, ◌∙◌, arith, rules}
 use Rattle.std.proofs.lemmas.List.{take_all}
 use Rattle.node_codec.specs.declared.body.Entry.{Entry}
+use Rattle.btree_twigs.specs.declared.twigs.Child.{Child}
 use Rattle.btree_twigs.specs.Stubs.{children_of, sum_by, nodes, stubs, stubs_by, stubs_below, low_of}
 use Rattle.btree_twigs.proofs.Counts.{sum_append}
 use Rattle.shadow_commit.specs.Sealed.{Sealed, SealsEach, Seals}
@@ -85,6 +86,12 @@ plan_twig-loop-child-preserved t c =
                 (places_more at.level at.high i cs c.child-item.result c.loop-child-test.true c.child-item.is) u.nodes_are before.1 one.1,
           );
     }
+
+pub plan_twig-returns-clause-addr : goal.plan_twig-returns-clause-addr
+plan_twig-returns-clause-addr t c version at =
+    let inv = c.loop-child.invariant in
+    let all : take c.loop-child.child-index c.deref-child-items.result.now ≡ children_of c.args.twig.now = take_all c.loop-child.child-index c.deref-child-items.result.now (omega (arith, c.loop-child-test.false)) ∙ inv.same in
+    inv.next version at ∙ ap (λ (cs : List Child). c.args.first + sum_by (nodes at.level) cs) all
 
 pub plan_twig-returns-clause-planned : goal.plan_twig-returns-clause-planned
 plan_twig-returns-clause-planned t c version at ns addr key h =
