@@ -55,7 +55,7 @@ impl Device {
         }
         let _placed = self
             .buffers
-            .append(&mut self.platform, &mut self.tape)
+            .append(&mut self.platform, &mut self.tape, 2)
             .ok()?;
         Some(())
     }

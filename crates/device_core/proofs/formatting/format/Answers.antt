@@ -1,7 +1,5 @@
-use Rattle.std.proofs.Common.{◌≡◌, ◌∙◌, ℕ, List, [], Option, None, Some, Bool, true, false, is_ok, refl, ap, sym, subst, inl, inr, arith, rules}
+use Rattle.std.proofs.Common.{◌≡◌, ◌∙◌, ℕ, List, [], Option, None, Some, Bool, true, false, is_ok, refl, ap, sym, inl, inr, arith, rules}
 use Rattle.page_store.specs.Buffer.{Held}
-use Rattle.sdbt_base.specs.Told.{Drew}
-use Rattle.sdbt_base.proofs.KeyLaws.{bare_plain}
 use Rattle.node_codec.specs.Record.{NodeRecord, record_bytes}
 use Rattle.sdbt_base.specs.Arrays.{new_device}
 use Rattle.sdbt_base.specs.Counts.{Counts, counts}
