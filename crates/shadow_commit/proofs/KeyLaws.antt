@@ -4,7 +4,7 @@ use Rattle.std.specs.Prelude.{Option, Some, Contains, slice_get}
 use Rattle.std.specs.List.{AllByRecursion}
 use Rattle.std.proofs.lemmas.List.{map-append, length-map}
 use Rattle.std.proofs.lemmas.List.Elements.{All-contains, All-map, All-from_recursion, Contains-append_left, Contains-append_right, Contains-push, Contains-push_cases, Contains-append_cases}
-use Rattle.sdbt_base.specs.Keys.{bare}
+use Rattle.sdbt_base.specs.Keys.{bare, version_of}
 use Rattle.platform.specs.Image.{Image, IsEither, all_synced}
 use Rattle.platform.specs.History.{History, CellStays, image_at}
 use Rattle.platform.proofs.Moments.{Extends-since, earlier-now}
@@ -89,25 +89,25 @@ pub record KnowsChildren (keys : List (List ℕ)) (ns : List Sealed) (es : List 
   pub nodes : KeysAreFrom keys ns
   pub own : AreListed (keys ++ keys_in ns) es
 
-kept_known : (keys : List (List ℕ)) (low addr : ℕ) (key : List ℕ) (ns : List Sealed) (e : Entry) → Contains keys (bare key) → SealsKept low addr key ns e → KnowsChild keys ns e
-kept_known keys low addr key ns e has h = record {
+kept_known : (version : ℕ) (keys : List (List ℕ)) (low addr : ℕ) (key : List ℕ) (ns : List Sealed) (e : Entry) → Contains keys (bare key) → SealsKept version low addr key ns e → KnowsChild keys ns e
+kept_known version keys low addr key ns e has h = record {
   nodes = subst (KeysAreFrom keys) (sym h.none) tt;
   own = Contains-append_left keys (keys_in ns) (bare e.key) (subst (Contains keys) (sym (ap (λ (e : Entry). bare e.key) h.entry_is)) has);
 }
 
-children_known : (level : ℕ) → ((first high : ℕ) (c : Child) (ns : List Sealed) (e : Entry) → Seals level first c ns e → KnowsChild (keys_at (stubs level high c)) ns e) →
-    (first high : ℕ) (cs : List Child) (ns : List Sealed) (es : List Entry) → SealsEach (Seals level) first cs ns es → KnowsChildren (keys_at (stubs_by low_of (stubs level) high cs)) ns es
-children_known level one first high [] ns es h = record {
+children_known : (version level : ℕ) → ((first high : ℕ) (c : Child) (ns : List Sealed) (e : Entry) → Seals version level first c ns e → KnowsChild (keys_at (stubs level high c)) ns e) →
+    (first high : ℕ) (cs : List Child) (ns : List Sealed) (es : List Entry) → SealsEach (Seals version level) first cs ns es → KnowsChildren (keys_at (stubs_by low_of (stubs level) high cs)) ns es
+children_known version level one first high [] ns es h = record {
   nodes = subst (KeysAreFrom []) (sym h.0) tt;
   own = subst (AreListed ([] ++ keys_in ns)) (sym h.1) tt;
 }
-children_known level one first high (c ∷ cs) ns es h =
+children_known version level one first high (c ∷ cs) ns es h =
     let A = stubs level (start_by low_of cs high) c in
     let B = stubs_by low_of (stubs level) high cs in
     let kA = keys_at A in
     let kB = keys_at B in
     let here = one first (start_by low_of cs high) c h.here h.entry h.one in
-    let rest = children_known level one (first + length h.here) high cs h.rest h.others h.more in
+    let rest = children_known version level one (first + length h.here) high cs h.rest h.others h.more in
     let both : keys_at (A ++ B) ≡ kA ++ kB = map-append (λ (s : Stub). bare s.key) A B in
     let all = (kA ++ kB) ++ keys_in (h.here ++ h.rest) in
     let in_nodes : keys_in (h.here ++ h.rest) ≡ keys_in h.here ++ keys_in h.rest = map-append (λ (n : Sealed). bare n.key) h.here h.rest in
@@ -135,54 +135,54 @@ node_known keys below ns n es is entries h = (
       (Contains-append_right keys (keys_in (below ++ n ∷ [])) (bare n.key) (subst (λ ks. Contains ks (bare n.key)) (sym (map-append (λ (n : Sealed). bare n.key) below (n ∷ []))) (Contains-push (keys_in below) (bare n.key)))),
 )
 
-pub child_known : (level first high : ℕ) (c : Child) (ns : List Sealed) (e : Entry) → Seals level first c ns e → KnowsChild (keys_at (stubs level high c)) ns e
+pub child_known : (version level first high : ℕ) (c : Child) (ns : List Sealed) (e : Entry) → Seals version level first c ns e → KnowsChild (keys_at (stubs level high c)) ns e
 unfolding Seals stubs
-child_known zero first high c ns e h = here (out-Child c) h
+child_known version zero first high c ns e h = here (out-Child c) h
   where
-    here : (x : Child-F Child Twig) → SealsDatum x ns e → KnowsChild (keys_at (datum_in x)) ns e
-    here (KeptChild low addr key) h = kept_known (bare key ∷ []) low addr key ns e (Contains-push [] (bare key)) h
+    here : (x : Child-F Child Twig) → SealsDatum version x ns e → KnowsChild (keys_at (datum_in x)) ns e
+    here (KeptChild low addr key) h = kept_known version (bare key ∷ []) low addr key ns e (Contains-push [] (bare key)) h
     here (Grown low twig) h = absurd h
-child_known (suc level) first high c ns e h = here (λ first high c ns e h. child_known level first high c ns e h) (out-Child c) h
+child_known version (suc level) first high c ns e h = here (λ first high c ns e h. child_known version level first high c ns e h) (out-Child c) h
   where
-    here : ((first high : ℕ) (c : Child) (ns : List Sealed) (e : Entry) → Seals level first c ns e → KnowsChild (keys_at (stubs level high c)) ns e) →
-        (x : Child-F Child Twig) → SealsIn (Seals level) level first x ns e → KnowsChild (keys_at (stubs_in (stubs level) (suc level) high x)) ns e
-    here one (KeptChild low addr key) h = kept_known (bare key ∷ []) low addr key ns e (Contains-push [] (bare key)) h
+    here : ((first high : ℕ) (c : Child) (ns : List Sealed) (e : Entry) → Seals version level first c ns e → KnowsChild (keys_at (stubs level high c)) ns e) →
+        (x : Child-F Child Twig) → SealsIn version (Seals version level) level first x ns e → KnowsChild (keys_at (stubs_in (stubs level) (suc level) high x)) ns e
+    here one (KeptChild low addr key) h = kept_known version (bare key ∷ []) low addr key ns e (Contains-push [] (bare key)) h
     here one (Grown low twig) h =
-        let below = children_known level one first high (children_of twig) h.node.below h.node.entries h.node.each in
+        let below = children_known version level one first high (children_of twig) h.node.below h.node.entries h.node.each in
         let n : Sealed = record { addr = e.addr; key = e.key; level = suc level; entries = h.node.entries } in
         let all = node_known (keys_at (stubs_by low_of (stubs level) high (children_of twig))) h.node.below ns n h.node.entries h.node.is refl below in
         record { nodes = all.0; own = all.1 }
 
-pub children_keys : (level first high : ℕ) (cs : List Child) (ns : List Sealed) (es : List Entry) → SealsEach (Seals level) first cs ns es → KnowsChildren (keys_at (stubs_by low_of (stubs level) high cs)) ns es
-children_keys level first high cs ns es h = children_known level (child_known level) first high cs ns es h
+pub children_keys : (version level first high : ℕ) (cs : List Child) (ns : List Sealed) (es : List Entry) → SealsEach (Seals version level) first cs ns es → KnowsChildren (keys_at (stubs_by low_of (stubs level) high cs)) ns es
+children_keys version level first high cs ns es h = children_known version level (child_known version level) first high cs ns es h
 
-pub node_keys : (level first high : ℕ) (cs : List Child) (ns : List Sealed) (addr : ℕ) (key : List ℕ) → SealsNode (Seals level) level first cs ns addr key → KeysAreFrom (keys_at (stubs_by low_of (stubs level) high cs)) ns
-node_keys level first high cs ns addr key h =
+pub node_keys : (version level first high : ℕ) (cs : List Child) (ns : List Sealed) (addr : ℕ) (key : List ℕ) → SealsNode version (Seals version level) level first cs ns addr key → KeysAreFrom (keys_at (stubs_by low_of (stubs level) high cs)) ns
+node_keys version level first high cs ns addr key h =
     let n : Sealed = record { addr = addr; key = key; level = suc level; entries = h.entries } in
-    (node_known (keys_at (stubs_by low_of (stubs level) high cs)) h.below ns n h.entries h.is refl (children_keys level first high cs h.below h.entries h.each)).0
+    (node_known (keys_at (stubs_by low_of (stubs level) high cs)) h.below ns n h.entries h.is refl (children_keys version level first high cs h.below h.entries h.each)).0
 
 -- ---- what the medium keeps
 
 -- the page of a sealed node is a record of its address under its key
-page_is : (n : Sealed) → n.addr < 2 ^ 64 → Fits n → masked (bare n.key) (page_of n) ≡ record_bytes 1 n.addr (NodeRecord n.level n.entries)
-page_is n small fits = masked_bare n.key (page_of n) ∙ masked-masked n.key (record_bytes 1 n.addr (NodeRecord n.level n.entries)) (omega (arith, record_length 1 n.addr (NodeRecord n.level n.entries) small fits.0))
+page_is : (version : ℕ) (n : Sealed) → n.addr < 2 ^ 64 → Fits version n → masked (bare n.key) (page_of n) ≡ record_bytes (version_of n.key) n.addr (NodeRecord n.level n.entries)
+page_is version n small fits = masked_bare n.key (page_of n) ∙ masked-masked n.key (record_bytes (version_of n.key) n.addr (NodeRecord n.level n.entries)) (omega (arith, record_length (version_of n.key) n.addr (NodeRecord n.level n.entries) small fits.in_range))
 
-sealed_at : (first i : ℕ) (ns : List Sealed) (more : List (List ℕ)) (page : List ℕ) → AreFrom first ns → AllByRecursion Fits ns → first + length ns ≤ 2 ^ 32 → slice_get (map page_of ns) i ≡ Some page →
+sealed_at : (version first i : ℕ) (ns : List Sealed) (more : List (List ℕ)) (page : List ℕ) → AreFrom first ns → AllByRecursion (Fits version) ns → first + length ns ≤ 2 ^ 32 → slice_get (map page_of ns) i ≡ Some page →
     IsSealedRecord (keys_in ns ++ more) i (first + i) page
-sealed_at first i [] more page from fits small there = absurd cc
-sealed_at first zero (n ∷ ns) more page from fits small there =
+sealed_at version first i [] more page from fits small there = absurd cc
+sealed_at version first zero (n ∷ ns) more page from fits small there =
     let is : page_of n ≡ page = cc in
     let here : n.addr ≡ first + 0 = omega (arith, from.0) in
     record {
       key = bare n.key;
       listed = refl;
-      version = 1;
+      version = version_of n.key;
       value = NodeRecord n.level n.entries;
-      in_range = subst (λ a. FitsRecord 1 a (NodeRecord n.level n.entries)) here fits.0.0;
-      spelled = ap (masked (bare n.key)) (sym is) ∙ page_is n (omega (arith, from.0, small)) fits.0 ∙ ap (λ a. record_bytes 1 a (NodeRecord n.level n.entries)) here;
+      in_range = subst (λ a. FitsRecord (version_of n.key) a (NodeRecord n.level n.entries)) here fits.0.in_range;
+      spelled = ap (masked (bare n.key)) (sym is) ∙ page_is version n (omega (arith, from.0, small)) fits.0 ∙ ap (λ a. record_bytes (version_of n.key) a (NodeRecord n.level n.entries)) here;
     }
-sealed_at first (suc i) (n ∷ ns) more page from fits small there =
-    let rest = sealed_at (suc first) i ns more page from.1 fits.1 (omega (arith, small)) there in
+sealed_at version first (suc i) (n ∷ ns) more page from fits small there =
+    let rest = sealed_at version (suc first) i ns more page from.1 fits.1 (omega (arith, small)) there in
     let at : suc first + i ≡ first + suc i = omega arith in
     record {
       key = rest.key;
@@ -193,35 +193,35 @@ sealed_at first (suc i) (n ∷ ns) more page from fits small there =
       spelled = rest.spelled ∙ ap (λ a. record_bytes rest.version a rest.value) at;
     }
 
-handed_nodes : (ns : List Sealed) (more : List (List ℕ)) (before after : Image) → after.recorded ≡ before.recorded ++ map page_of ns → AreInOrder (length before.recorded) ns → length before.recorded + length ns ≤ 2 ^ 32 →
+handed_nodes : (version : ℕ) (ns : List Sealed) (more : List (List ℕ)) (before after : Image) → after.recorded ≡ before.recorded ++ map page_of ns → AreInOrder version (length before.recorded) ns → length before.recorded + length ns ≤ 2 ^ 32 →
     HandedOver (keys_in ns ++ more) before after
-handed_nodes ns more before after pages order small = record {
+handed_nodes version ns more before after pages order small = record {
   position = λ addr. addr - length before.recorded;
   sealed = λ addr page added there.
       let from = added.0 in
       let read : slice_get (map page_of ns) (addr - length before.recorded) ≡ Some page = sym (get_behind before.recorded (map page_of ns) addr from) ∙ ap (λ ps. slice_get ps addr) (sym pages) ∙ there in
       let at : length before.recorded + (addr - length before.recorded) ≡ addr = omega (arith, from) in
       subst (λ a. IsSealedRecord (keys_in ns ++ more) (addr - length before.recorded) a page) at
-      (sealed_at (length before.recorded) (addr - length before.recorded) ns more page order.from order.fits small read);
+      (sealed_at version (length before.recorded) (addr - length before.recorded) ns more page order.from order.fits small read);
   apart = λ one other added added' same. let a = added.0 in let b = added'.0 in omega (arith, a, b, same);
 }
 
-own_nodes : (keys pages : List (List ℕ)) (ns : List Sealed) → HaveOwnKeys keys pages → AreFrom (length pages) ns → AllByRecursion Fits ns → KeysAreFrom keys ns → length pages + length ns ≤ 2 ^ 32 → HaveOwnKeys (keys ++ keys_in ns) (pages ++ map page_of ns)
-own_nodes keys pages [] own from fits known small = subst (λ ks. HaveOwnKeys ks (pages ++ [])) (sym (append-nil keys)) (subst (HaveOwnKeys keys) (sym (append-nil pages)) own)
-own_nodes keys pages (n ∷ ns) own from fits known small =
+own_nodes : (version : ℕ) (keys pages : List (List ℕ)) (ns : List Sealed) → HaveOwnKeys keys pages → AreFrom (length pages) ns → AllByRecursion (Fits version) ns → KeysAreFrom keys ns → length pages + length ns ≤ 2 ^ 32 → HaveOwnKeys (keys ++ keys_in ns) (pages ++ map page_of ns)
+own_nodes version keys pages [] own from fits known small = subst (λ ks. HaveOwnKeys ks (pages ++ [])) (sym (append-nil keys)) (subst (HaveOwnKeys keys) (sym (append-nil pages)) own)
+own_nodes version keys pages (n ∷ ns) own from fits known small =
     let page = page_of n in
     let value = NodeRecord n.level n.entries in
-    let is = page_is n (omega (arith, from.0, small)) fits.0 in
+    let is = page_is version n (omega (arith, from.0, small)) fits.0 in
     let key = bare n.key in
-    let opens = subst (λ a. Opens key a page) from.0 (opens_record key page 1 n.addr value is) in
+    let opens = subst (λ a. Opens key a page) from.0 (opens_record key page (version_of n.key) n.addr value is) in
     let yields : (other : List ℕ) → Yields key page other → Contains (keys ++ key ∷ []) other = λ other y.
     Contains-append_left keys (key ∷ []) other
     (All-contains (Contains keys) (map (λ (e : Entry). bare e.key) n.entries) other
     (All-map (Contains keys) (λ (e : Entry). bare e.key) n.entries (All-from_recursion (λ (e : Entry). Contains keys (bare e.key)) n.entries known.0))
-    (node_yields key page other 1 n.addr n.level n.entries fits.0.0 is y)) in
+    (node_yields key page other (version_of n.key) n.addr n.level n.entries fits.0.in_range is y)) in
     let one = own_page keys pages key page own opens yields in
     let next : suc (length pages) ≡ length (pages ++ page ∷ []) = omega (arith, length-append pages (page ∷ [])) in
-    let rest = own_nodes (keys ++ key ∷ []) (pages ++ page ∷ []) ns one (subst (λ m. AreFrom m ns) next from.1) fits.1 known.1 (omega (arith, next, small)) in
+    let rest = own_nodes version (keys ++ key ∷ []) (pages ++ page ∷ []) ns one (subst (λ m. AreFrom m ns) next from.1) fits.1 known.1 (omega (arith, next, small)) in
     subst (λ ks. HaveOwnKeys ks (pages ++ (page ∷ map page_of ns))) (append_assoc keys (key ∷ []) (keys_in ns))
     (subst (HaveOwnKeys ((keys ++ key ∷ []) ++ keys_in ns)) (append_assoc pages (page ∷ []) (map page_of ns)) rest)
 
@@ -245,18 +245,18 @@ abbrev pub AreKnown : List Sealed → List (List ℕ) → Type 0
 AreKnown ns keys = AllByRecursion (λ (n : Sealed). Contains keys (bare n.key)) ns
 
 -- the pages of nodes in order, and perhaps keys were drawn for which there is no page
-hands_over : (old new : History) (places : List Stub) (ns : List Sealed) (more : List (List ℕ)) → CellStays old new → new.present.recorded ≡ old.present.recorded ++ map page_of ns → length new.present.recorded ≤ 2 ^ 32 →
-    AreInOrder (length old.present.recorded) ns → KeysAreFrom (keys_at places) ns → HandsOver (keys_in ns ++ more) old new places (AreKnown ns)
-hands_over old new places ns more cell pages small order known =
+hands_over : (version : ℕ) (old new : History) (places : List Stub) (ns : List Sealed) (more : List (List ℕ)) → CellStays old new → new.present.recorded ≡ old.present.recorded ++ map page_of ns → length new.present.recorded ≤ 2 ^ 32 →
+    AreInOrder version (length old.present.recorded) ns → KeysAreFrom (keys_at places) ns → HandsOver (keys_in ns ++ more) old new places (AreKnown ns)
+hands_over version old new places ns more cell pages small order known =
     let room : length old.present.recorded + length ns ≤ 2 ^ 32 = omega (arith, small, ap length pages, length-append old.present.recorded (map page_of ns), length-map ns page_of) in
     record {
-      handed = handed_nodes ns more old.present new.present pages order room;
+      handed = handed_nodes version ns more old.present new.present pages order room;
       keeps = λ keys kept ready.
           let given = keys_more (keys_at places) keys ns (listed_at keys places ready.listed) known in
           let own : HaveOwnKeys (keys ++ (keys_in ns ++ more)) new.present.recorded =
           subst (HaveOwnKeys (keys ++ (keys_in ns ++ more))) (sym pages)
           (subst (λ ks. HaveOwnKeys ks (old.present.recorded ++ map page_of ns)) (append_assoc keys (keys_in ns) more)
-          (own_more (keys ++ keys_in ns) more (old.present.recorded ++ map page_of ns) (own_nodes keys old.present.recorded ns kept.pages order.from order.fits given room))) in
+          (own_more (keys ++ keys_in ns) more (old.present.recorded ++ map page_of ns) (own_nodes version keys old.present.recorded ns kept.pages order.from order.fits given room))) in
           record {
             kept = record {
               extends = cell.extends;
@@ -268,13 +268,13 @@ hands_over old new places ns more cell pages small order known =
     }
 
 -- a sealing that was done
-pub keeps_sealed : (tells : Type 0) (drawn drawn_now : Option (List (List ℕ))) (old new : History) (head : ℕ) (places : List Stub) (ns : List Sealed) → (tells → CellStays old new) →
-    (tells → new.present.recorded ≡ old.present.recorded ++ map page_of ns) → (tells → length old.present.recorded ≡ head) → (tells → length new.present.recorded ≤ 2 ^ 32) → AreNodesOver head places ns →
+pub keeps_sealed : (version : ℕ) (tells : Type 0) (drawn drawn_now : Option (List (List ℕ))) (old new : History) (head : ℕ) (places : List Stub) (ns : List Sealed) → (tells → CellStays old new) →
+    (tells → new.present.recorded ≡ old.present.recorded ++ map page_of ns) → (tells → length old.present.recorded ≡ head) → (tells → length new.present.recorded ≤ 2 ^ 32) → AreNodesOver version head places ns →
     DrewAll drawn (keys_in ns) drawn_now → KeepsKeys tells drawn drawn_now old new (KnowsPlaces old.present places) (AreKnown ns)
-keeps_sealed tells drawn drawn_now old new head places ns cell pages size small over drew =
+keeps_sealed version tells drawn drawn_now old new head places ns cell pages size small over drew =
     let all : tells → HandsOver (keys_in ns) old new places (AreKnown ns) = λ told.
     subst (λ ks. HandsOver ks old new places (AreKnown ns)) (append-nil (keys_in ns))
-    (hands_over old new places ns [] (cell told) (pages told) (small told) (subst (λ n. AreInOrder n ns) (sym (size told)) over.order) over.keys) in
+    (hands_over version old new places ns [] (cell told) (pages told) (small told) (subst (λ n. AreInOrder version n ns) (sym (size told)) over.order) over.keys) in
     record {
       grew = keys_in ns;
       drew = drew;
@@ -287,9 +287,9 @@ from_front : (first : ℕ) (xs ys : List Sealed) → AreFrom first (xs ++ ys) �
 from_front first [] ys h = tt
 from_front first (x ∷ xs) ys h = (h.0, from_front (suc first) xs ys h.1)
 
-fits_front : (xs ys : List Sealed) → AllByRecursion Fits (xs ++ ys) → AllByRecursion Fits xs
-fits_front [] ys h = tt
-fits_front (x ∷ xs) ys h = (h.0, fits_front xs ys h.1)
+fits_front : (version : ℕ) (xs ys : List Sealed) → AllByRecursion (Fits version) (xs ++ ys) → AllByRecursion (Fits version) xs
+fits_front version [] ys h = tt
+fits_front version (x ∷ xs) ys h = (h.0, fits_front version xs ys h.1)
 
 keys_front : (keys : List (List ℕ)) (xs ys : List Sealed) → KeysAreFrom keys (xs ++ ys) → KeysAreFrom keys xs
 keys_front keys [] ys h = tt
@@ -308,9 +308,9 @@ pages_are old new nodes (n ∷ more) (inr (reads, is), none) =
     ∙ ap (λ ms. old.recorded ++ map page_of (nodes ++ n ∷ ms)) (sym none))
 
 -- a sealing that a fault cut off
-pub keeps_stopped : (tells : Type 0) (drawn drawn_now : Option (List (List ℕ))) (old new : History) (head : ℕ) (places : List Stub) → (tells → CellStays old new) → (tells → length old.present.recorded ≡ head) →
-    (tells → length new.present.recorded ≤ 2 ^ 32) → StopsFrom head places tells old.present new.present drawn drawn_now → KeepsKeys tells drawn drawn_now old new (KnowsPlaces old.present places) (λ keys. Unit {0})
-keeps_stopped tells drawn drawn_now old new head places cell size small stops =
+pub keeps_stopped : (version : ℕ) (tells : Type 0) (drawn drawn_now : Option (List (List ℕ))) (old new : History) (head : ℕ) (places : List Stub) → (tells → CellStays old new) → (tells → length old.present.recorded ≡ head) →
+    (tells → length new.present.recorded ≤ 2 ^ 32) → StopsFrom version head places tells old.present new.present drawn drawn_now → KeepsKeys tells drawn drawn_now old new (KnowsPlaces old.present places) (λ keys. Unit {0})
+keeps_stopped version tells drawn drawn_now old new head places cell size small stops =
     let nodes = stops.stops.nodes in
     let last = stops.stops.last in
     let all : tells → HandsOver (keys_in (nodes ++ last)) old new places (λ keys. Unit {0}) = λ told. by told (pages_are old.present stops.written nodes last (stops.stops.image told)) in
@@ -329,8 +329,8 @@ keeps_stopped tells drawn drawn_now old new head places cell size small stops =
     same i (inl is) = ap (λ (i : Image). i.recorded) is
     same i (inr is) = ap (λ (i : Image). i.recorded) is
 
-    order : tells → AreInOrder (length old.present.recorded) (stops.stops.nodes ++ stops.stops.last)
-    order told = subst (λ n. AreInOrder n (stops.stops.nodes ++ stops.stops.last)) (sym (size told)) stops.stops.are.order
+    order : tells → AreInOrder version (length old.present.recorded) (stops.stops.nodes ++ stops.stops.last)
+    order told = subst (λ n. AreInOrder version n (stops.stops.nodes ++ stops.stops.last)) (sym (size told)) stops.stops.are.order
 
     by : tells → Pages old.present stops.written stops.stops.nodes stops.stops.last → HandsOver (keys_in (stops.stops.nodes ++ stops.stops.last)) old new places (λ keys. Unit {0})
     by told (Without is) =
@@ -339,12 +339,12 @@ keeps_stopped tells drawn drawn_now old new head places cell size small stops =
         let o = order told in
         subst (λ ks. HandsOver ks old new places (λ keys. Unit {0})) (sym (map-append (λ (n : Sealed). bare n.key) nodes last))
         (weaken (keys_in nodes ++ keys_in last) nodes
-        (hands_over old new places nodes (keys_in last) (cell told) (same new.present (stops.synced told) ∙ is) (small told)
-        (record { from = from_front (length old.present.recorded) nodes last o.from; fits = fits_front nodes last o.fits }) (keys_front (keys_at places) nodes last stops.stops.are.keys)))
+        (hands_over version old new places nodes (keys_in last) (cell told) (same new.present (stops.synced told) ∙ is) (small told)
+        (record { from = from_front (length old.present.recorded) nodes last o.from; fits = fits_front version nodes last o.fits }) (keys_front (keys_at places) nodes last stops.stops.are.keys)))
     by told (With is) =
         let all = stops.stops.nodes ++ stops.stops.last in
         subst (λ ks. HandsOver ks old new places (λ keys. Unit {0})) (append-nil (keys_in all))
-        (weaken (keys_in all ++ []) all (hands_over old new places all [] (cell told) (same new.present (stops.synced told) ∙ is) (small told) (order told) stops.stops.are.keys))
+        (weaken (keys_in all ++ []) all (hands_over version old new places all [] (cell told) (same new.present (stops.synced told) ∙ is) (small told) (order told) stops.stops.are.keys))
 
 pub places_more_keys : (keys more : List (List ℕ)) (places : List Stub) → AllByRecursion (λ s. Contains keys (bare s.key)) places → AllByRecursion (λ s. Contains (keys ++ more) (bare s.key)) places
 places_more_keys keys more [] h = tt

@@ -56,21 +56,21 @@ unsnoc Below first (d ∷ cs) c ns es h =
       entries_are = h.entries_are ∙ ap (λ xs. h.entry ∷ xs) rest.entries_are;
     }
 
-pub kept_is : (level first : ℕ) (c : Child) (low addr : ℕ) (key : List ℕ) (ns : List Sealed) (e : Entry) → c ≡ made.Kept low addr key → Seals level first c ns e → SealsKept low addr key ns e
+pub kept_is : (version level first : ℕ) (c : Child) (low addr : ℕ) (key : List ℕ) (ns : List Sealed) (e : Entry) → c ≡ made.Kept low addr key → Seals version level first c ns e → SealsKept version low addr key ns e
 unfolding Seals
-kept_is zero first c low addr key ns e is h = subst (λ x. SealsDatum x ns e) (ap out-Child is ∙ made.outs-Kept low addr key) h
-kept_is (suc level) first c low addr key ns e is h = subst (λ x. SealsIn (Seals level) level first x ns e) (ap out-Child is ∙ made.outs-Kept low addr key) h
+kept_is version zero first c low addr key ns e is h = subst (λ x. SealsDatum version x ns e) (ap out-Child is ∙ made.outs-Kept low addr key) h
+kept_is version (suc level) first c low addr key ns e is h = subst (λ x. SealsIn version (Seals version level) level first x ns e) (ap out-Child is ∙ made.outs-Kept low addr key) h
 
 pub kept_none : (level low addr : ℕ) (key : List ℕ) (c : Child) → c ≡ made.Kept low addr key → nodes level c ≡ 0
 unfolding nodes
 kept_none zero low addr key c is = refl
 kept_none (suc level) low addr key c is = ap (nodes_in (nodes level)) (ap out-Child is ∙ made.outs-Kept low addr key)
 
-pub grown_is : (level below first : ℕ) (c : Child) (low : ℕ) (twig : Twig) (ns : List Sealed) (e : Entry) → c ≡ made.Grown low twig → level ≡ suc below → Seals level first c ns e → SealsNode (Seals below) below first (children_of twig) ns e.addr e.key
+pub grown_is : (version level below first : ℕ) (c : Child) (low : ℕ) (twig : Twig) (ns : List Sealed) (e : Entry) → c ≡ made.Grown low twig → level ≡ suc below → Seals version level first c ns e → SealsNode version (Seals version below) below first (children_of twig) ns e.addr e.key
 unfolding Seals
-grown_is level below first c low twig ns e is level_is h =
-    let at = subst (λ m. Seals m first c ns e) level_is h in
-    (subst (λ x. SealsIn (Seals below) below first x ns e) (ap out-Child is ∙ made.outs-Grown low twig) at).node
+grown_is version level below first c low twig ns e is level_is h =
+    let at = subst (λ m. Seals version m first c ns e) level_is h in
+    (subst (λ x. SealsIn version (Seals version below) below first x ns e) (ap out-Child is ∙ made.outs-Grown low twig) at).node
 
 -- ---- data records
 

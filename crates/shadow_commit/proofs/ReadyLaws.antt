@@ -9,8 +9,8 @@ use Rattle.std.proofs.lemmas.List.Elements.{All-from_recursion, recursion_from_A
 use Rattle.std.proofs.lemmas.List.Sorted.{All-permutation, Contains-permutation, IsPermutation-sym}
 use Rattle.std.specs.List.Sorted.{IsPermutation}
 use Rattle.platform.specs.Image.{Image, IsWhole, all_synced, with_cell}
-use Rattle.sdbt_base.specs.Keys.{bare, key_size, most_entries, IsKeyOf}
-use Rattle.node_codec.specs.Laws.{most_at_most}
+use Rattle.sdbt_base.specs.Keys.{bare, key_size, most_entries}
+use Rattle.record_versions.specs.Versions.{IsVersion}
 use Rattle.root_codec.specs.declared.root.Root.{Root}
 use Rattle.root_codec.specs.RootRecord.{FitsRoot, root_bytes}
 use Rattle.page_store.specs.declared.wants.Want.{Want}
@@ -46,24 +46,20 @@ use Rattle.shadow_commit.proofs.OrderLaws.{node_in_order, records_at}
 use Rattle.grove_accounts.proofs.ListLaws.{apart_permutation}
 use Rattle.shadow_commit.proofs.ApartLaws.{IsWithin, ReadsAs, with_fresh, fresh_within, kept_reads, fresh_reads}
 
--- in version 1 keys have no digest
-pub plain_below : (head version : ℕ) (ss : List Stub) → version ≡ 1 → AreBelow (bound head (key_size version)) ss → AreBelow (bound head 32) ss
-plain_below head version ss first h = subst (λ (v : ℕ). AreBelow (bound head (key_size v)) ss) first h
-
 -- the root node in memory
-pub record IsRootTwig (order blocks level head : ℕ) (top : Child) (twig : Twig) : Type 0 where
+pub record IsRootTwig (version order blocks level head : ℕ) (top : Child) (twig : Twig) : Type 0 where
   pub shaped : IsTwig order level (top_least level) order 0 blocks twig
-  pub under : AreBelow (bound head 32) (stubs_below level blocks twig)
+  pub under : AreBelow (bound head (key_size version)) (stubs_below level blocks twig)
   pub count : nodes (suc level) top ≡ suc (nodes_below level twig)
   pub places : stubs (suc level) blocks top ≡ stubs_below level blocks twig
 
-pub root_twig : (order blocks level head low : ℕ) (top : Child) (twig : Twig) → top ≡ made.Grown low twig → IsTop order level blocks top → AreBelow (bound head 32) (stubs (suc level) blocks top) → IsRootTwig order blocks level head top twig
+pub root_twig : (version order blocks level head low : ℕ) (top : Child) (twig : Twig) → top ≡ made.Grown low twig → IsTop order level blocks top → AreBelow (bound head (key_size version)) (stubs (suc level) blocks top) → IsRootTwig version order blocks level head top twig
 unfolding stubs nodes
-root_twig order blocks level head low top twig is shaped under =
+root_twig version order blocks level head low top twig is shaped under =
     let out = ap out-Child is ∙ made.outs-Grown low twig in
     record {
       shaped = (subst (IsTopBy order level blocks) out shaped).1;
-      under = subst (λ x. AreBelow (bound head 32) (stubs_in (stubs level) (suc level) blocks x)) out under;
+      under = subst (λ x. AreBelow (bound head (key_size version)) (stubs_in (stubs level) (suc level) blocks x)) out under;
       count = ap (nodes_in (nodes level)) out;
       places = ap (stubs_in (stubs level) (suc level) blocks) out;
     }
@@ -78,7 +74,7 @@ least_is : (level : ℕ) → top_least level ≡ (if suc level == 1 then 0 else 
 least_is zero = refl
 least_is (suc level) = rw (not_one level) refl
 
-abbrev pub can_root : (head capacity : ℕ) (root : Root) (mapped : ℕ) (top : Child) (twig : Twig) (at : CanSealTop head capacity root mapped top) → IsRootTwig root.order root.blocks at.level head top twig → CanSeal head capacity twig
+abbrev pub can_root : (head capacity : ℕ) (root : Root) (mapped : ℕ) (top : Child) (twig : Twig) (at : CanSealTop head capacity root mapped top) → IsRootTwig root.version root.order root.blocks at.level head top twig → CanSeal root.version head capacity twig
 can_root head capacity root mapped top twig at s = record {
   order = root.order;
   level = at.level;
@@ -86,7 +82,8 @@ can_root head capacity root mapped top twig at s = record {
   low = 0;
   high = root.blocks;
   shaped = s.shaped;
-  order_most = most_at_most root.version root.order at.in_range.version at.in_range.order_most;
+  version_known = at.in_range.version;
+  order_most = at.in_range.order_most;
   level_most = at.level_most;
   blocks = at.in_range.blocks_most;
   below = s.under;
@@ -106,16 +103,16 @@ fresh_below first end (p ∷ ps) h = (h.0.1, fresh_below first end ps h.1)
 
 -- the tree of the next root record
 pub stands_with : (old new : Image) (root next : Root) (mapped level head : ℕ) (top : Child) (twig : Twig) (ns : List Sealed) (each : List Parts) → IsWhole old → head ≡ length old.recorded →
-    FitsRoot root → root.version ≡ 1 → level < 20 → IsRootTwig root.order root.blocks level head top twig → SealsNode (Seals level) level head (children_of twig) ns next.addr next.key → head + length ns ≤ 2 ^ 32 →
-    IsNextRoot root mapped (suc level) (head + length ns) next → FitsRoot next → IsKeyOf next.version next.key → new ≡ all_synced (with_nodes old ns) →
+    FitsRoot root → level < 20 → IsRootTwig root.version root.order root.blocks level head top twig → SealsNode root.version (Seals root.version level) level head (children_of twig) ns next.addr next.key → head + length ns ≤ 2 ^ 32 →
+    IsNextRoot root mapped (suc level) (head + length ns) next → FitsRoot next → new ≡ all_synced (with_nodes old ns) →
     Stand old root.order (stubs (suc level) root.blocks top) each mapped → StandsWith new next ns each
-stands_with old new root next mapped level head top twig ns each whole head_is fits first deep s sealed small next_is next_fits key_is new_is h =
-    let in_order = node_in_order root.order level (top_least level) head head 0 root.blocks next.addr next.key twig ns sealed s.shaped (most_at_most root.version root.order fits.version fits.order_most) deep fits.blocks_most s.under (omega arith) in
+stands_with old new root next mapped level head top twig ns each whole head_is fits deep s sealed small next_is next_fits new_is h =
+    let in_order = node_in_order root.version root.order level (top_least level) head head 0 root.blocks next.addr next.key twig ns sealed s.shaped (fits.version, fits.order_most) deep fits.blocks_most s.under (omega arith) in
     let more = map page_of ns in
-    let at = records_at head old.readable ns (head_is ∙ sym whole.as_many) in_order.from in_order.fits (omega (arith, small)) in
+    let at = records_at root.version head old.readable ns (head_is ∙ sym whole.as_many) in_order.from in_order.fits (omega (arith, small)) in
     let has = has_stays old.readable more root.order (stubs_below level root.blocks twig) each (subst (λ ss. HasEach old.readable root.order ss each) s.places h.has) in
     let want = want_at root.order root.blocks level next.addr in
-    let t = node_tree (old.readable ++ more) root.order level head want next.key twig ns each sealed s.shaped refl refl at has in
+    let t = node_tree root.version (old.readable ++ more) root.order level head want next.key twig ns each sealed s.shaped refl refl at has in
     let parts = t.0 in
     let are = t.2 in
     let fresh = fresh_within head (head + length ns) ns in_order.from (omega arith) in
@@ -147,9 +144,8 @@ stands_with old new root next mapped level head top twig ns each whole head_is f
       stands = record {
         cell = refl;
         in_range = next_fits;
-        key = key_is;
-        version = next_is.version ∙ first;
-        first = refl;
+        key = next_is.key;
+        version = refl;
         order = refl;
         blocks = refl;
         number = refl;
@@ -170,12 +166,12 @@ stands_with old new root next mapped level head top twig ns each whole head_is f
     }
 
 -- the next root record is in range
-pub next_fits : (root next : Root) (mapped level head count : ℕ) → FitsRoot root → root.version ≡ 1 → root.head ≤ head → mapped ≤ root.blocks → level < 20 → IsNextRoot root mapped (suc level) (head + count) next → 1 ≤ count → head + count ≤ 2 ^ 32 → length next.key ≡ 32 → FitsRoot next
-next_fits root next mapped level head count fits first within most deep is some small plain = record {
-  version = inl (is.version ∙ first);
+pub next_fits : (root next : Root) (mapped level head count : ℕ) → FitsRoot root → root.head ≤ head → mapped ≤ root.blocks → level < 20 → IsNextRoot root mapped (suc level) (head + count) next → 1 ≤ count → head + count ≤ 2 ^ 32 → FitsRoot next
+next_fits root next mapped level head count fits within most deep is some small = record {
+  version = subst IsVersion (sym is.version) fits.version;
   order_even = subst (λ (n : ℕ). n % 2 ≡ 0) (sym is.order) fits.order_even;
   order_least = omega (arith, is.order, fits.order_least);
-  order_most = subst (λ v. next.order ≤ most_entries v) (sym (is.version ∙ first)) (omega (arith, is.order, subst (λ v. root.order ≤ most_entries v) first fits.order_most));
+  order_most = subst (λ (v : ℕ). next.order ≤ most_entries v) (sym is.version) (subst (λ (n : ℕ). n ≤ most_entries root.version) (sym is.order) fits.order_most);
   level_least = omega (arith, is.level_is);
   level_most = omega (arith, is.level_is, deep);
   blocks_least = omega (arith, is.blocks, fits.blocks_least);
@@ -184,11 +180,11 @@ next_fits root next mapped level head count fits first within most deep is some 
   addr = omega (arith, is.addr, is.head_is);
   mapped = omega (arith, is.mapped_is, is.blocks, most);
   head = omega (arith, is.head_is, small);
-  sized = plain ∙ ap key_size (sym (is.version ∙ first));
+  sized = is.key.0;
 }
 
-pub one_more : (level first : ℕ) (cs : List Child) (ns : List Sealed) (addr : ℕ) (key : List ℕ) → SealsNode (Seals level) level first cs ns addr key → addr + 1 ≡ first + length ns
-one_more level first cs ns addr key h = omega (arith, h.addr_is, ap length h.is, length-append h.below (record { addr = addr; key = key; level = suc level; entries = h.entries } ∷ []))
+pub one_more : (version level first : ℕ) (cs : List Child) (ns : List Sealed) (addr : ℕ) (key : List ℕ) → SealsNode version (Seals version level) level first cs ns addr key → addr + 1 ≡ first + length ns
+one_more version level first cs ns addr key h = omega (arith, h.addr_is, ap length h.is, length-append h.below (record { addr = addr; key = key; level = suc level; entries = h.entries } ∷ []))
 
 -- ---- a tree whose root node is in memory
 
@@ -220,7 +216,6 @@ same_places head root mapped grove top can same = ap (stubs (suc (grove.level - 
 abbrev pub can_top : (head capacity : ℕ) (root : Root) (mapped : ℕ) (grove : Grove) (top : Child) → top ≡ grove.top → CanPrepare head root mapped grove → head + grown_in grove ≤ capacity → CanSealTop head capacity root mapped top
 can_top head capacity root mapped grove top same can room = record {
   in_range = can.in_range;
-  version = can.version;
   within = can.within;
   most = can.most;
   level = grove.level - 1;
@@ -231,14 +226,14 @@ can_top head capacity root mapped grove top same can room = record {
 }
 
 pub grove_twig : (head at : ℕ) (root : Root) (mapped : ℕ) (grove : Grove) (top : Child) (low : ℕ) (twig : Twig) → at ≡ head → CanPrepare head root mapped grove → top ≡ grove.top → top ≡ made.Grown low twig →
-    IsRootTwig root.order root.blocks (grove.level - 1) at top twig
+    IsRootTwig root.version root.order root.blocks (grove.level - 1) at top twig
 grove_twig head at root mapped grove top low twig at_is can same is =
     let shaped = subst (IsTop root.order (grove.level - 1) root.blocks) (sym same) (top_shaped head root mapped grove can) in
-    let below = subst (λ t. AreBelow (bound head 32) (stubs (suc (grove.level - 1)) root.blocks t)) (sym same) (subst (AreBelow (bound head 32)) (sym (places_are head root mapped grove can)) (plain_below head root.version (places_of grove) can.version can.below)) in
-    root_twig root.order root.blocks (grove.level - 1) at low top twig is shaped (subst (λ n. AreBelow (bound n 32) (stubs (suc (grove.level - 1)) root.blocks top)) (sym at_is) below)
+    let below = subst (λ t. AreBelow (bound head (key_size root.version)) (stubs (suc (grove.level - 1)) root.blocks t)) (sym same) (subst (AreBelow (bound head (key_size root.version))) (sym (places_are head root mapped grove can)) can.below) in
+    root_twig root.version root.order root.blocks (grove.level - 1) at low top twig is shaped (subst (λ n. AreBelow (bound n (key_size root.version)) (stubs (suc (grove.level - 1)) root.blocks top)) (sym at_is) below)
 
-abbrev pub can_twig : (head at capacity : ℕ) (root : Root) (mapped : ℕ) (grove : Grove) (top : Child) (twig : Twig) → at ≡ head → top ≡ grove.top → (can : CanPrepare head root mapped grove) → IsRootTwig root.order root.blocks (grove.level - 1) at top twig →
-    head + grown_in grove ≤ capacity → CanSeal at capacity twig
+abbrev pub can_twig : (head at capacity : ℕ) (root : Root) (mapped : ℕ) (grove : Grove) (top : Child) (twig : Twig) → at ≡ head → top ≡ grove.top → (can : CanPrepare head root mapped grove) → IsRootTwig root.version root.order root.blocks (grove.level - 1) at top twig →
+    head + grown_in grove ≤ capacity → CanSeal root.version at capacity twig
 can_twig head at capacity root mapped grove top twig at_is same can s room = record {
   order = root.order;
   level = grove.level - 1;
@@ -246,7 +241,8 @@ can_twig head at capacity root mapped grove top twig at_is same can s room = rec
   low = 0;
   high = root.blocks;
   shaped = s.shaped;
-  order_most = most_at_most root.version root.order can.in_range.version can.in_range.order_most;
+  version_known = can.in_range.version;
+  order_most = can.in_range.order_most;
   level_most = omega (arith, can.level_most, level_is grove can.sound);
   blocks = can.in_range.blocks_most;
   below = s.under;
@@ -261,13 +257,13 @@ sealed_as tells old new head head_now drawn drawn_now cache cache' cache_now roo
   written = s.written;
   adds = record {
     nodes = s.adds.nodes;
-    is = subst (λ n. Seals n head grove.top s.adds.nodes (record { low = 0; addr = next.addr; key = next.key })) (level_is grove can.sound)
-        (subst (λ t. Seals (suc (grove.level - 1)) head t s.adds.nodes (record { low = 0; addr = next.addr; key = next.key })) same s.adds.is);
+    is = subst (λ n. Seals root.version n head grove.top s.adds.nodes (record { low = 0; addr = next.addr; key = next.key })) (level_is grove can.sound)
+        (subst (λ t. Seals root.version (suc (grove.level - 1)) head t s.adds.nodes (record { low = 0; addr = next.addr; key = next.key })) same s.adds.is);
     image = s.adds.image;
     head = s.adds.head;
     drew = s.adds.drew;
   };
-  over = subst (λ ss. AreNodesOver head ss s.adds.nodes) (same_places head root mapped grove top can same) s.over;
+  over = subst (λ ss. AreNodesOver root.version head ss s.adds.nodes) (same_places head root mapped grove top can same) s.over;
   cached = s.cached ∙ ap (λ (c : Cached). with_sealed c s.adds.nodes) same_cache;
   synced = s.synced;
   next_is = record {
@@ -278,6 +274,7 @@ sealed_as tells old new head head_now drawn drawn_now cache cache' cache_now roo
     level_is = s.next_is.level_is ∙ level_is grove can.sound;
     mapped_is = s.next_is.mapped_is;
     addr = s.next_is.addr;
+    key = s.next_is.key;
     head_is = s.next_is.head_is;
   };
   in_range = s.in_range;
@@ -328,7 +325,7 @@ pub knows_new_tree : (tells : Type 0) (old new : Image) (head head_now : ℕ) (d
 knows_new_tree tells old new head head_now drawn drawn_now cache cache_now root mapped level top next high is keys told places nodes each stand below =
     let ns = is.adds.nodes in
     let with = is.stands told each stand in
-    let own = child_known level head high top ns (record { low = 0; addr = next.addr; key = next.key }) is.adds.is in
+    let own = child_known root.version level head high top ns (record { low = 0; addr = next.addr; key = next.key }) is.adds.is in
     let listed = listed_at keys (stubs level high top) places in
     let all : All (λ p. Contains keys (bare p.key)) with.parts.places =
     All-permutation (λ (p : Place). Contains keys (bare p.key)) (map place_of ns ++ (joined each).places) with.parts.places with.are.places
@@ -341,16 +338,16 @@ knows_new_tree tells old new head head_now drawn drawn_now cache cache_now root 
 
 -- ---- a commit that was not begun
 
-pub stops_before : (head : ℕ) (places : List Stub) (tells : Type 0) (image : Image) (drawn : Option (List (List ℕ))) → StopsFrom head places tells image image drawn drawn
-stops_before head places tells image drawn = record {
+pub stops_before : (version head : ℕ) (places : List Stub) (tells : Type 0) (image : Image) (drawn : Option (List (List ℕ))) → StopsFrom version head places tells image image drawn drawn
+stops_before version head places tells image drawn = record {
   written = image;
-  stops = stops_none (AreNodesOver head places) tells image image drawn drawn (record { order = record { from = tt; fits = tt }; keys = tt }) (λ told. refl) refl;
+  stops = stops_none (AreNodesOver version head places) tells image image drawn drawn (record { order = record { from = tt; fits = tt }; keys = tt }) (λ told. refl) refl;
   synced = λ told. inl refl;
 }
 
 -- a sealing that a fault cut off, over the same places
-pub stops_at : (head : ℕ) (places places' : List Stub) (tells : Type 0) (old new : Image) (drawn drawn_now : Option (List (List ℕ))) → places ≡ places' → StopsFrom head places tells old new drawn drawn_now → StopsFrom head places' tells old new drawn drawn_now
-stops_at head places places' tells old new drawn drawn_now same h = subst (λ ss. StopsFrom head ss tells old new drawn drawn_now) same h
+pub stops_at : (version head : ℕ) (places places' : List Stub) (tells : Type 0) (old new : Image) (drawn drawn_now : Option (List (List ℕ))) → places ≡ places' → StopsFrom version head places tells old new drawn drawn_now → StopsFrom version head places' tells old new drawn drawn_now
+stops_at version head places places' tells old new drawn drawn_now same h = subst (λ ss. StopsFrom version head ss tells old new drawn drawn_now) same h
 
 pub within_as : (head : ℕ) (root : Root) (mapped : ℕ) (grove : Grove) (top : Child) → CanPrepare head root mapped grove → top ≡ grove.top → (now : ℕ) → now ≤ head + nodes (suc (grove.level - 1)) top → now ≤ head + grown_in grove
 within_as head root mapped grove top can same now h = omega (arith, h, ap (nodes (suc (grove.level - 1))) same, grown_are grove can.sound)

@@ -1,5 +1,5 @@
 -- How sealings follow one another, and where they may be made.
-use Rattle.std.proofs.Common.{◌≡◌, ℕ, zero, suc, ◌+◌, ◌/◌, ◌<◌, ◌≤◌, List, [], ◌∷◌, ◌++◌, Option, Some, None, length, take, drop, get_or, map, refl, sym, ap, subst, ◌∙◌, arith, append_assoc, append-nil, length-append}
+use Rattle.std.proofs.Common.{◌≡◌, inl, inr, ℕ, zero, suc, ◌+◌, ◌/◌, ◌<◌, ◌≤◌, List, [], ◌∷◌, ◌++◌, Option, Some, None, length, take, drop, get_or, map, refl, sym, ap, subst, ◌∙◌, arith, append_assoc, append-nil, length-append}
 use Rattle.std.specs.Prelude.{Result, Ok, Err, IfOk, IsErr, IsErrOf, Contains}
 use Rattle.page_store.specs.declared.refusals.AppendFault.{AppendFault}
 use Rattle.page_store.specs.declared.refusals.AppendFault.TheVariants.{TapeFault, PlatformFault}
@@ -10,7 +10,11 @@ use Rattle.platform.proofs.Moments.{During-start, During-step, During-now, Durin
 use Rattle.std.specs.Option.{option_map}
 use Rattle.std.proofs.lemmas.List.{map-append, take_more}
 use Rattle.platform.specs.Image.{Image, with_page, MayHavePage}
-use Rattle.sdbt_base.specs.Keys.{bare}
+use Rattle.sdbt_base.specs.Keys.{bare, key_size, version_of}
+use Rattle.sdbt_base.proofs.KeyLaws.{bare_plain, bare_behind}
+use Rattle.record_versions.specs.Versions.{IsVersion}
+use Rattle.page_digest.specs.Digest.{digest, FitsDigest, length-digest}
+use Rattle.page_store.proofs.AppendLaws.{with_fit, plain_fit, same_mask}
 use Rattle.node_codec.specs.declared.body.Entry.{Entry}
 use Rattle.node_codec.specs.Record.{NodeRecord, FitsNode, record_bytes}
 use Rattle.seal_record.specs.Sealing.{masked}
@@ -72,7 +76,7 @@ adds_then Is Js Ks tells old mid new head head' head'' drawn drawn' drawn'' f h 
 
 -- one page
 pub adds_page : (tells : Type 0) (old new : Image) (head head' : ℕ) (drawn drawn' : Option (List (List ℕ))) (node : Sealed) (body : List ℕ) →
-    body ≡ record_bytes 1 node.addr (NodeRecord node.level node.entries) → (tells → new ≡ with_page old (masked node.key body) (masked node.key body)) → head' ≡ head + 1 → Drew drawn (bare node.key) drawn' →
+    body ≡ record_bytes (version_of node.key) node.addr (NodeRecord node.level node.entries) → (tells → new ≡ with_page old (masked node.key body) (masked node.key body)) → head' ≡ head + 1 → Drew drawn (bare node.key) drawn' →
     Adds (λ ns. ns ≡ node ∷ []) tells old new head head' drawn drawn'
 adds_page tells old new head head' drawn drawn' node body is image up drew = record {
   nodes = node ∷ [];
@@ -84,45 +88,46 @@ adds_page tells old new head head' drawn drawn' node body is image up drew = rec
 
 -- ---- a child in memory
 
-pub record IsGrownAt (order level high head : ℕ) (c : Child) (low : ℕ) (twig : Twig) : Type 0 where
+pub record IsGrownAt (version order level high head : ℕ) (c : Child) (low : ℕ) (twig : Twig) : Type 0 where
   pub below : ℕ
   pub level_is : level ≡ suc below
   pub shaped : IsTwig order below (order / 2) order low high twig
-  pub under : AreBelow (bound head 32) (stubs_below below high twig)
+  pub under : AreBelow (bound head (key_size version)) (stubs_below below high twig)
   pub places : stubs level high c ≡ stubs_below below high twig
   pub count : nodes level c ≡ suc (nodes_below below twig)
 
-pub grown_at : (order level high head : ℕ) (c : Child) (low : ℕ) (twig : Twig) → c ≡ made.Grown low twig → IsChild order level high c → AreBelow (bound head 32) (stubs level high c) → IsGrownAt order level high head c low twig
+pub grown_at : (version order level high head : ℕ) (c : Child) (low : ℕ) (twig : Twig) → c ≡ made.Grown low twig → IsChild order level high c → AreBelow (bound head (key_size version)) (stubs level high c) → IsGrownAt version order level high head c low twig
 unfolding IsChild stubs nodes
-grown_at order zero high head c low twig is shaped under =
+grown_at version order zero high head c low twig is shaped under =
     let out = ap out-Child is ∙ made.outs-Grown low twig in
     absurd (subst IsDatum out shaped)
-grown_at order (suc level) high head c low twig is shaped under =
+grown_at version order (suc level) high head c low twig is shaped under =
     let out = ap out-Child is ∙ made.outs-Grown low twig in
     record {
       below = level;
       level_is = refl;
       shaped = subst (IsChildBy (IsChild order level) order level high) out shaped;
-      under = subst (λ x. AreBelow (bound head 32) (stubs_in (stubs level) (suc level) high x)) out under;
+      under = subst (λ x. AreBelow (bound head (key_size version)) (stubs_in (stubs level) (suc level) high x)) out under;
       places = ap (stubs_in (stubs level) (suc level) high) out;
       count = ap (nodes_in (nodes level)) out;
     }
 
--- the key of a child on the medium has no digest
-pub kept_plain : (level high head : ℕ) (c : Child) (low addr : ℕ) (key : List ℕ) → c ≡ made.Kept low addr key → AreBelow (bound head 32) (stubs level high c) → length key ≡ 32
+-- the key of a child on the medium is of the version
+pub kept_size : (version level high head : ℕ) (c : Child) (low addr : ℕ) (key : List ℕ) → c ≡ made.Kept low addr key → AreBelow (bound head (key_size version)) (stubs level high c) → length key ≡ key_size version
 unfolding stubs
-kept_plain zero high head c low addr key is under = (subst (λ x. AreBelow (bound head 32) (datum_in x)) (ap out-Child is ∙ made.outs-Kept low addr key) under).0.1
-kept_plain (suc level) high head c low addr key is under =
-    (subst (λ x. AreBelow (bound head 32) (stubs_in (stubs level) (suc level) high x)) (ap out-Child is ∙ made.outs-Kept low addr key) under).0.1
+kept_size version zero high head c low addr key is under = (subst (λ x. AreBelow (bound head (key_size version)) (datum_in x)) (ap out-Child is ∙ made.outs-Kept low addr key) under).0.1
+kept_size version (suc level) high head c low addr key is under =
+    (subst (λ x. AreBelow (bound head (key_size version)) (stubs_in (stubs level) (suc level) high x)) (ap out-Child is ∙ made.outs-Kept low addr key) under).0.1
 
-abbrev pub can_below : (head capacity : ℕ) (c : Child) (low : ℕ) (twig : Twig) (at : CanSealChild head capacity c) → IsGrownAt at.order at.level at.high head c low twig → CanSeal head capacity twig
-can_below head capacity c low twig at s = record {
+abbrev pub can_below : (version head capacity : ℕ) (c : Child) (low : ℕ) (twig : Twig) (at : CanSealChild version head capacity c) → IsGrownAt version at.order at.level at.high head c low twig → CanSeal version head capacity twig
+can_below version head capacity c low twig at s = record {
   order = at.order;
   level = s.below;
   least = at.order / 2;
   low = low;
   high = at.high;
   shaped = s.shaped;
+  version_known = at.version_known;
   order_most = at.order_most;
   level_most = omega (arith, at.level_most, s.level_is);
   blocks = at.blocks;
@@ -130,39 +135,39 @@ can_below head capacity c low twig at s = record {
   room = omega (arith, at.room, s.count);
 }
 
-pub seals_grown : (level below first : ℕ) (c : Child) (low : ℕ) (twig : Twig) (ns : List Sealed) (addr : ℕ) (key : List ℕ) → c ≡ made.Grown low twig → level ≡ suc below →
-    SealsNode (Seals below) below first (children_of twig) ns addr key → Seals level first c ns (record { low = low; addr = addr; key = key })
+pub seals_grown : (version level below first : ℕ) (c : Child) (low : ℕ) (twig : Twig) (ns : List Sealed) (addr : ℕ) (key : List ℕ) → c ≡ made.Grown low twig → level ≡ suc below →
+    SealsNode version (Seals version below) below first (children_of twig) ns addr key → Seals version level first c ns (record { low = low; addr = addr; key = key })
 unfolding Seals
-seals_grown level below first c low twig ns addr key is level_is h =
+seals_grown version level below first c low twig ns addr key is level_is h =
     let out = ap out-Child is ∙ made.outs-Grown low twig in
-    let grown : SealsIn (Seals below) below first (Grown low twig) ns (record { low = low; addr = addr; key = key }) = record { low_is = refl; node = h } in
-    subst (λ m. Seals m first c ns (record { low = low; addr = addr; key = key })) (sym level_is)
-    (subst (λ x. SealsIn (Seals below) below first x ns (record { low = low; addr = addr; key = key })) (sym out) grown)
+    let grown : SealsIn version (Seals version below) below first (Grown low twig) ns (record { low = low; addr = addr; key = key }) = record { low_is = refl; node = h } in
+    subst (λ m. Seals version m first c ns (record { low = low; addr = addr; key = key })) (sym level_is)
+    (subst (λ x. SealsIn version (Seals version below) below first x ns (record { low = low; addr = addr; key = key })) (sym out) grown)
 
-pub seals_kept : (level first : ℕ) (c : Child) (low addr : ℕ) (key : List ℕ) (ns : List Sealed) (e : Entry) → c ≡ made.Kept low addr key → SealsKept low addr key ns e → Seals level first c ns e
+pub seals_kept : (version level first : ℕ) (c : Child) (low addr : ℕ) (key : List ℕ) (ns : List Sealed) (e : Entry) → c ≡ made.Kept low addr key → SealsKept version low addr key ns e → Seals version level first c ns e
 unfolding Seals
-seals_kept zero first c low addr key ns e is h = subst (λ x. SealsDatum x ns e) (sym (ap out-Child is ∙ made.outs-Kept low addr key)) h
-seals_kept (suc level) first c low addr key ns e is h = subst (λ x. SealsIn (Seals level) level first x ns e) (sym (ap out-Child is ∙ made.outs-Kept low addr key)) h
+seals_kept version zero first c low addr key ns e is h = subst (λ x. SealsDatum version x ns e) (sym (ap out-Child is ∙ made.outs-Kept low addr key)) h
+seals_kept version (suc level) first c low addr key ns e is h = subst (λ x. SealsIn version (Seals version level) level first x ns e) (sym (ap out-Child is ∙ made.outs-Kept low addr key)) h
 
 -- ---- a child of a node
 
-pub below_later : (head head' : ℕ) (ss : List Stub) → head ≤ head' → AreBelow (bound head 32) ss → AreBelow (bound head' 32) ss
-below_later head head' [] le h = tt
-below_later head head' (s ∷ ss) le h = ((omega (arith, h.0.0, le), h.0.1), below_later head head' ss le h.1)
+pub below_later : (version head head' : ℕ) (ss : List Stub) → head ≤ head' → AreBelow (bound head (key_size version)) ss → AreBelow (bound head' (key_size version)) ss
+below_later version head head' [] le h = tt
+below_later version head head' (s ∷ ss) le h = ((omega (arith, h.0.0, le), h.0.1), below_later version head head' ss le h.1)
 
 abbrev pub end_at : ℕ → ℕ → List Child → ℕ
 end_at high i cs = start_by low_of (drop (suc i) cs) high
 
-pub record IsChildAt (order level high head : ℕ) (cs : List Child) (i : ℕ) (c : Child) : Type 0 where
+pub record IsChildAt (version order level high head : ℕ) (cs : List Child) (i : ℕ) (c : Child) : Type 0 where
   pub shaped : IsChild order level (end_at high i cs) c
   pub end : end_at high i cs ≤ high
-  pub under : AreBelow (bound head 32) (stubs level (end_at high i cs) c)
+  pub under : AreBelow (bound head (key_size version)) (stubs level (end_at high i cs) c)
   pub places : Within (keys_at (stubs level (end_at high i cs) c)) (keys_at (stubs_by low_of (stubs level) high cs))
   pub count : sum_by (nodes level) cs ≡ sum_by (nodes level) (take i cs) + nodes level c + sum_by (nodes level) (drop (suc i) cs)
   pub more : take (i + 1) cs ≡ take i cs ++ c ∷ []
 
-pub child_at : (order level high head : ℕ) (cs : List Child) (i : ℕ) (c : Child) → i < length cs → c ≡ get_or cs i c → EachBy low_of (IsChild order level) high cs → AreBelow (bound head 32) (stubs_by low_of (stubs level) high cs) → IsChildAt order level high head cs i c
-child_at order level high head cs i c lt is each under =
+pub child_at : (version order level high head : ℕ) (cs : List Child) (i : ℕ) (c : Child) → i < length cs → c ≡ get_or cs i c → EachBy low_of (IsChild order level) high cs → AreBelow (bound head (key_size version)) (stubs_by low_of (stubs level) high cs) → IsChildAt version order level high head cs i c
+child_at version order level high head cs i c lt is each under =
     let split = split_here cs i c lt is in
     let fs = take i cs in
     let bs = drop (suc i) cs in
@@ -171,33 +176,34 @@ child_at order level high head cs i c lt is each under =
     let front = stubs_by low_of (stubs level) (low_of c) fs in
     let behind = stubs_by low_of (stubs level) high bs in
     let all : stubs_by low_of (stubs level) high cs ≡ front ++ (here ++ behind) = ap (stubs_by low_of (stubs level) high) split ∙ stubs_append low_of (stubs level) high fs (c ∷ bs) in
-    let places = subst (AreBelow (bound head 32)) all under in
+    let places = subst (AreBelow (bound head (key_size version))) all under in
     record {
       shaped = back.1;
       end = each_le low_of (IsChild order level) high bs back.2;
-      under = below_front head here behind (below_back head front (here ++ behind) places);
+      under = below_front (bound head (key_size version)) here behind (below_back (bound head (key_size version)) front (here ++ behind) places);
       places = λ x has. subst (λ ss. Contains (keys_at ss) x) (sym all) (in_places_right front (here ++ behind) x (in_places_left here behind x has));
       count = omega (arith, ap (sum_by (nodes level)) split, sum_append (nodes level) fs (c ∷ bs));
       more = rw (take_more cs i c lt, ← is) refl;
     }
 
 -- the child that a loop is at
-pub loop_child : (head capacity : ℕ) (twig : Twig) (cs : List Child) (i : ℕ) (c : Child) (at : CanSeal head capacity twig) → cs ≡ children_of twig → i < length cs → c ≡ get_or cs i c → IsChildAt at.order at.level at.high head cs i c
-loop_child head capacity twig cs i c at same lt here =
-    child_at at.order at.level at.high head cs i c lt here (subst (EachBy low_of (IsChild at.order at.level) at.high) (sym same) at.shaped.node.each)
-    (subst (λ xs. AreBelow (bound head 32) (stubs_by low_of (stubs at.level) at.high xs)) (sym same) at.below)
+pub loop_child : (version head capacity : ℕ) (twig : Twig) (cs : List Child) (i : ℕ) (c : Child) (at : CanSeal version head capacity twig) → cs ≡ children_of twig → i < length cs → c ≡ get_or cs i c → IsChildAt version at.order at.level at.high head cs i c
+loop_child version head capacity twig cs i c at same lt here =
+    child_at version at.order at.level at.high head cs i c lt here (subst (EachBy low_of (IsChild at.order at.level) at.high) (sym same) at.shaped.node.each)
+    (subst (λ xs. AreBelow (bound head (key_size version)) (stubs_by low_of (stubs at.level) at.high xs)) (sym same) at.below)
 
-abbrev pub can_child : (head capacity now capacity' : ℕ) (twig : Twig) (cs : List Child) (i : ℕ) (c : Child) (at : CanSeal head capacity twig) → IsChildAt at.order at.level at.high head cs i c →
-    cs ≡ children_of twig → head ≤ now → now ≡ head + sum_by (nodes at.level) (take i cs) → capacity' ≡ capacity → CanSealChild now capacity' c
-can_child head capacity now capacity' twig cs i c at s same le is cap = record {
+abbrev pub can_child : (version head capacity now capacity' : ℕ) (twig : Twig) (cs : List Child) (i : ℕ) (c : Child) (at : CanSeal version head capacity twig) → IsChildAt version at.order at.level at.high head cs i c →
+    cs ≡ children_of twig → head ≤ now → now ≡ head + sum_by (nodes at.level) (take i cs) → capacity' ≡ capacity → CanSealChild version now capacity' c
+can_child version head capacity now capacity' twig cs i c at s same le is cap = record {
   order = at.order;
   level = at.level;
   high = end_at at.high i cs;
   shaped = s.shaped;
+  version_known = at.version_known;
   order_most = at.order_most;
   level_most = omega (arith, at.level_most);
   blocks = omega (arith, at.blocks, s.end);
-  below = below_later head now _ le s.under;
+  below = below_later version head now _ le s.under;
   room = omega (arith, at.room, s.count, is, ap (sum_by (nodes at.level)) same, cap);
 }
 
@@ -247,11 +253,11 @@ pub if_ok : {A E : Type 0} (Q : A → Type 0) (r : Result A E) → ((x : A) → 
 if_ok Q (Ok x) f = f x refl
 if_ok Q (Err e) f = tt
 
-pub fits_as : (addr addr' level level' : ℕ) (es es' : List Entry) → addr ≡ addr' → level ≡ level' → es ≡ es' → FitsNode 1 addr level es → FitsNode 1 addr' level' es'
-fits_as addr addr' level level' es es' a l e h = subst (FitsNode 1 addr' level') e (subst (λ m. FitsNode 1 addr' m es) l (subst (λ n. FitsNode 1 n level es) a h))
+pub fits_as : (version addr addr' level level' : ℕ) (es es' : List Entry) → addr ≡ addr' → level ≡ level' → es ≡ es' → FitsNode version addr level es → FitsNode version addr' level' es'
+fits_as version addr addr' level level' es es' a l e h = subst (FitsNode version addr' level') e (subst (λ m. FitsNode version addr' m es) l (subst (λ n. FitsNode version n level es) a h))
 
-pub body_as : (addr addr' level level' : ℕ) (es es' : List Entry) → addr ≡ addr' → level ≡ level' → es ≡ es' → record_bytes 1 addr (NodeRecord level es) ≡ record_bytes 1 addr' (NodeRecord level' es')
-body_as addr addr' level level' es es' a l e = λ i. record_bytes 1 (a i) (NodeRecord (l i) (e i))
+pub body_as : (version addr addr' level level' : ℕ) (es es' : List Entry) → addr ≡ addr' → level ≡ level' → es ≡ es' → record_bytes version addr (NodeRecord level es) ≡ record_bytes version addr' (NodeRecord level' es')
+body_as version addr addr' level level' es es' a l e = λ i. record_bytes version (a i) (NodeRecord (l i) (e i))
 
 -- ---- levels
 
@@ -294,7 +300,7 @@ pub stops_none : (Are : List Sealed → Type 0) (tells : Type 0) (old new : Imag
 stops_none Are tells old new drawn drawn' are same undrawn = record { nodes = []; last = []; are = are; image = λ told. same told ∙ no_nodes old; drew = undrawn ∙ no_keys drawn }
 
 -- of one node the page may have been
-pub stops_one : (Are : List Sealed → Type 0) (tells : Type 0) (old new : Image) (drawn drawn' : Option (List (List ℕ))) (n : Sealed) (body : List ℕ) → Are (n ∷ []) → body ≡ record_bytes 1 n.addr (NodeRecord n.level n.entries) →
+pub stops_one : (Are : List Sealed → Type 0) (tells : Type 0) (old new : Image) (drawn drawn' : Option (List (List ℕ))) (n : Sealed) (body : List ℕ) → Are (n ∷ []) → body ≡ record_bytes (version_of n.key) n.addr (NodeRecord n.level n.entries) →
     (tells → MayHavePage old (masked n.key body) new) → Drew drawn (bare n.key) drawn' → Stops Are tells old new drawn drawn'
 stops_one Are tells old new drawn drawn' n body are is may drew = record {
   nodes = [];
@@ -303,6 +309,32 @@ stops_one Are tells old new drawn drawn' n body are is may drew = record {
   image = λ told. (subst (λ (i : Image). MayHavePage i (page_of n) new) (no_nodes old) (subst (λ (bytes : List ℕ). MayHavePage old (masked n.key bytes) new) is (may told)), refl);
   drew = drew;
 }
+
+-- the key of a page that may have been handed over, as it names this page in a version
+pub record IsNamed (version : ℕ) (key body : List ℕ) : Type 0 where
+  pub name : List ℕ
+  pub sized : length name ≡ key_size version
+  pub bare_is : bare name ≡ key
+  pub digested : FitsDigest name (masked name body)
+
+pub named_key : (version : ℕ) (key body : List ℕ) → IsVersion version → length key ≡ 32 → IsNamed version key body
+named_key version key body (inl one) plain = record {
+  name = key;
+  sized = plain ∙ ap key_size (sym one);
+  bare_is = bare_plain key plain;
+  digested = plain_fit key (masked key body) plain;
+}
+named_key version key body (inr two) plain =
+    let behind = digest (masked key body) in
+    let name = key ++ behind in
+    let bare_is : bare name ≡ key = bare_behind key behind plain (length-digest (masked key body)) in
+    let long : length name ≡ 64 = omega (arith, length-append key behind, plain, length-digest (masked key body)) in
+    record {
+      name = name;
+      sized = long ∙ ap key_size (sym two);
+      bare_is = bare_is;
+      digested = with_fit key behind name (masked name body) plain (ap digest (same_mask key name body bare_is)) (ap (λ (k : List ℕ). k ++ behind) (sym (bare_plain key plain)));
+    }
 
 pub fault_cases : {A : Type 0} (r : Result A AppendFault) (Q : Type 0) → IsErr r → (IsErrOf r TapeFault → Q) → (IsErrOf r PlatformFault → Q) → Q
 fault_cases (Ok x) Q h f g = absurd cc

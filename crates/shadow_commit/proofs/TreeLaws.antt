@@ -68,24 +68,24 @@ has_stays pages more order (s ∷ ss) (p ∷ ps) h = (subtree_stays pages more o
 
 -- ---- lows
 
-pub child_low : (level first : ℕ) (c : Child) (ns : List Sealed) (e : Entry) → Seals level first c ns e → e.low ≡ low_of c
+pub child_low : (version level first : ℕ) (c : Child) (ns : List Sealed) (e : Entry) → Seals version level first c ns e → e.low ≡ low_of c
 unfolding Seals
-child_low zero first c ns e h = here (out-Child c) h
+child_low version zero first c ns e h = here (out-Child c) h
   where
-    here : (x : Child-F Child Twig) → SealsDatum x ns e → e.low ≡ low_in x
+    here : (x : Child-F Child Twig) → SealsDatum version x ns e → e.low ≡ low_in x
     here (Kept low addr key) h = ap (λ (e : Entry). e.low) h.entry_is
     here (Grown low twig) h = absurd h
-child_low (suc level) first c ns e h = here (out-Child c) h
+child_low version (suc level) first c ns e h = here (out-Child c) h
   where
-    here : (x : Child-F Child Twig) → SealsIn (Seals level) level first x ns e → e.low ≡ low_in x
+    here : (x : Child-F Child Twig) → SealsIn version (Seals version level) level first x ns e → e.low ≡ low_in x
     here (Kept low addr key) h = ap (λ (e : Entry). e.low) h.entry_is
     here (Grown low twig) h = h.low_is
 
-lows_are : (level first : ℕ) (cs : List Child) (ns : List Sealed) (es : List Entry) → SealsEach (Seals level) first cs ns es → map (λ (e : Entry). e.low) es ≡ map low_of cs
-lows_are level first [] ns es h = ap (map (λ (e : Entry). e.low)) h.1
-lows_are level first (c ∷ cs) ns es h =
-    let low = child_low level first c h.here h.entry h.one in
-    let rest = lows_are level (first + length h.here) cs h.rest h.others h.more in
+lows_are : (version level first : ℕ) (cs : List Child) (ns : List Sealed) (es : List Entry) → SealsEach (Seals version level) first cs ns es → map (λ (e : Entry). e.low) es ≡ map low_of cs
+lows_are version level first [] ns es h = ap (map (λ (e : Entry). e.low)) h.1
+lows_are version level first (c ∷ cs) ns es h =
+    let low = child_low version level first c h.here h.entry h.one in
+    let rest = lows_are version level (first + length h.here) cs h.rest h.others h.more in
     ap (map (λ (e : Entry). e.low)) h.entries_are ∙ (λ i. low i ∷ rest i)
 
 bound_is : (high : ℕ) (cs : List Child) (es : List Entry) → map (λ (e : Entry). e.low) es ≡ map low_of cs → bound_of es high ≡ start_by low_of cs high
@@ -171,24 +171,24 @@ top_parts below ns n each children is h =
       places = subst (λ xs. IsPermutation (xs ++ K) (place_of n ∷ (joined children).places)) (sym (ap (map place_of) is ∙ map-append place_of below (n ∷ []))) all;
     }
 
-abbrev ChildTree : List (List ℕ) → ℕ → ℕ → Type 0
-ChildTree pages order level = (first high : ℕ) (c : Child) (ns : List Sealed) (e : Entry) (each : List Parts) → Seals level first c ns e → IsChild order level high c →
+abbrev ChildTree : ℕ → List (List ℕ) → ℕ → ℕ → Type 0
+ChildTree version pages order level = (first high : ℕ) (c : Child) (ns : List Sealed) (e : Entry) (each : List Parts) → Seals version level first c ns e → IsChild order level high c →
     AllByRecursion (IsNodeAt pages) ns → HasEach pages order (stubs level high c) each → IsTreeOf pages order level high ns e each
 
-children_trees : (pages : List (List ℕ)) (order level : ℕ) → ChildTree pages order level → (first high : ℕ) (cs : List Child) (ns : List Sealed) (es : List Entry) (each : List Parts) → SealsEach (Seals level) first cs ns es →
+children_trees : (version : ℕ) (pages : List (List ℕ)) (order level : ℕ) → ChildTree version pages order level → (first high : ℕ) (cs : List Child) (ns : List Sealed) (es : List Entry) (each : List Parts) → SealsEach (Seals version level) first cs ns es →
     EachBy low_of (IsChild order level) high cs → AllByRecursion (IsNodeAt pages) ns → HasEach pages order (stubs_by low_of (stubs level) high cs) each → AreTreesOf pages order level high ns es each
-children_trees pages order level one first high [] ns es [] h shaped at has = record {
+children_trees version pages order level one first high [] ns es [] h shaped at has = record {
   children = [];
   has = subst (λ es. EachChild (Subtree pages order level) order level high es []) (sym h.1) tt;
   are = record { mapped = refl; places = subst (λ ns. IsPermutation (map place_of ns ++ []) []) (sym h.0) (IsPermutation-refl []) };
 }
-children_trees pages order level one first high [] ns es (p ∷ ps) h shaped at has = absurd has
-children_trees pages order level one first high (c ∷ cs) ns es each h shaped at has =
+children_trees version pages order level one first high [] ns es (p ∷ ps) h shaped at has = absurd has
+children_trees version pages order level one first high (c ∷ cs) ns es each h shaped at has =
     let both = has_split pages order (stubs level (start_by low_of cs high) c) (stubs_by low_of (stubs level) high cs) each has in
     let at_all = subst (AllByRecursion (IsNodeAt pages)) h.nodes_are at in
     let here = one first (start_by low_of cs high) c h.here h.entry both.left h.one shaped.1 (all_front (IsNodeAt pages) h.here h.rest at_all) both.on_left in
-    let rest = children_trees pages order level one (first + length h.here) high cs h.rest h.others both.right h.more shaped.2 (all_back (IsNodeAt pages) h.here h.rest at_all) both.on_right in
-    let bound = bound_is high cs h.others (lows_are level (first + length h.here) cs h.rest h.others h.more) in
+    let rest = children_trees version pages order level one (first + length h.here) high cs h.rest h.others both.right h.more shaped.2 (all_back (IsNodeAt pages) h.here h.rest at_all) both.on_right in
+    let bound = bound_is high cs h.others (lows_are version level (first + length h.here) cs h.rest h.others h.more) in
     let has_all : EachChild (Subtree pages order level) order level high (h.entry ∷ h.others) (here.parts ∷ rest.children) = (subst (λ m. Subtree pages order level (child_want order level h.entry m) h.entry.key here.parts) (sym bound) here.has, rest.has) in
     record {
       children = here.parts ∷ rest.children;
@@ -197,31 +197,31 @@ children_trees pages order level one first high (c ∷ cs) ns es each h shaped a
     }
 
 -- a node that was sealed over children's trees
-node_tree_by : (pages : List (List ℕ)) (order level : ℕ) → ChildTree pages order level → (first : ℕ) (want : Want) (key : List ℕ) (twig : Twig) (ns : List Sealed) (each : List Parts) →
-    SealsNode (Seals level) level first (children_of twig) ns want.addr key → IsTwig order level want.least order want.low want.high twig → want.level ≡ suc level → want.most ≡ order →
+node_tree_by : (version : ℕ) (pages : List (List ℕ)) (order level : ℕ) → ChildTree version pages order level → (first : ℕ) (want : Want) (key : List ℕ) (twig : Twig) (ns : List Sealed) (each : List Parts) →
+    SealsNode version (Seals version level) level first (children_of twig) ns want.addr key → IsTwig order level want.least order want.low want.high twig → want.level ≡ suc level → want.most ≡ order →
     AllByRecursion (IsNodeAt pages) ns → HasEach pages order (stubs_below level want.high twig) each → (parts : Parts) × Subtree pages order (suc level) want key parts × AreParts ns each parts
 unfolding Subtree
-node_tree_by pages order level one first want key twig ns each h shaped level_is most at has =
+node_tree_by version pages order level one first want key twig ns each h shaped level_is most at has =
     let n : Sealed = record { addr = want.addr; key = key; level = suc level; entries = h.entries } in
     let at_all = subst (AllByRecursion (IsNodeAt pages)) h.is at in
-    let trees = children_trees pages order level one first want.high (children_of twig) h.below h.entries each h.each shaped.node.each (all_front (IsNodeAt pages) h.below (n ∷ []) at_all) has in
+    let trees = children_trees version pages order level one first want.high (children_of twig) h.below h.entries each h.each shaped.node.each (all_front (IsNodeAt pages) h.below (n ∷ []) at_all) has in
     let here = (all_back (IsNodeAt pages) h.below (n ∷ []) at_all).0 in (
       node_parts want.addr key h.entries (joined trees.children),
       record {
         entries = h.entries;
         children = trees.children;
-        fits = (here, node_wanted order level want twig h.entries shaped level_is most (lows_are level first (children_of twig) h.below h.entries h.each));
+        fits = (here, node_wanted order level want twig h.entries shaped level_is most (lows_are version level first (children_of twig) h.below h.entries h.each));
         each = trees.has;
         has = refl;
       },
       top_parts h.below ns n each trees.children h.is trees.are,
     )
 
-pub child_tree : (pages : List (List ℕ)) (order level : ℕ) → ChildTree pages order level
+pub child_tree : (version : ℕ) (pages : List (List ℕ)) (order level : ℕ) → ChildTree version pages order level
 unfolding Seals IsChild stubs Subtree
-child_tree pages order zero first high c ns e each h shaped at has = here (out-Child c) each h has
+child_tree version pages order zero first high c ns e each h shaped at has = here (out-Child c) each h has
   where
-    here : (x : Child-F Child Twig) (each : List Parts) → SealsDatum x ns e → HasEach pages order (datum_in x) each → IsTreeOf pages order 0 high ns e each
+    here : (x : Child-F Child Twig) (each : List Parts) → SealsDatum version x ns e → HasEach pages order (datum_in x) each → IsTreeOf pages order 0 high ns e each
     here (Kept low addr key) [] h has = absurd has
     here (Kept low addr key) (p ∷ q ∷ ps) h has = absurd has.1
     here (Kept low addr key) (p ∷ []) h has = record {
@@ -230,9 +230,9 @@ child_tree pages order zero first high c ns e each h shaped at has = here (out-C
       are = one_part ns p h.none;
     }
     here (Grown low twig) each h has = absurd h
-child_tree pages order (suc level) first high c ns e each h shaped at has = here (λ first high c ns e each h shaped at has. child_tree pages order level first high c ns e each h shaped at has) (out-Child c) each h shaped has
+child_tree version pages order (suc level) first high c ns e each h shaped at has = here (λ first high c ns e each h shaped at has. child_tree version pages order level first high c ns e each h shaped at has) (out-Child c) each h shaped has
   where
-    here : ChildTree pages order level → (x : Child-F Child Twig) (each : List Parts) → SealsIn (Seals level) level first x ns e → IsChildBy (IsChild order level) order level high x → HasEach pages order (stubs_in (stubs level) (suc level) high x) each →
+    here : ChildTree version pages order level → (x : Child-F Child Twig) (each : List Parts) → SealsIn version (Seals version level) level first x ns e → IsChildBy (IsChild order level) order level high x → HasEach pages order (stubs_in (stubs level) (suc level) high x) each →
         IsTreeOf pages order (suc level) high ns e each
     here one (Kept low addr key) [] h shaped has = absurd has
     here one (Kept low addr key) (p ∷ q ∷ ps) h shaped has = absurd has.1
@@ -242,10 +242,10 @@ child_tree pages order (suc level) first high c ns e each h shaped at has = here
       are = one_part ns p h.none;
     }
     here one (Grown low twig) each h shaped has =
-        let t = node_tree_by pages order level one first (child_want order (suc level) e high) e.key twig ns each h.node (subst (λ m. IsTwig order level (order / 2) order m high twig) (sym h.low_is) shaped) refl refl at has in
+        let t = node_tree_by version pages order level one first (child_want order (suc level) e high) e.key twig ns each h.node (subst (λ m. IsTwig order level (order / 2) order m high twig) (sym h.low_is) shaped) refl refl at has in
         record { parts = t.0; has = t.1; are = t.2 }
 
-pub node_tree : (pages : List (List ℕ)) (order level first : ℕ) (want : Want) (key : List ℕ) (twig : Twig) (ns : List Sealed) (each : List Parts) →
-    SealsNode (Seals level) level first (children_of twig) ns want.addr key → IsTwig order level want.least order want.low want.high twig → want.level ≡ suc level → want.most ≡ order →
+pub node_tree : (version : ℕ) (pages : List (List ℕ)) (order level first : ℕ) (want : Want) (key : List ℕ) (twig : Twig) (ns : List Sealed) (each : List Parts) →
+    SealsNode version (Seals version level) level first (children_of twig) ns want.addr key → IsTwig order level want.least order want.low want.high twig → want.level ≡ suc level → want.most ≡ order →
     AllByRecursion (IsNodeAt pages) ns → HasEach pages order (stubs_below level want.high twig) each → (parts : Parts) × Subtree pages order (suc level) want key parts × AreParts ns each parts
-node_tree pages order level first want key twig ns each h shaped level_is most at has = node_tree_by pages order level (child_tree pages order level) first want key twig ns each h shaped level_is most at has
+node_tree version pages order level first want key twig ns each h shaped level_is most at has = node_tree_by version pages order level (child_tree version pages order level) first want key twig ns each h shaped level_is most at has

@@ -1,4 +1,4 @@
-use Rattle.std.proofs.Common.{◌≡◌, ◌+◌, ◌*◌, List, take, map}
+use Rattle.std.proofs.Common.{◌≡◌, ℕ, ◌+◌, ◌*◌, List, take, map}
 use Rattle.node_codec.specs.declared.body.Entry.{Entry}
 use Rattle.btree_twigs.specs.Stubs.{children_of, level_of, sum_by, nodes}
 use Rattle.btree_twigs.specs.Top.{child_level}
@@ -11,8 +11,8 @@ use Rattle.shadow_commit.proofs.planning.+plan.Given as goal
 abbrev pub invariant-plan_twig-loop-child : goal.invariant-plan_twig-loop-child
 invariant-plan_twig-loop-child l = record {
   same : l.child-items ≡ children_of l.fn.twig;
-  next : (at : CanSeal l.fn.first 4294967296 l.fn.twig) → l.next ≡ l.fn.first + sum_by (nodes at.level) (take l.child-index l.child-items);
-  planned : (at : CanSeal l.fn.first 4294967296 l.fn.twig) (ns : List Sealed) (es : List Entry) → SealsEach (Seals at.level) l.fn.first (take l.child-index l.child-items) ns es →
+  next : (version : ℕ) (at : CanSeal version l.fn.first 4294967296 l.fn.twig) → l.next ≡ l.fn.first + sum_by (nodes at.level) (take l.child-index l.child-items);
+  planned : (version : ℕ) (at : CanSeal version l.fn.first 4294967296 l.fn.twig) (ns : List Sealed) (es : List Entry) → SealsEach (Seals version at.level) l.fn.first (take l.child-index l.child-items) ns es →
       (l.children ≡ map (λ (e : Entry). e.addr) es) × AddsOf l.fn.base (places_so_far at.level at.high l.child-index l.child-items) ns l.fn.added l.added;
 }
 

@@ -16,7 +16,7 @@ use Rattle.shadow_commit.proofs.preparing.prepare.Goals as goal
 
 pub returns-then-needed-free-clause-stops : goal.returns-then-needed-free-clause-stops
 returns-then-needed-free-clause-stops g c = λ err.
-    stops_before (g.P.Platform.head c.args.platform.now) (places_of c.args.grove.now) g.P.Platform.tells (g.P.Platform.history c.args.platform.now).present (g.T.Tape.drawn c.args.tape.now)
+    stops_before c.args.root.now.version (g.P.Platform.head c.args.platform.now) (places_of c.args.grove.now) g.P.Platform.tells (g.P.Platform.history c.args.platform.now).present (g.T.Tape.drawn c.args.tape.now)
 
 pub returns-then-needed-free-clause-keeps : goal.returns-then-needed-free-clause-keeps
 returns-then-needed-free-clause-keeps g c =
@@ -25,7 +25,7 @@ returns-then-needed-free-clause-keeps g c =
 
 pub returns-in_err-made-clause-stops : goal.returns-in_err-made-clause-stops
 returns-in_err-made-clause-stops g c = λ err.
-    stops_before (g.P.Platform.head c.args.platform.now) (places_of c.args.grove.now) g.P.Platform.tells (g.P.Platform.history c.args.platform.now).present (g.T.Tape.drawn c.args.tape.now)
+    stops_before c.args.root.now.version (g.P.Platform.head c.args.platform.now) (places_of c.args.grove.now) g.P.Platform.tells (g.P.Platform.history c.args.platform.now).present (g.T.Tape.drawn c.args.tape.now)
 
 pub returns-in_err-made-clause-keeps : goal.returns-in_err-made-clause-keeps
 returns-in_err-made-clause-keeps g c =
@@ -35,7 +35,7 @@ returns-in_err-made-clause-keeps g c =
 
 pub returns-in_err-entries-clause-stops : goal.returns-in_err-entries-clause-stops
 returns-in_err-entries-clause-stops g c = λ err.
-    stops_before (g.P.Platform.head c.args.platform.now) (places_of c.args.grove.now) g.P.Platform.tells (g.P.Platform.history c.args.platform.now).present (g.T.Tape.drawn c.args.tape.now)
+    stops_before c.args.root.now.version (g.P.Platform.head c.args.platform.now) (places_of c.args.grove.now) g.P.Platform.tells (g.P.Platform.history c.args.platform.now).present (g.T.Tape.drawn c.args.tape.now)
 
 pub returns-in_err-entries-clause-keeps : goal.returns-in_err-entries-clause-keeps
 returns-in_err-entries-clause-keeps g c =
@@ -75,8 +75,8 @@ returns-clause-ready g c =
     let s = grove_twig head c.head-head.result root c.args.mapped grove c.top.result.now c.in-Grown.low twig c.head-head.ensures.value can c.top.ensures c.in-Grown.is in
     let at = can_twig head c.head-head.result 4294967296 root c.args.mapped grove c.top.result.now twig c.head-head.ensures.value c.top.ensures can s small in
     let top_is = c.top-2.ensures ∙ sym c.top.ensures ∙ c.in-Grown.is in
-    let node = grown_is (suc level) level head c.top-2.result.now c.in-Grown.low twig ns (record { low = 0; addr = next.addr; key = next.key }) top_is refl S.adds.is in
-    let C = c.in_ok-made.ensures.cert at ns next.addr next.key (subst (λ n. SealsNode (Seals level) level n (children_of twig) ns next.addr next.key) (sym c.head-head.ensures.value) node) in
+    let node = grown_is c.args.root.now.version (suc level) level head c.top-2.result.now c.in-Grown.low twig ns (record { low = 0; addr = next.addr; key = next.key }) top_is refl S.adds.is in
+    let C = c.in_ok-made.ensures.cert at ns next.addr next.key (subst (λ n. SealsNode c.args.root.now.version (Seals c.args.root.now.version level) level n (children_of twig) ns next.addr next.key) (sym c.head-head.ensures.value) node) in
     let places = sym s.places ∙ same_places head root c.args.mapped grove c.top.result.now can c.top.ensures in
     record {
       is = sealed_as _ _ _ _ _ _ _ _ (forgotten grove.gone.items c.args.reader.now.cache) _ root c.args.mapped grove c.top-2.result.now next can c.top-2.ensures (c.forget_all.ensures ∙ ap (λ gone. forgotten gone c.args.reader.now.cache) c.gone-2.ensures) S;
@@ -114,7 +114,7 @@ returns-clause-keeps g c =
     let ns = S.adds.nodes in
     let places = places_of grove in
     let counts : tells → length new.present.recorded ≤ 2 ^ 32 = λ told. omega (arith, g.met.P.Platform.counts_pages told c.seal_all.new.platform, g.met.P.Platform.has_room c.seal_all.new.platform, g.met.P.Platform.is_limited c.seal_all.new.platform) in
-    let K = keeps_sealed tells drawn drawn_now old new head places ns c.seal_all.ensures.beside.cell (λ told. pages_sealed old.present S.written new.present ns (S.synced told) (S.adds.image told)) (λ told. g.met.P.Platform.counts_pages told c.args.platform.now) counts S.over S.adds.drew in
+    let K = keeps_sealed c.args.root.now.version tells drawn drawn_now old new head places ns c.seal_all.ensures.beside.cell (λ told. pages_sealed old.present S.written new.present ns (S.synced told) (S.adds.image told)) (λ told. g.met.P.Platform.counts_pages told c.args.platform.now) counts S.over S.adds.drew in
     keeps_from tells drawn drawn_now old new (KnowsPlaces old.present places) (KnowsPlaces old.present places) (AreKnown ns) (ListsNewTree old.present new.present root.order places c.args.mapped next) K (λ told keys ready. ready)
     (λ told keys more ready done. knows_new_tree tells old.present new.present head (g.P.Platform.head c.seal_all.new.platform) drawn drawn_now _ _ root c.args.mapped grove.level grove.top next _ S (keys ++ more) told
     (places_more_keys keys more places ready.listed) done)
@@ -126,7 +126,7 @@ returns-in_err-next-clause-stops g c = λ err.
     let grove = c.args.grove.now in
     let head = g.P.Platform.head c.args.platform.now in
     let room : head + grown_in grove ≤ g.P.Platform.capacity c.args.platform.now = omega (arith, c.if-needed-free.false, c.grown-needed.ensures, c.head-head.ensures.value, c.head-head.ensures.room, c.capacity.ensures.value) in
-    stops_at head _ (places_of grove) _ _ _ _ _ (same_places head root c.args.mapped grove c.top-2.result.now can c.top-2.ensures)
+    stops_at c.args.root.now.version head _ (places_of grove) _ _ _ _ _ (same_places head root c.args.mapped grove c.top-2.result.now can c.top-2.ensures)
     (c.in_err-next.ensures.stops (can_top head (g.P.Platform.capacity c.args.platform.now) root c.args.mapped grove c.top-2.result.now c.top-2.ensures can room) refl)
 
 pub returns-in_err-next-clause-within : goal.returns-in_err-next-clause-within
@@ -146,8 +146,8 @@ returns-in_err-next-clause-keeps g c =
     let grove = c.args.grove.now in
     let head = g.P.Platform.head c.args.platform.now in
     let room : head + grown_in grove ≤ g.P.Platform.capacity c.args.platform.now = omega (arith, c.if-needed-free.false, c.grown-needed.ensures, c.head-head.ensures.value, c.head-head.ensures.room, c.capacity.ensures.value) in
-    let stops = stops_at head _ (places_of grove) _ _ _ _ _ (same_places head root c.args.mapped grove c.top-2.result.now can c.top-2.ensures)
+    let stops = stops_at c.args.root.now.version head _ (places_of grove) _ _ _ _ _ (same_places head root c.args.mapped grove c.top-2.result.now can c.top-2.ensures)
     (c.in_err-next.ensures.stops (can_top head (g.P.Platform.capacity c.args.platform.now) root c.args.mapped grove c.top-2.result.now c.top-2.ensures can room) refl) in
-    keeps_stopped g.P.Platform.tells (g.T.Tape.drawn c.args.tape.now) (g.T.Tape.drawn c.seal_all.new.tape) (g.P.Platform.history c.args.platform.now) (g.P.Platform.history c.seal_all.new.platform) head (places_of grove)
+    keeps_stopped c.args.root.now.version g.P.Platform.tells (g.T.Tape.drawn c.args.tape.now) (g.T.Tape.drawn c.seal_all.new.tape) (g.P.Platform.history c.args.platform.now) (g.P.Platform.history c.seal_all.new.platform) head (places_of grove)
     c.seal_all.ensures.beside.cell (λ told. g.met.P.Platform.counts_pages told c.args.platform.now)
     (λ told. omega (arith, g.met.P.Platform.counts_pages told c.seal_all.new.platform, g.met.P.Platform.has_room c.seal_all.new.platform, g.met.P.Platform.is_limited c.seal_all.new.platform)) stops)

@@ -11,8 +11,8 @@ use Rattle.shadow_commit.proofs.sealing.+seal.Given as goal
 abbrev pub invariant-seal_twig-loop-child : goal.invariant-seal_twig-loop-child
 invariant-seal_twig-loop-child g l = record {
   same : l.child-items ≡ children_of l.fn.twig;
-  sealed : (at : CanSeal (g.P.Platform.head l.fn.platform) (g.P.Platform.capacity l.fn.platform) l.fn.twig) →
-      Adds (AreCached (λ nodes. SealsEach (Seals at.level) (g.P.Platform.head l.fn.platform) (take l.child-index l.child-items) nodes (drop (length l.fn.entries.items) l.entries.items)) l.fn.reader.cache l.reader.cache)
+  sealed : (at : CanSeal l.fn.version (g.P.Platform.head l.fn.platform) (g.P.Platform.capacity l.fn.platform) l.fn.twig) →
+      Adds (AreCached (λ nodes. SealsEach (Seals l.fn.version at.level) (g.P.Platform.head l.fn.platform) (take l.child-index l.child-items) nodes (drop (length l.fn.entries.items) l.entries.items)) l.fn.reader.cache l.reader.cache)
       g.P.Platform.tells (g.P.Platform.history l.fn.platform).present (g.P.Platform.history l.platform).present
       (g.P.Platform.head l.fn.platform) (g.P.Platform.head l.platform) (g.T.Tape.drawn l.fn.tape) (g.T.Tape.drawn l.tape);
   front : take (length l.fn.entries.items) l.entries.items ≡ l.fn.entries.items;
