@@ -5,7 +5,7 @@ use Rattle.std.proofs.lemmas.List.{map-append}
 use Rattle.std.proofs.lemmas.List.Elements.{All-weaker, All-append, All-contains, All-from_recursion, Contains-append_left, Contains-append_cases}
 use Rattle.std.proofs.lemmas.List.Sorted.{All-permutation, Contains-permutation, IsPermutation-sym}
 use Rattle.sdbt_base.specs.Arrays.{Device, Blocks, committed_with}
-use Rattle.sdbt_base.specs.Keys.{bare, key_size, IsKey, IsKeyOf}
+use Rattle.sdbt_base.specs.Keys.{bare}
 use Rattle.platform.specs.Image.{Image, LeavesOnly, with_cell}
 use Rattle.platform.specs.History.{History, Turns, CellStays}
 use Rattle.platform.proofs.Moments.{During-now, Extends-earlier}
@@ -58,19 +58,17 @@ listed_sound session image keys h = (Some h.device, held_stands session image h.
 -- the root node comes last, under the key that was drawn last
 pub record IsSealedLast (first : ℕ) (ns : List Sealed) (e : Entry) : Type 0 where
   pub from : first ≤ e.addr
-  pub key : IsKey e.key
   pub earlier : List (List ℕ)
   pub keys : map (λ (n : Sealed). bare n.key) ns ≡ earlier ++ bare e.key ∷ []
 
-top_sealed : (order below first high : ℕ) (c : Child) (ns : List Sealed) (e : Entry) → IsTop order below high c → Seals (suc below) first c ns e → IsSealedLast first ns e
+top_sealed : (version order below first high : ℕ) (c : Child) (ns : List Sealed) (e : Entry) → IsTop order below high c → Seals version (suc below) first c ns e → IsSealedLast first ns e
 unfolding Seals
-top_sealed order below first high c ns e top h = here (out-Child c) top h
+top_sealed version order below first high c ns e top h = here (out-Child c) top h
   where
-    here : (x : Child-F Child Twig) → IsTopBy order below high x → SealsIn (Seals below) below first x ns e → IsSealedLast first ns e
+    here : (x : Child-F Child Twig) → IsTopBy order below high x → SealsIn version (Seals version below) below first x ns e → IsSealedLast first ns e
     here (KeptChild low addr key) is s = absurd is
     here (Grown low twig) is s = record {
       from = omega (arith, s.node.addr_is);
-      key = s.node.key_is;
       earlier = map (λ (n : Sealed). bare n.key) s.node.below;
       keys = ap (map (λ (n : Sealed). bare n.key)) s.node.is ∙ map-append (λ (n : Sealed). bare n.key) s.node.below (record { addr = e.addr; key = e.key; level = suc below; entries = s.node.entries } ∷ []);
     }
@@ -97,18 +95,14 @@ last_sealed tells old mid drawn drawn_now session pages now prepared r =
     let tree = changed session pages r.is_open r.touched in
     let grove = session.grove in
     let e : Entry = record { low = 0; addr = prepared.root.addr; key = prepared.root.key } in
-    top_sealed grove.order (grove.level - 1) pages grove.blocks grove.top r.ready.is.adds.nodes e tree.top
-    (subst (λ n. Seals n pages grove.top r.ready.is.adds.nodes e) (above_it grove.level tree.sound.one) r.ready.is.adds.is)
-
--- a key of so many bytes as those of a version is one of that version
-key_sized : (version : ℕ) (key : List ℕ) → IsKey key → length key ≡ key_size version → IsKeyOf version key
-key_sized version key is sized = (sized, elim is [ inl plain ↦ plain.1 | inr long ↦ long.1 ])
+    top_sealed session.root.version grove.order (grove.level - 1) pages grove.blocks grove.top r.ready.is.adds.nodes e tree.top
+    (subst (λ n. Seals session.root.version n pages grove.top r.ready.is.adds.nodes e) (above_it grove.level tree.sound.one) r.ready.is.adds.is)
 
 -- the new root record can be served over the pages that there are now
 pub next_within : (tells : Type 0) (old mid : History) (drawn drawn_now : Option (List (List ℕ))) (session : Session) (pages now : ℕ) (prepared : Prepared) → IsReadied tells old mid drawn drawn_now session pages now prepared → IsRootWithin now prepared.root
 next_within tells old mid drawn drawn_now session pages now prepared r = record {
   in_range = r.ready.is.in_range;
-  key = key_sized prepared.root.version prepared.root.key (last_sealed tells old mid drawn drawn_now session pages now prepared r).key r.ready.is.in_range.sized;
+  key = r.ready.is.next_is.key;
   within = omega (arith, r.ready.is.next_is.head_is);
 }
 

@@ -7,7 +7,6 @@ use Rattle.sdbt_base.specs.Faults.{Rose}
 use Rattle.sdbt_base.specs.declared.sinks.Sink.{Ghosts as SinkGhosts}
 use Rattle.sdbt_base.specs.declared.tapes.Tape.{Ghosts as TapeGhosts}
 use Rattle.std.specs.List.{AllByRecursion}
-use Rattle.sdbt_base.proofs.KeyLaws.{version_plain}
 use Rattle.platform.specs.declared.platforms.Platform.{Ghosts as PlatformGhosts}
 use Rattle.platform.specs.Image.{Image}
 use Rattle.platform.specs.History.{Turns, CellStays}
@@ -31,7 +30,7 @@ use Rattle.grove_accounts.specs.Holding.{IsTreeOf}
 use Rattle.shadow_commit.specs.Finishing.{Swaps}
 use Rattle.shadow_commit.specs.Sealed.{Sealed, page_of}
 use Rattle.shadow_commit.specs.Caching.{cached_as}
-use Rattle.shadow_commit.specs.NewTree.{Fits, IsNodeAt}
+use Rattle.shadow_commit.specs.NewTree.{IsNodeAt}
 use Rattle.shadow_commit.specs.Handing.{OnlyAdds, KnowsPlaces}
 use Rattle.shadow_commit.specs.declared.prepared.Prepared.{Prepared}
 use Rattle.device_session.specs.declared.refusals.CommitReply.{CommitReply}
@@ -243,9 +242,9 @@ commits_failed P T L platform mid new tape tape_now ledger ledger_now session no
 -- ---- the session after a commit
 
 -- nodes that are sealed are what their pages are
-sealed_of_pages : (pages : List (List ℕ)) (ns : List Sealed) → AllByRecursion Fits ns → AllByRecursion (IsNodeAt pages) ns → AllByRecursion (λ (n : Sealed). IsOfPage pages (cached_as n)) ns
-sealed_of_pages pages [] fits at = tt
-sealed_of_pages pages (n ∷ ns) fits at = (record { version = sym (version_plain n.key fits.0.1); is = at.0 }, sealed_of_pages pages ns fits.1 at.1)
+sealed_of_pages : (pages : List (List ℕ)) (ns : List Sealed) → AllByRecursion (IsNodeAt pages) ns → AllByRecursion (λ (n : Sealed). IsOfPage pages (cached_as n)) ns
+sealed_of_pages pages [] at = tt
+sealed_of_pages pages (n ∷ ns) at = (record { version = refl; is = at.0 }, sealed_of_pages pages ns at.1)
 
 -- the nodes that it keeps are what the pages are still
 pub committed_cached : {S R W : Type 0} (P : PlatformGhosts S) (T : TapeGhosts R) (L : SinkGhosts W) (platform mid new : S) (tape tape_now : R) (ledger ledger_now : W) (session now : Session) (prepared : Prepared) (Was : Type 0)
@@ -264,7 +263,7 @@ committed_cached P T L platform mid new tape tape_now ledger ledger_now session 
     let from : P.head platform ≡ length old.readable = sym (all.readied.counts told) ∙ sym (whole-now (P.history platform)).as_many in
     let small : P.head platform + length ns ≤ 2 ^ 64 = omega (arith, is.adds.head, is.next_is.head_is, is.in_range.head) in
     let sealed = All-sealed (IsOfPage (old.readable ++ more)) (forgotten gone session.cache) ns kept
-    (sealed_of_pages (old.readable ++ more) ns is.over.order.fits (records_at (P.head platform) old.readable ns from is.over.order.from is.over.order.fits small)) in
+    (sealed_of_pages (old.readable ++ more) ns (records_at session.root.version (P.head platform) old.readable ns from is.over.order.from is.over.order.fits small)) in
     subst (λ (pages : List (List ℕ)). StandsOver pages now.cache) (sym reads)
     (taken_cached session now all.readied.cache prepared.root (old.readable ++ more) taken (subst (StandsOver (old.readable ++ more)) (sym is.cached) sealed))
 

@@ -1,6 +1,7 @@
 use Rattle.std.proofs.Common.{◌≡◌, ◌∙◌, ◌<◌, ℕ, Err, None, Some, inl, inr, refl, ap, sym, subst, arith}
 use Rattle.std.specs.Prelude.{box_value, replicate}
 use Rattle.sdbt_base.specs.Arrays.{Device, Blocks}
+use Rattle.sdbt_base.specs.Keys.{key_size}
 use Rattle.platform.specs.Image.{Image}
 use Rattle.node_codec.specs.Record.{DataRecord}
 use Rattle.page_store.specs.Places.{FitsAt, NothingFits, block_want}
@@ -9,6 +10,7 @@ use Rattle.btree_walk.specs.Sights.{StandsOver}
 use Rattle.btree_update.specs.Finding.{GroveFinds, GroveStops}
 use Rattle.device_session.specs.Sessions.{Session}
 use Rattle.device_session.specs.Holds.{Holds}
+use Rattle.device_session.specs.Open.{IsOpen}
 use Rattle.device_session.proofs.ReadLaws.{held_array, holds_looked, content_none, entry_read, entry_fits}
 use Rattle.device_session.proofs.CostLaws.{few_none, few_found}
 use Rattle.page_store.specs.Buffer.{Held}
@@ -84,6 +86,11 @@ found g c told h =
     let over = subst (λ (s : Session). StandsOver pages s.cache) (sym c.self.view_is) h in
     let finds = c.in_ok-found.ensures.found told over in
     subst (λ (s : Session). GroveFinds pages c.args.block s.grove (Some c.in-Some.entry)) c.self.view_is (subst (GroveFinds pages c.args.block (the_view c.self.inside).grove) c.in-Some.is finds)
+
+pub find-requires-clause-within : goal.find-requires-clause-within
+find-requires-clause-within g c =
+    let o = subst (λ (s : Session). IsOpen s (g.P.Platform.head c.args.platform.now)) (sym c.self.view_is) c.requires.open in
+    (key_size c.self.inside.root.version, o.below)
 
 pub read_block-requires-clause-within : goal.read_block-requires-clause-within
 read_block-requires-clause-within g c = subst (λ n. c.in-Some.entry.addr < n) (sym c.find.ensures.looks.head) ((rw c.in-Some.is at c.in_ok-found.ensures.entry).1)

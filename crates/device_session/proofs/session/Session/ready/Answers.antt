@@ -1,6 +1,7 @@
 use Rattle.std.proofs.Common.{List, IsTrue, sym, subst}
 use Rattle.std.specs.Prelude.{IfOk, box_value}
 use Rattle.std.specs.Bool.{OnTrue, OnFalse}
+use Rattle.sdbt_base.specs.Keys.{key_size}
 use Rattle.platform.specs.Image.{Image}
 use Rattle.page_store.specs.Tree.{Mapped}
 use Rattle.btree_walk.specs.Sights.{StandsOver}
@@ -8,6 +9,7 @@ use Rattle.btree_walk.proofs.OnLaws.{IfOk_map}
 use Rattle.btree_update.specs.Maps.{HasBlock, LacksBlock}
 use Rattle.btree_update.specs.Groves.{IsReadFrom, IsReadBeside, IsWrongOnWay, GroveMaps}
 use Rattle.device_session.specs.Sessions.{Session}
+use Rattle.device_session.specs.Open.{IsOpen}
 use Rattle.device_session.specs.Holds.{Holds}
 use Rattle.device_session.specs.Keys.{HoldsListed}
 use Rattle.device_session.specs.Damage.{IsFound}
@@ -18,6 +20,11 @@ use Rattle.device_session.proofs.ReadLaws.{held_array, cached_looked}
 use Rattle.device_session.proofs.UpdateLaws.{ready_holds, ready_listed, ready_maps, both}
 use Rattle.device_session.specs.contracts.session.Session.{the_view}
 use Rattle.device_session.proofs.session.Session.ready.Goals as goal
+
+pub ready-requires-clause-within : goal.ready-requires-clause-within
+ready-requires-clause-within g c =
+    let o = subst (λ (s : Session). IsOpen s (g.P.Platform.head c.args.platform.now)) (sym c.self.view_is) c.requires.open in
+    (key_size c.self.inside.root.version, o.below)
 
 pub returns-clause-holds : goal.returns-clause-holds
 returns-clause-holds g c = λ told device contents h.
