@@ -32,10 +32,8 @@ fn key_bytes(addr: u64) -> [u8; 32] {
     bytes
 }
 
-/// The key of the page at an address.
-pub(crate) fn key_of(addr: u64) -> Key
-    ensures { length result ≡ 32 }
-{
+/// The key of the page at an address, without a digest.
+fn key_of(addr: u64) -> Key {
     Key::from_bytes(key_bytes(addr))
 }
 
@@ -166,11 +164,11 @@ impl Device {
             let entry = self.seal(alloc, child)?;
             entries.push(entry).ok()?;
         }
-        let addr = self.node(1, twig.level, &entries)?;
+        let addr = self.node(self.version, twig.level, &entries)?;
         Some(Entry {
             low,
             addr,
-            key: key_of(addr),
+            key: self.key_at(self.version, addr, addr),
         })
     }
 }

@@ -1,15 +1,17 @@
 //! A grove over a device in memory, with all that its calls ask for.
 ghost use Rattle.std.specs.Prelude.{◌≡◌, length};
+ghost use Rattle.sdbt_base.specs.Keys.{key_size};
 ghost use Rattle.platform.specs.Mem.{image_of_now};
 ghost use Rattle.btree_update.specs.Groves.{IsSound, places_of};
 ghost use Rattle.btree_update.specs.Held.{bound, AreBelow};
 
-use crate::device::{Device, key_of};
+use crate::device::Device;
 use crate::shape::nodes_of;
 use btree_update::{Grove, ReadyRefusal};
 use btree_walk::NodeReader;
 use page_store::FetchRefusal;
 use platform::Platform;
+use record_versions::is_of_version;
 use root_codec::Root;
 use std::alloc::Global;
 use std::marker::Model;
@@ -25,6 +27,7 @@ pub(crate) struct Fixture {
 
 impl Model for Fixture {
     ghost use Rattle.std.specs.Prelude.{◌≡◌, length};
+    ghost use Rattle.sdbt_base.specs.Keys.{key_size};
     ghost use Rattle.platform.specs.Mem.{image_of_now};
     ghost use Rattle.btree_update.specs.Groves.{IsSound, places_of};
     ghost use Rattle.btree_update.specs.Held.{bound, AreBelow};
@@ -33,11 +36,11 @@ impl Model for Fixture {
 
     ghost view = { λ f. tt };
 
-    ghost invariant = { λ f. IsSound f.grove × (f.grove.blocks ≡ f.root.blocks) × AreBelow (bound (length (image_of_now f.device.platform).recorded) 32) (places_of f.grove) };
+    ghost invariant = { λ f. IsSound f.grove × (f.grove.blocks ≡ f.root.blocks) × AreBelow (bound (length (image_of_now f.device.platform).recorded) (key_size f.root.version)) (places_of f.grove) };
 }
 
 impl Fixture {
-    /// The tree of a root node at an address and of a level, with this order and so many blocks.
+    /// The tree of a root node at an address and of a level, with this order and so many blocks, of the device's version.
     pub(crate) fn over(
         alloc: Global,
         device: Device,
@@ -47,13 +50,13 @@ impl Fixture {
         addr: u64,
     ) -> Option<Fixture> {
         let root = Root {
-            version: 1,
+            version: device.version(),
             order: size.0,
             level,
             blocks: size.1,
             commit: 0,
             addr,
-            key: key_of(addr),
+            key: device.key_at(device.version(), addr, addr),
             mapped: 0,
             head: device.platform.head(),
         };
@@ -116,11 +119,15 @@ impl Fixture {
         if addr >= self.device.platform.head() {
             return None;
         }
+        let key = self.device.key_at(self.root.version, addr, addr);
+        if !is_of_version(&key, self.root.version) {
+            return None;
+        }
         let _is_mapped = self
             .grove
             .ready(alloc, block, &mut self.device.platform, &mut self.reader)
             .ok()?;
-        self.grove.insert(block, addr, key_of(addr));
+        self.grove.insert(block, addr, key);
         Some(())
     }
 

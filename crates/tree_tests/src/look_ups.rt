@@ -204,7 +204,10 @@ find 8 2 0: at 1";
 fn nodes_of_the_other_version(rt: HostRuntime) -> Result<(), Fail> {
     let pages = format!(in rt.alloc(); "{SPLIT}\n{MIXED}")?;
     for capacity in [0, 8] {
-        assert_eq!(rt; unlike(rt.alloc(), pages.as_str(), capacity, OF_TWO_VERSIONS), None);
+        assert_eq!(rt;
+            unlike(rt.alloc(), pages.as_str(), capacity, OF_TWO_VERSIONS),
+            None
+        );
     }
     Ok(())
 }

@@ -80,7 +80,13 @@ fn append(alloc: Global, device: &mut Device, line: &str) -> Option<u64> {
     };
     let version = device.version();
     match level.split_once('~') {
-        Some((_, level)) => append_node(alloc, device, if version == 1 { 2 } else { 1 }, level, words),
+        Some((_, level)) => append_node(
+            alloc,
+            device,
+            if version == 1 { 2 } else { 1 },
+            level,
+            words,
+        ),
         None => append_node(alloc, device, version, level, words),
     }
 }
@@ -109,12 +115,13 @@ pub(crate) fn device_of(alloc: Global, version: u8, pages: &str) -> Option<Devic
 /// A tree of so many blocks on that device. The last page is its root node, of this level.
 pub(crate) fn fixture_of(
     alloc: Global,
+    version: u8,
     pages: &str,
     order: u16,
     blocks: u64,
     level: u8,
 ) -> Option<Fixture> {
-    let device = device_of(alloc, 1, pages)?;
+    let device = device_of(alloc, version, pages)?;
     let reader = NodeReader::new(alloc, 16).ok()?;
     let top = device.platform.head().checked_sub(1)?;
     Fixture::over(alloc, device, reader, (order, blocks), level, top)

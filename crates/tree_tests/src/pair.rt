@@ -32,8 +32,14 @@ pub(crate) struct Pair {
 
 impl Pair {
     /// Both without any block, over a medium that has a few pages.
-    pub(crate) fn new(alloc: Global, order: u16, blocks: u64, seed: u64) -> Option<Pair> {
-        let mut fixture = fixture_of(alloc, "1:", order, blocks, 1)?;
+    pub(crate) fn new(
+        alloc: Global,
+        version: u8,
+        order: u16,
+        blocks: u64,
+        seed: u64,
+    ) -> Option<Pair> {
+        let mut fixture = fixture_of(alloc, version, "1:", order, blocks, 1)?;
         for _ in 0..8 {
             fixture.datum()?;
         }

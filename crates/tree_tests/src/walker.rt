@@ -21,12 +21,7 @@ pub(crate) struct Walker {
 
 impl Walker {
     /// A device whose pages are these lines, with nodes of a version, behind a cache of so many nodes.
-    pub(crate) fn new(
-        alloc: Global,
-        version: u8,
-        pages: &str,
-        capacity: usize,
-    ) -> Option<Walker> {
+    pub(crate) fn new(alloc: Global, version: u8, pages: &str, capacity: usize) -> Option<Walker> {
         if capacity > MOST_NODES {
             return None;
         }
