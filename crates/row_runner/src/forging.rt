@@ -174,7 +174,7 @@ pub(crate) fn root_of(
     let mut record = [0; ROOT];
     put(&mut record, 0, b"SDBTROOT");
     put(&mut record, 8, &[0, 1]);
-    let mut node = 0;
+    let (mut version, mut node) = (1, 0);
     for _ in 0..u64::MAX {
         let Some(field) = words.next() else {
             break;
@@ -184,12 +184,14 @@ pub(crate) fn root_of(
         } else {
             let value = number(words)?;
             put_root_field(&mut record, field, value)?;
-            if field == "addr" {
+            if field == "version" {
+                version = value;
+            } else if field == "addr" {
                 node = value;
             }
         }
     }
-    if record[8..10] == [0, 2] {
+    if version == 2 {
         put(&mut record, 88, &digest_of(&page_at(pages, node)));
     }
     Ok(record)
