@@ -9,6 +9,7 @@ pub mod Keys
 pub mod Ready
 pub mod Damage
 pub mod Going
+pub mod Changed
 pub mod Mounting
 pub mod Replies
 pub mod Certifying

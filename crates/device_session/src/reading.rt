@@ -1,6 +1,7 @@
-ghost use Rattle.std.specs.Prelude.{◌≡◌, ◌<◌, ◌≤◌, ◌+◌, ℕ, OnOk, OnErr, IsErrOf, length};
+ghost use Rattle.std.specs.Prelude.{◌≡◌, ◌⊎◌, ◌<◌, ◌≤◌, ◌+◌, ℕ, OnOk, OnErr, IsErrOf, length};
 ghost use Rattle.sdbt_base.specs.Faults.{TellsOf};
-ghost use Rattle.sdbt_base.specs.Arrays.{Device, Blocks};
+ghost use Rattle.sdbt_base.specs.Arrays.{Device, Blocks, content_of};
+ghost use Rattle.platform.specs.Image.{Image};
 ghost use Rattle.platform.specs.Calls.{Looks};
 ghost use Rattle.node_codec.specs.Record.{DataRecord};
 ghost use Rattle.page_store.specs.Places.{NothingFits, FitsAt, block_want};
@@ -18,6 +19,7 @@ impl Session {
     ghost use Rattle.device_session.specs.Open.{IsOpen, blocks_of, root_of};
     ghost use Rattle.device_session.specs.Holds.{Holds};
     ghost use Rattle.device_session.specs.Damage.{Follows};
+    ghost use Rattle.device_session.specs.Changed.{IsChangedBelow, CollidesOnWay};
     ghost use Rattle.device_session.specs.Going.{GoesOn};
     ghost use Rattle.device_session.specs.Keys.{StaysListed};
     ghost use Rattle.device_session.specs.Reading.{ReadsArray, FindsContent, IsFirstMisfit, ReadsFew};
@@ -47,6 +49,10 @@ impl Session {
             → OnOk result (FindsContent (P.history platform.old).present.readable self.old.grove block out.new) }
         ensures misfit { P.tells → StandsOver (P.history platform.old).present.readable self.old.cache → (addr : ℕ)
             → IsErrOf result (ReadRefusal.BadRecord addr) → IsFirstMisfit (P.history platform.old).present.readable self.old.grove block addr }
+        // Where reads of the medium give other pages than were recorded of a device of version 2, the content is the device's
+        // all the same, or on the way to the block a page was met that has the digest of the recorded one.
+        ensures unchanged { P.tells → (image : Image) (device : Device) → IsChangedBelow self.old image (P.history platform.old).present device
+            → OnOk result ((out.new ≡ content_of device.contents block) ⊎ CollidesOnWay image (P.history platform.old).present (root_of self.old) block) }
         ensures goes_on { GoesOn P.tells (P.history platform.old).present (P.history platform.new).present (P.head platform.new) self.old self.new }
         // A refused read leaves `out` as it was.
         ensures same { (self.new.mapped ≡ self.old.mapped) × (self.new.is_touched ≡ self.old.is_touched) × (self.new.grove ≡ self.old.grove)

@@ -17,6 +17,7 @@ use Rattle.page_store.specs.Buffer.{Held}
 use Rattle.device_session.specs.Going.{GoesOn}
 use Rattle.device_session.specs.Keys.{StaysListed}
 use Rattle.device_session.proofs.DamageLaws.{misfit_wrong}
+use Rattle.device_session.proofs.ChangedLaws.{changed_read}
 use Rattle.device_session.proofs.GoingLaws.{goes_start, goes_looked}
 use Rattle.device_session.proofs.KeyLaws.{listed_looked}
 use Rattle.device_session.specs.contracts.session.Session.{the_view}
@@ -158,6 +159,26 @@ returns-in_err-read_block-clause-damaged g c =
     let nothing = subst (λ (i : Image). NothingFits i.readable (block_want c.in-Some.entry.addr c.args.block) c.in-Some.entry.key) (c.find.ensures.looks.image told) bad.1 in
     misfit_wrong c.args.self.now (g.P.Platform.history c.args.platform.now).present c.args.block addr (g.P.Platform.head c.args.platform.now) c.requires.open f
     (inr (c.in-Some.entry, found g (goal.at.returns-in_err-read_block-clause-damaged g c).In-Some told f.cached, bad.0, nothing)))
+
+-- ---- over changed pages
+
+pub returns-in_default-clause-unchanged : goal.returns-in_default-clause-unchanged
+returns-in_default-clause-unchanged g c = λ told image device is.
+    let changed = (g.P.Platform.history c.args.platform.now).present in
+    let finds = c.in_ok-found.ensures.found told (cached g (goal.at.returns-in_default-clause-unchanged g c).After-find is.cached) in
+    changed_read c.args.self.now image changed device c.args.block (g.P.Platform.head c.args.platform.now) _ c.requires.open is (record {
+      found = None;
+      finds = subst (λ (s : Session). GroveFinds changed.readable c.args.block s.grove None) c.self.view_is (subst (GroveFinds changed.readable c.args.block (the_view c.self.inside).grove) c.in_default.is finds);
+      reads = c.fill.ensures.after (λ y same. same) ∙ ap (λ (n : ℕ). replicate n 0) c.requires.size;
+    })
+
+pub returns-clause-unchanged : goal.returns-clause-unchanged
+returns-clause-unchanged g c = λ told image device is.
+    changed_read c.args.self.now image (g.P.Platform.history c.args.platform.now).present device c.args.block (g.P.Platform.head c.args.platform.now) _ c.requires.open is (record {
+      found = Some c.in-Some.entry;
+      finds = found g (goal.at.returns-clause-unchanged g c).In-Some told is.cached;
+      reads = subst (λ (i : Image). FitsAt i.readable (block_want c.in-Some.entry.addr c.args.block) c.in-Some.entry.key (DataRecord c.args.block c.read_block.new.out)) (c.find.ensures.looks.image told) (c.in_ok-read_block.ensures.fits told);
+    })
 
 -- ---- what it leaves
 
