@@ -162,7 +162,7 @@ not_empty image root is none =
 
 -- a session's
 pub root_there : (image : Image) (session : Session) (pages : ℕ) → IsOpen session pages → image.cell ≡ Some (root_bytes session.root) → IsRootOf image session.root
-root_there image session pages open cell = record { cell = cell; in_range = open.served.in_range; key = open.served.key }
+root_there image session pages is_open cell = record { cell = cell; in_range = is_open.served.in_range; key = is_open.served.key }
 
 -- ---- a whole move
 

@@ -62,10 +62,10 @@ pub returns-then-len-root-clause-count : goal.returns-then-len-root-clause-count
 returns-then-len-root-clause-count g c =
     let root : Root = c.root-root.result.now in
     let same : root ≡ c.args.session.now.root = c.root-root.ensures in
-    lows_many (λ (v : Vec ℕ _). v.items) c.lows_of.result c.in-Ok-entries.list root.blocks c.args.session.now.root.mapped c.lows_of.ensures.blocks (c.if-len-root.true ∙ ap (λ (r : Root). r.mapped) same)
+    lows_many (λ (v : Vec ℕ _). v.items) c.lows_of.result c.in-Ok-entries.list root.blocks c.args.session.now.root.mapped c.lows_of.ensures.blocks (sym c.len.ensures ∙ (c.if-len-root.true ∙ ap (λ (r : Root). r.mapped) same))
 
-pub returns-else-len-root-clause-wrong : goal.returns-else-len-root-clause-wrong
-returns-else-len-root-clause-wrong g c known =
+pub returns-in-Ok-entries-clause-wrong : goal.returns-in-Ok-entries-clause-wrong
+returns-in-Ok-entries-clause-wrong g c known =
     let P = g.P.Platform in
     let image = (P.history c.args.platform.now).present in
     let root : Root = c.root-root.result.now in
@@ -74,13 +74,13 @@ returns-else-len-root-clause-wrong g c known =
     let of : NodesOf image.readable c.args.session.now.root lists.nodes = subst (λ (r : Root). NodesOf image.readable r lists.nodes) same lists.are in
     subst (λ (r : Root). IsWrongPage (P.history c.entries.new.platform).present r.addr) (sym same)
     (list_miscounted image (P.history c.entries.new.platform).present c.args.session.now lists.nodes c.requires.open.served.in_range known.1 of
-    (λ many. absurd (c.if-len-root.false (ap length lists.is ∙ many ∙ sym (ap (λ (r : Root). r.mapped) same)))) (c.in-Ok-entries.ensures.looks.image known.0))
+    (λ many. absurd (c.if-len-root.false (c.len.ensures ∙ ap length lists.is ∙ many ∙ sym (ap (λ (r : Root). r.mapped) same)))) (c.in-Ok-entries.ensures.looks.image known.0))
 
-pub returns-else-len-root-clause-lists : goal.returns-else-len-root-clause-lists
-returns-else-len-root-clause-lists g c told there array at =
+pub returns-in-Ok-entries-clause-lists : goal.returns-in-Ok-entries-clause-lists
+returns-in-Ok-entries-clause-lists g c told there array at =
     let image = (g.P.Platform.history c.args.platform.now).present in
     let root : Root = c.root-root.result.now in
     let same : root ≡ c.args.session.now.root = c.root-root.ensures in
     let lists = c.in-Ok-entries.ensures.listed told in
     let of : NodesOf image.readable c.args.session.now.root lists.nodes = subst (λ (r : Root). NodesOf image.readable r lists.nodes) same lists.are in
-    absurd (c.if-len-root.false (ap length lists.is ∙ list_counted image there c.args.session.now.root at.there.session.0.committed lists.nodes at.there.session.0.stands of ∙ sym (ap (λ (r : Root). r.mapped) same)))
+    absurd (c.if-len-root.false (c.len.ensures ∙ ap length lists.is ∙ list_counted image there c.args.session.now.root at.there.session.0.committed lists.nodes at.there.session.0.stands of ∙ sym (ap (λ (r : Root). r.mapped) same)))
