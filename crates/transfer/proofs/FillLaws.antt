@@ -261,7 +261,7 @@ fresh_blank image session device there at alike fresh =
     λ k. record { version = there.version; blocks = alike.blocks k; order = alike.order k; number = number k; contents = contents k }
 
 -- and the other way round
-blank_fresh : (image : Image) (session : Session) (device there : Device) → IsAt image (Some session) (mounted there (session_on there)) → IsBlank device there → (number_of session ≡ 0) × (session.mapped ≡ 0)
+pub blank_fresh : (image : Image) (session : Session) (device there : Device) → IsAt image (Some session) (mounted there (session_on there)) → IsBlank device there → (number_of session ≡ 0) × (session.mapped ≡ 0)
 blank_fresh image session device there at blank =
     let holds = at.there.session.0 in
     let empty : maps.from_entries {R = nat_cmp} (pairs (joined holds.each).mapped) ≡ maps.empty = sym holds.contents_are ∙ ap (λ (d : Device). d.contents) blank in

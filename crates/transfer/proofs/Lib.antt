@@ -4,6 +4,7 @@ pub mod ToLaws
 pub mod StatusLaws
 pub mod ListLaws
 pub mod HaltLaws
+pub mod RefusalLaws
 pub mod FormatLaws
 pub mod CopyLaws
 pub mod MovingLaws

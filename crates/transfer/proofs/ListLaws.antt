@@ -1,11 +1,15 @@
 -- What a listing of mapped blocks says.
-use Rattle.std.proofs.Common.{◌≡◌, ◌<◌, ◌≤◌, ◌+◌, ◌∙◌, ◌++◌, ◌∷◌, ℕ, List, [], Some, Result, Ok, Err, inl, refl, sym, ap, subst, take, map, arith}
-use Rattle.std.specs.Prelude.{All, IfErr, slice_get}
+use Rattle.std.proofs.Common.{◌≡◌, ◌<◌, ◌≤◌, ◌+◌, ◌∙◌, ◌++◌, ◌∷◌, ℕ, List, [], Some, Result, Ok, Err, inl, inr, refl, sym, ap, subst, take, map, length, arith}
+use Rattle.std.specs.Prelude.{All, IfErr, IfOk, slice_get}
 use Rattle.std.proofs.Common.{add-one}
-use Rattle.std.proofs.lemmas.List.{map-append}
+use Rattle.std.proofs.lemmas.List.{length-map, map-append}
 use Rattle.std.proofs.lemmas.List.Elements.{All-append, All-cons, All-nil, All-weaker}
 use Rattle.node_codec.specs.declared.body.Entry.{Entry}
-use Rattle.btree_walk.specs.Mapped.{IsListedWithin}
+use Rattle.btree_walk.specs.Mapped.{IsListedWithin, entry_of}
+use Rattle.btree_walk.proofs.LevelLaws.{tree_entries}
+use Rattle.page_store.specs.Stands.{StandsBy}
+use Rattle.page_store.specs.Tree.{Parts}
+use Rattle.sdbt_base.specs.Arrays.{Device}
 use Rattle.btree_walk.proofs.NodeLaws.{take_more}
 use Rattle.btree_walk.proofs.OrderLaws.{root_within}
 use Rattle.sdbt_base.specs.Counts.{counts}
@@ -23,7 +27,7 @@ use Rattle.btree_walk.proofs.ShowsLaws.{first_wrong_is_wrong}
 use Rattle.page_store.specs.Places.{root_want}
 use Rattle.device_terms.proofs.MomentLaws.{one_look, still}
 use Rattle.session_calls.specs.Blame.{HasCause, IsBlamed}
-use Rattle.session_calls.specs.Damage.{IsMounted, IsWrongPlace}
+use Rattle.session_calls.specs.Damage.{IsMounted, IsWrongPage, IsWrongPlace}
 use Rattle.session_calls.specs.declared.stops.DeviceStop.{DeviceStop}
 use Rattle.session_calls.specs.declared.stops.DeviceStop.TheVariants as stops
 use Rattle.device_session.specs.Sessions.{Session}
@@ -122,3 +126,26 @@ entries_stopped Known image list blocks addr (Err stops.Ledger) is within = absu
 entries_stopped Known image list blocks addr (Err stops.BadRoot) is within = absurd is
 entries_stopped Known image list blocks addr (Err stops.Memory) is within = tt
 entries_stopped Known image list blocks addr (Err (stops.BadRecord at)) is within = λ known. absurd (is.1 (within known))
+
+-- ---- how many they are
+
+-- where a tree's entries are others than the root record says, its blocks are miscounted
+pub list_miscounted : (image after : Image) (session : Session) (nodes : List Node) → FitsRoot session.root → IsMounted image session → NodesOf image.readable session.root nodes → (length (listed nodes) ≡ session.root.mapped → ⊥) → after ≡ image → IsWrongPage after session.root.addr
+list_miscounted image after session nodes fits mounted of never same =
+    let here : IsWrongPage image session.root.addr = inr (record {
+      root = session.root;
+      in_range = fits;
+      cell = mounted.cell;
+      is_node = refl;
+      miscounted = λ parts tree many. never (ap length (tree_entries image.readable session.root parts nodes fits tree of) ∙ length-map parts.mapped entry_of ∙ many);
+    }) in
+    subst (λ (i : Image). IsWrongPage i session.root.addr) (sym same) here
+
+-- those of a device aren't
+pub list_counted : (image : Image) (device : Device) (root : Root) (parts : Parts) (nodes : List Node) → StandsBy image device root parts → NodesOf image.readable root nodes → length (listed nodes) ≡ root.mapped
+list_counted image device root parts nodes stands of = ap length (tree_entries image.readable root parts nodes stands.in_range stands.tree of) ∙ length-map parts.mapped entry_of ∙ stands.count
+
+pub lows_many : {X : Type 0} (items : X → List ℕ) (result : Result X DeviceStop) (list : List Entry) (blocks count : ℕ) → IfOk result (λ lows. All (λ block. block < blocks) (items lows) × (items lows ≡ map (λ (e : Entry). e.low) list)) → length list ≡ count
+    → IfOk result (λ lows. length (items lows) ≡ count)
+lows_many items (Ok lows) list blocks count done many = ap length done.1 ∙ length-map list (λ (e : Entry). e.low) ∙ many
+lows_many items (Err stop) list blocks count done many = tt

@@ -10,6 +10,7 @@ use Rattle.session_calls.specs.Along.{Along, Drawn}
 use Rattle.session_calls.specs.Carrying.{Carries, IsReady}
 use Rattle.transfer.specs.Counts.{counts}
 use Rattle.transfer.specs.Halts.{Blames}
+use Rattle.transfer.specs.Refusals.{IsOfReads}
 use Rattle.transfer.specs.Running.{IsBehindBoth, MeetsWrong}
 use Rattle.transfer.specs.declared.halts.Halt.{Halt}
 
@@ -26,7 +27,7 @@ pub record ReadsBoth {S R X : Type 0} (P : PlatformGhosts S) (Q : PlatformGhosts
   pub to : (any : Drawn) → Along Q 0 second second_now any any target target_now
   pub blame : (tape output ledger : ℕ) → Blames (counts (P.faults first) (Q.faults second) tape output ledger) (counts (P.faults first_now) (Q.faults second_now) tape output ledger) result
   pub wrong : IfErr result (MeetsWrong P.tells Q.tells (P.history first_now).present (Q.history second_now).present)
-  pub behind : IfErr result IsBehindBoth
+  pub behind : IfErr result IsOfReads
 
 -- the first device is only read, and the second one is filled: its session ends
 pub record FillsBoth {S R W V : Type 0} (P : PlatformGhosts S) (Q : PlatformGhosts R) (T : TapeGhosts W) (L : SinkGhosts V) (first first_now : S) (second second_now : R) (tape tape_now : W) (ledger ledger_now : V) (source source_now target : Session) (result : Result ℕ Halt) : Type 0 where

@@ -4,6 +4,7 @@ pub mod Halts
 pub mod Listing
 pub mod Opening
 pub mod Running
+pub mod Refusals
 pub mod Program
 pub mod Moving
 pub mod Both

@@ -14,6 +14,7 @@ use Rattle.session_calls.specs.declared.stops.DeviceStop.{DeviceStop}
 use Rattle.session_calls.specs.declared.stops.DeviceStop.TheVariants as device
 use Rattle.transfer.specs.Copies.{HasCopy, IsCopy, IsOnWay, IsOther}
 use Rattle.transfer.specs.Halts.{EndsAs}
+use Rattle.transfer.specs.Refusals.{AreUnlike, IsRefused}
 use Rattle.transfer.specs.Running.{HasMapped, Looked, LookedThere, MeetsWrong}
 use Rattle.transfer.specs.declared.halts.Halt.{Halt}
 use Rattle.transfer.specs.declared.halts.Halt.TheVariants as halts
@@ -78,6 +79,11 @@ Refuses (Err (halts.From stop)) = Unit {0}
 Refuses (Err (halts.To stop)) = Unit {0}
 Refuses (Err halt) = ⊥
 
+-- on any images: why nothing was moved, and that nothing is where the devices are of other sizes, or their trees of other orders
+pub record Refusing {X : Type 0} (from_tells to_tells : Type 0) (from to : Image) (free : ℕ) (result : Result X Halt) : Type 0 where
+  pub refused : IfErr result (λ halt. from_tells → to_tells → IsRefused from to free halt)
+  pub unlike : from_tells → to_tells → AreUnlike from to → Refuses result
+
 -- from the device that there was, or none, these others were made in their order, each never written or a copy; where all was done the last is a copy with this number. Too few pages
 -- were free where this holds
 pub record Reaches (old new : History) (device : Device) (there : Option Device) (Short : Type 0) (result : Result ℕ Halt) : Type 0 where
@@ -117,5 +123,7 @@ pub record Went (from_tells to_tells : Type 0) (from from_now to to_now : Histor
   pub looked : Looked from_tells from.present moved
   pub there : LookedThere to_tells to.present moved
   pub mapped : IfOk moved (λ one. from_tells → HasMapped from.present one.blocks)
+  pub refused : IfErr moved (λ halt. from_tells → to_tells → IsRefused from.present to.present free halt)
+  pub unlike : from_tells → to_tells → AreUnlike from.present to.present → Refuses moved
   pub leads : from_tells → to_tells → (device : Device) (there : Option Device) → Stands from.present (Some device) → IsServedImage from.present → Stands to.present there → IsServedImage to.present
       → Moves from from_now to to_now device there (IsShort device 1 free) moved

@@ -11,6 +11,7 @@ use Rattle.session_calls.specs.Spans.{Spans}
 use Rattle.transfer.specs.Counts.{counts}
 use Rattle.transfer.specs.Halts.{Blames}
 use Rattle.transfer.specs.Moving.{OpensNone}
+use Rattle.transfer.specs.Refusals.{IsIdle, IsOn, OpensNot}
 use Rattle.transfer.specs.Running.{IsOfOpening, Opens}
 use Rattle.transfer.specs.declared.opening.Target.{Target}
 use Rattle.device_core.specs.declared.refusals.FormatRefusal.{FormatRefusal}
@@ -37,3 +38,6 @@ pub record OpensTarget {R W V : Type 0} (Q : PlatformGhosts R) (T : TapeGhosts W
   pub adds : IfOk result (λ target. (Q.head to_now ≤ Q.head to + 1) × (Q.capacity to_now ≡ Q.capacity to))
   pub blame : (from output : ℕ) → Blames (counts from (Q.faults to) (T.faults tape) output (L.faults ledger)) (counts from (Q.faults to_now) (T.faults tape_now) output (L.faults ledger_now)) result
   pub stops : IfErr result IsOfOpening
+  pub idle : IfOk result (λ target. IsIdle target.session)
+  pub on : IfOk result (λ target. Q.tells → IsOn (Q.history to).present blocks order target.is_new target.session)
+  pub opens_not : IfErr result (λ halt. Q.tells → OpensNot (Q.history to).present (Q.capacity to - Q.head to) halt)

@@ -19,7 +19,8 @@ use Rattle.device_course.specs.States.{Outside}
 use Rattle.transfer.specs.Copies.{HasCopy, IsCopy, IsFresh, IsOnWay, IsOther}
 use Rattle.transfer.specs.Counts.{Counts, FromRose, LedgerRose, NoneFell, OutputRose, TapeRose, ToRose}
 use Rattle.transfer.specs.Halts.{EndsAs, exit_of, last_line_of, moved_line}
-use Rattle.transfer.specs.Moving.{IsShort}
+use Rattle.transfer.specs.Moving.{IsShort, Refuses}
+use Rattle.transfer.specs.Refusals.{AreUnlike, IsRefused}
 use Rattle.transfer.specs.Running.{HasMapped, Looked, LookedThere, MeetsWrong}
 use Rattle.transfer.specs.declared.halts.Halt.{Halt}
 use Rattle.transfer.specs.declared.halts.Halt.TheVariants as halts
@@ -51,8 +52,9 @@ pub record Exits (words : List (List ℕ)) (status : ℕ) (before now : Counts) 
   pub blame : IsBlamedAt status before now
 
 -- how a run went that was given no words: it moved a device, or halted; what it said of that, and its status. A record that is named doesn't fit its place; and that there is no device to be
--- moved, or that its root record can't be served, is said exactly where that was so, but for faults of its platform
-pub record Ran (from_tells to_tells : Type 0) (first first_to from to : Image) (status : ℕ) (written written_now : Option (List ℕ)) : Type 0 where
+-- moved, or that its root record can't be served, is said exactly where that was so, but for faults of its platform. On any images it is refused only as the root records in the cells say,
+-- and where these are of other numbers of blocks, or of other orders, nothing is moved. So many pages were free on the second platform
+pub record Ran (from_tells to_tells : Type 0) (first first_to from to : Image) (free status : ℕ) (written written_now : Option (List ℕ)) : Type 0 where
   pub moved : Result Moved Halt
   pub ending : Result (Unit {0}) Halt
   pub said : EndsAs moved ending written written_now
@@ -61,6 +63,8 @@ pub record Ran (from_tells to_tells : Type 0) (first first_to from to : Image) (
   pub looked : Looked from_tells first moved
   pub there : LookedThere to_tells first_to moved
   pub mapped : IfOk moved (λ one. from_tells → HasMapped first one.blocks)
+  pub refused : IfErr moved (λ halt. from_tells → to_tells → IsRefused first first_to free halt)
+  pub unlike : from_tells → to_tells → AreUnlike first first_to → Refuses moved
 
 -- the device that is moved: it is left, or its root record was cleared, and at status 0 that was done. What is promised of each run over a device is promised of this one
 pub record LeavesDevice (old new : Outside) (status : ℕ) (there : Device) : Type 0 where

@@ -10,7 +10,8 @@ ghost use Rattle.sdbt_base.specs.Arrays.{Device, Session as OpenSession, mounted
 ghost use Rattle.device_course.specs.States.{IsAt};
 ghost use Rattle.transfer.specs.Copies.{copied, copy_block};
 ghost use Rattle.transfer.specs.Moving.{Commits, Copies};
-ghost use Rattle.transfer.specs.Running.{IsBehindBoth, IsNumberOf, IsOfCommit, MeetsWrong, alone};
+ghost use Rattle.transfer.specs.Refusals.{IsOfCopy};
+ghost use Rattle.transfer.specs.Running.{IsNumberOf, IsOfCommit, MeetsWrong, alone};
 
 use crate::halts::Halt;
 use crate::sides::{read_source, write_target};
@@ -42,7 +43,7 @@ pub(crate) fn copy_blocks<P: Platform, Q: Platform, T: Tape>(
         → Copies (P.history from.new).present (Q.history to.new).present source.new target.new device there array
         (copied array.contents blocks.now other) result }
     ensures full { result ≡ Err Halt.Full → (0 < length blocks.now) × (Q.head to.new ≡ Q.capacity to.new) }
-    ensures behind { IfErr result IsBehindBoth }
+    ensures behind { IfErr result IsOfCopy }
 {
     let mut content = [0; BLOCK];
     for block in blocks {
@@ -76,7 +77,7 @@ fn copy_block<P: Platform, Q: Platform, T: Tape>(
         → Copies (P.history from.new).present (Q.history to.new).present source.new target.new device there array
         (copy_block array.contents other block) result }
     ensures full { result ≡ Err Halt.Full → Q.head to.new ≡ Q.capacity to.new }
-    ensures behind { IfErr result IsBehindBoth }
+    ensures behind { IfErr result IsOfCopy }
     ensures size { length content.new ≡ 4096 }
 {
     read_source(source, from, block, content)?;

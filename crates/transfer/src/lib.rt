@@ -1,7 +1,7 @@
 //! The move of a device to a fresh medium: what is on one platform is copied to another, and the root record that leads to it is cleared.
 #![tactic(auto)]
 
-ghost use Rattle.std.specs.Prelude.{◌≡◌, [], Option, Some, map, string_bytes};
+ghost use Rattle.std.specs.Prelude.{◌≡◌, ◌-◌, [], Option, Some, map, string_bytes};
 ghost use Rattle.sdbt_base.specs.Arrays.{Device};
 ghost use Rattle.page_store.specs.Stands.{Stands};
 ghost use Rattle.device_terms.specs.Served.{IsServedImage};
@@ -30,7 +30,7 @@ use std::alloc::Global;
 /// written to one that was never written, and committed once; nothing is where it has the same blocks with the same content. Then the
 /// root record of `from` is cleared: its pages stay, and no chain of keys leads to them any more.
 /// Statuses: 0, the device was moved; 2, words are given; 4, `output` failed; 5, `from`; 6, the tape; 7, `ledger`; 8, a root cell is
-/// full, and its root record can't be served; 9, a record was not what a tree wants there; 10, there is no device on `from`, or another
+/// full, and its root record can't be served; 9, a record was not what a tree wants there, or a root record says that other blocks are mapped than its tree has; 10, there is no device on `from`, or another
 /// one on `to`, or too few pages are free there; 11, no memory; 13, `to` failed.
 pub fn run_transfer<P: Platform, Q: Platform, T: Tape, O: Sink, L: Sink>(
     alloc: Global,
@@ -47,8 +47,8 @@ pub fn run_transfer<P: Platform, Q: Platform, T: Tape, O: Sink, L: Sink>(
         (counts (P.faults from.new) (Q.faults to.new) (T.faults tape.new) (O.faults output.new) (L.faults ledger.new)) }
     ensures other_words { result ≡ 2 → (from.new ≡ from.old) × (to.new ≡ to.old) × (tape.new ≡ tape.old) × (output.new ≡ output.old) × (ledger.new ≡ ledger.old) }
 
-    // What was said, and, on any pages, which record is named.
-    ensures ran { map string_bytes words.now ≡ [] → Ran P.tells Q.tells (P.history from.old).present (Q.history to.old).present (P.history from.new).present (Q.history to.new).present result
+    // What was said, and, on any pages, which record is named, and when nothing is moved.
+    ensures ran { map string_bytes words.now ≡ [] → Ran P.tells Q.tells (P.history from.old).present (Q.history to.old).present (P.history from.new).present (Q.history to.new).present (Q.capacity to.old - Q.head to.old) result
         (O.written output.old) (O.written output.new) }
 
     // From one device to another one, or to none: the first one is cleared only once the second one is a copy, whatever stops the run.

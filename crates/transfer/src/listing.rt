@@ -1,8 +1,8 @@
 //! Which blocks a device has mapped.
-ghost use Rattle.std.specs.Prelude.{◌≡◌, ◌<◌, All, IfErr, IfOk, Some, map};
+ghost use Rattle.std.specs.Prelude.{◌≡◌, ◌<◌, All, IfErr, IfOk, Some, length, map};
 ghost use Rattle.platform.specs.Calls.{Looks};
 ghost use Rattle.sdbt_base.specs.Counts.{counts};
-ghost use Rattle.device_session.specs.Open.{blocks_of, IsOpen};
+ghost use Rattle.device_session.specs.Open.{blocks_of, IsOpen, root_of};
 ghost use Rattle.session_calls.specs.Blame.{IsBlamed};
 ghost use Rattle.session_calls.specs.Damage.{IsMounted};
 ghost use Rattle.std.specs.FinMap as maps;
@@ -18,7 +18,8 @@ use platform::Platform;
 use session_calls::DeviceStop;
 use std::alloc::Global;
 
-/// The mapped blocks of the device that a session without a change is open on, in their order. Each node is read once.
+/// The mapped blocks of the device that a session without a change is open on, in their order. Each node is read once. Stops at the
+/// root node where its root record says that other blocks are mapped than the tree has.
 pub(crate) fn list_blocks<P: Platform>(
     alloc: Global,
     session: &Session,
@@ -26,6 +27,7 @@ pub(crate) fn list_blocks<P: Platform>(
 ) -> Result<Vec<u64>, DeviceStop>
     requires open { IsOpen session.now (P.head platform.old) }
     ensures within { IfOk result (λ blocks. All (λ block. block < blocks_of session.now) blocks.items) }
+    ensures count { IfOk result (λ blocks. length blocks.items ≡ (root_of session.now).mapped) }
     ensures looks { Looks P.Platform platform.old platform.new }
     ensures blame { IsBlamed (counts (P.faults platform.old) 0 0 0 0) (counts (P.faults platform.new) 0 0 0 0) result }
     ensures wrong { IfErr result (IsListStop (P.tells × IsMounted (P.history platform.old).present session.now) (P.history platform.new).present) }
@@ -38,7 +40,13 @@ pub(crate) fn list_blocks<P: Platform>(
     };
     let root = session.root();
     match entries(alloc, platform, root, &mut buffers) {
-        Ok(list) => lows_of(alloc, &list, root.blocks, root.addr),
+        Ok(list) => {
+            if list.len() as u64 == root.mapped {
+                lows_of(alloc, &list, root.blocks, root.addr)
+            } else {
+                Err(DeviceStop::BadRecord { addr: root.addr })
+            }
+        }
         Err(refusal) => Err(stop_of(refusal)),
     }
 }

@@ -1,5 +1,7 @@
 //! A run: the device that is moved, the one that it comes to, and the last line.
-ghost use Rattle.std.specs.Prelude.{◌≡◌, ◌-◌, ◌<◌, ℕ, None, Some, IfErr, IfOk, IsOk, IsTrue, Option};
+ghost use Rattle.std.specs.Prelude.{◌≡◌, ◌-◌, ◌<◌, ℕ, None, Some, Err, IfErr, IfOk, IsOk, IsTrue, Option, length};
+ghost use Rattle.device_session.specs.Open.{blocks_of, needed_by, number_of, root_of};
+ghost use Rattle.transfer.specs.Refusals.{HaltsAt, IsFreshRoot, IsIdle};
 ghost use Rattle.device_course.specs.States.{around};
 ghost use Rattle.session_calls.specs.Along.{Along, Drawn};
 ghost use Rattle.session_calls.specs.Carrying.{IsReady};
@@ -9,7 +11,7 @@ ghost use Rattle.device_course.specs.States.{IsAt};
 ghost use Rattle.page_store.specs.Stands.{Stands};
 ghost use Rattle.device_terms.specs.Served.{IsServedImage};
 ghost use Rattle.transfer.specs.Copies.{IsAlike, IsBlank};
-ghost use Rattle.transfer.specs.Moving.{IsShort, Matches, Moves, Reaches, Went};
+ghost use Rattle.transfer.specs.Moving.{IsShort, Matches, Moves, Reaches, Refusing, Went};
 ghost use Rattle.transfer.specs.Both.{AreReady, FillsBoth, ReadsBoth};
 ghost use Rattle.transfer.specs.Counts.{counts};
 ghost use Rattle.transfer.specs.Halts.{Blames};
@@ -70,6 +72,7 @@ fn move_device<P: Platform, Q: Platform, T: Tape, L: Sink>(
     ensures wrong { IfErr result (MeetsWrong P.tells Q.tells (P.history from.new).present (Q.history to.new).present) }
     ensures looked { Looked P.tells (P.history from.old).present result }
     ensures there { LookedThere Q.tells (Q.history to.old).present result }
+    ensures refused { Refusing P.tells Q.tells (P.history from.old).present (Q.history to.old).present (Q.capacity to.old - Q.head to.old) result }
     ensures mapped { IfOk result (λ moved. P.tells → HasMapped (P.history from.old).present moved.blocks) }
     // From one device to another one, or to none.
     ensures leads { P.tells → Q.tells → (device : Device) (there : Option Device) → Stands (P.history from.old).present (Some device) → IsServedImage (P.history from.old).present
@@ -102,6 +105,7 @@ fn move_session<P: Platform, Q: Platform, T: Tape, L: Sink>(
     ensures leads { P.tells → Q.tells → (device : Device) (there : Option Device) → IsAt (P.history from.old).present (Some first) (mounted device (session_on device))
         → Stands (Q.history to.old).present there → IsServedImage (Q.history to.old).present
         → Moves (P.history from.old) (P.history from.new) (Q.history to.old) (Q.history to.new) device there (IsShort device 1 (Q.capacity to.old - Q.head to.old)) result }
+    ensures refused { Refusing P.tells Q.tells (P.history from.old).present (Q.history to.old).present (Q.capacity to.old - Q.head to.old) result }
     ensures mapped { IfOk result (λ moved. moved.blocks ≡ first.mapped) }
     ensures there { LookedThere Q.tells (Q.history to.old).present result }
     ensures behind { IfErr result IsBehindMount }
@@ -135,6 +139,7 @@ fn fill<P: Platform, Q: Platform, T: Tape, L: Sink>(
         → Stands (Q.history to.old).present there → IsServedImage (Q.history to.old).present
         → Reaches (Q.history to.old) (Q.history to.new) device there (IsShort device 1 (Q.capacity to.old - Q.head to.old)) result }
     ensures there { LookedThere Q.tells (Q.history to.old).present result }
+    ensures refused { Refusing P.tells Q.tells (P.history from.old).present (Q.history to.old).present (Q.capacity to.old - Q.head to.old) result }
     ensures behind { IfErr result IsBehindMount }
 {
     let blocks = source.blocks();
@@ -166,6 +171,8 @@ fn fill_target<P: Platform, Q: Platform, T: Tape, L: Sink>(
     requires source { IsReady P.tells (alone P.Platform from.old) source.old }
     requires target { IsReady Q.tells (around Q.Platform T.Tape L.Sink to.old tape.old ledger.old) target }
     ensures both { FillsBoth P.Platform Q.Platform T.Tape L.Sink from.old from.new to.old to.new tape.old tape.new ledger.old ledger.new source.old source.new target result }
+    ensures refused { IsIdle target → IfErr result (HaltsAt (IsFreshRoot (blocks_of source.old) (root_of source.old).order (root_of target)) (root_of source.old).mapped (Q.capacity to.old - Q.head to.old)) }
+    ensures unlike { ((blocks_of source.old ≡ blocks_of target) × ((root_of source.old).order ≡ (root_of target).order) → ⊥) → result ≡ Err Halt.NotEmpty }
     ensures leads { P.tells → Q.tells → (device there : Device) → IsAt (P.history from.old).present (Some source.old) (mounted device (session_on device))
         → IsAt (Q.history to.old).present (Some target) (mounted there (session_on there)) → (IsTrue is_new → IsBlank device there)
         → Reaches (Q.history to.old) (Q.history to.new) device (Some there) (IsShort device 0 (Q.capacity to.old - Q.head to.old)) result }
@@ -194,6 +201,7 @@ fn fill_found<P: Platform, Q: Platform, T: Tape, L: Sink>(
 ) -> Result<u64, Halt>
     requires { AreReady P.tells Q.tells (alone P.Platform from.old) (around Q.Platform T.Tape L.Sink to.old tape.old ledger.old) source.old found blocks.now }
     ensures both { FillsBoth P.Platform Q.Platform T.Tape L.Sink from.old from.new to.old to.new tape.old tape.new ledger.old ledger.new source.old source.new found result }
+    ensures refused { needed_by found ≡ 0 → IfErr result (HaltsAt ((number_of found ≡ 0) × (found.mapped ≡ 0)) (length blocks.now) (Q.capacity to.old - Q.head to.old)) }
     ensures leads { P.tells → Q.tells → (device there : Device) → IsAt (P.history from.old).present (Some source.old) (mounted device (session_on device))
         → IsAt (Q.history to.old).present (Some found) (mounted there (session_on there)) → blocks.now ≡ map.keys device.contents → IsAlike device there
         → Reaches (Q.history to.old) (Q.history to.new) device (Some there) (IsShort device 0 (Q.capacity to.old - Q.head to.old)) result }
@@ -247,6 +255,7 @@ fn copy<P: Platform, Q: Platform, T: Tape, L: Sink>(
 ) -> Result<u64, Halt>
     requires { AreReady P.tells Q.tells (alone P.Platform from.old) (around Q.Platform T.Tape L.Sink to.old tape.old ledger.old) source.old first blocks.now }
     ensures both { FillsBoth P.Platform Q.Platform T.Tape L.Sink from.old from.new to.old to.new tape.old tape.new ledger.old ledger.new source.old source.new first result }
+    ensures refused { needed_by first ≡ 0 → IfErr result (HaltsAt (Unit {0}) (length blocks.now) (Q.capacity to.old - Q.head to.old)) }
     ensures leads { P.tells → Q.tells → (device there : Device) → IsAt (P.history from.old).present (Some source.old) (mounted device (session_on device))
         → IsAt (Q.history to.old).present (Some first) (mounted there (session_on there)) → blocks.now ≡ map.keys device.contents → IsBlank device there
         → Reaches (Q.history to.old) (Q.history to.new) device (Some there) (IsShort device 0 (Q.capacity to.old - Q.head to.old)) result }

@@ -1,6 +1,6 @@
 //! Calls on either side, each with the halt of its side.
 ghost use Rattle.std.specs.Prelude.{◌≡◌, ◌<◌, ◌≤◌, ℕ, All, Some, Err, IfErr, IfOk, length};
-ghost use Rattle.device_session.specs.Open.{blocks_of};
+ghost use Rattle.device_session.specs.Open.{blocks_of, root_of};
 ghost use Rattle.session_calls.specs.Along.{Along, Drawn, drawn_by};
 ghost use Rattle.session_calls.specs.Carrying.{IsReady};
 ghost use Rattle.transfer.specs.Counts.{counts};
@@ -56,6 +56,7 @@ pub(crate) fn read_target<Q: Platform>(
     ensures along { (any : Drawn) → Along Q.Platform 0 to.old to.new any any target.old target.new }
     ensures blame { (from tape output ledger : ℕ) → Blames (counts from (Q.faults to.old) tape output ledger)
         (counts from (Q.faults to.new) tape output ledger) result }
+    ensures full { result ≡ Err Halt.Full → ⊥ }
     ensures wrong { IfErr result (HaltsTo Q.tells (Q.history to.new).present) }
     ensures leads { Q.tells → (there : Device) (array : OpenSession) → IsAt (Q.history to.old).present (Some target.old) (mounted there array)
         → ReadsHere (Q.history to.new).present target.new there array block out.new result }
@@ -103,6 +104,7 @@ pub(crate) fn list_source<P: Platform>(
 ) -> Result<Vec<u64>, Halt>
     requires ready { IsReady P.tells (alone P.Platform from.old) source.now }
     ensures within { IfOk result (λ blocks. All (λ block. block < blocks_of source.now) blocks.items) }
+    ensures count { IfOk result (λ blocks. length blocks.items ≡ (root_of source.now).mapped) }
     ensures along { (any : Drawn) → Along P.Platform 0 from.old from.new any any source.now source.now }
     ensures blame { (to tape output ledger : ℕ) → Blames (counts (P.faults from.old) to tape output ledger)
         (counts (P.faults from.new) to tape output ledger) result }
@@ -127,6 +129,7 @@ pub(crate) fn list_target<Q: Platform>(
     ensures along { (any : Drawn) → Along Q.Platform 0 to.old to.new any any target.now target.now }
     ensures blame { (from tape output ledger : ℕ) → Blames (counts from (Q.faults to.old) tape output ledger)
         (counts from (Q.faults to.new) tape output ledger) result }
+    ensures full { result ≡ Err Halt.Full → ⊥ }
     ensures wrong { IfErr result (HaltsTo Q.tells (Q.history to.new).present) }
     ensures image { Q.tells → (Q.history to.new).present ≡ (Q.history to.old).present }
     ensures lists { Q.tells → (there : Device) (array : OpenSession) → IsAt (Q.history to.old).present (Some target.now) (mounted there array)

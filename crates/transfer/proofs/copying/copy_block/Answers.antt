@@ -5,7 +5,8 @@ use Rattle.session_calls.proofs.CallLaws.{along_more}
 use Rattle.transfer.proofs.BlameLaws.{blames_then}
 use Rattle.transfer.proofs.FillLaws.{read_sound}
 use Rattle.transfer.proofs.MovingLaws.{copied_block}
-use Rattle.transfer.proofs.HaltLaws.{behind_from, behind_to, from_full, halted, meets_from, meets_to}
+use Rattle.transfer.proofs.HaltLaws.{from_full, halted, meets_from, meets_to}
+use Rattle.transfer.proofs.RefusalLaws.{copy_from, copy_to}
 use Rattle.transfer.proofs.copying.copy_block.Goals as goal
 
 pub returns-in_err-read_source-clause-from : goal.returns-in_err-read_source-clause-from
@@ -54,10 +55,10 @@ returns-in-Ok-clause-leads g c from_told to_told device there array other at at_
     (one.0, copied_block (g.Q.Platform.history c.write_target.new.to).present c.write_target.new.target there array other c.args.block c.read_source.new.out c.in_ok-read_source.ensures.size one.1 two)
 
 pub returns-in_err-read_source-clause-behind : goal.returns-in_err-read_source-clause-behind
-returns-in_err-read_source-clause-behind g c = rw (halted c.from_residual.result c.in_err-read_source.field-0.0 c.from_residual.ensures.1) (behind_from _ _ c.in_err-read_source.field-0.0 c.in_err-read_source.ensures.wrong)
+returns-in_err-read_source-clause-behind g c = rw (halted c.from_residual.result c.in_err-read_source.field-0.0 c.from_residual.ensures.1) (copy_from _ _ c.in_err-read_source.field-0.0 c.in_err-read_source.ensures.wrong)
 
 pub returns-in-Err-clause-behind : goal.returns-in-Err-clause-behind
-returns-in-Err-clause-behind g c = behind_to _ _ c.in-Err.halt c.in-Err.ensures.wrong
+returns-in-Err-clause-behind g c = copy_to _ _ c.in-Err.halt c.in-Err.ensures.wrong
 
 pub returns-in_err-read_source-clause-full : goal.returns-in_err-read_source-clause-full
 returns-in_err-read_source-clause-full g c is =

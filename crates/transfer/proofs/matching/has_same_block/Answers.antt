@@ -1,7 +1,8 @@
 use Rattle.std.proofs.Common.{◌∙◌, sym}
 use Rattle.session_calls.proofs.AlongLaws.{along_start}
 use Rattle.transfer.proofs.BlameLaws.{blames_as, blames_done, blames_then}
-use Rattle.transfer.proofs.HaltLaws.{behind_from, behind_to, halted, meets_from, meets_to}
+use Rattle.transfer.proofs.HaltLaws.{halted, meets_from, meets_to}
+use Rattle.transfer.proofs.RefusalLaws.{reads_from, reads_to}
 use Rattle.transfer.proofs.matching.has_same_block.Goals as goal
 
 pub returns-in_err-read_source-clause-both : goal.returns-in_err-read_source-clause-both
@@ -10,7 +11,7 @@ returns-in_err-read_source-clause-both g c = rw (halted c.from_residual.result c
   to = λ any. along_start g.Q.Platform c.args.to.now any c.args.target.now c.requires.target.is_open;
   blame = λ tape output ledger. blames_as _ _ c.in_err-read_source.field-0.0 (c.in_err-read_source.ensures.blame (g.Q.Platform.faults c.args.to.now) tape output ledger);
   wrong = meets_from _ _ _ _ c.in_err-read_source.field-0.0 c.in_err-read_source.ensures.wrong;
-  behind = behind_from _ _ c.in_err-read_source.field-0.0 c.in_err-read_source.ensures.wrong;
+  behind = reads_from _ _ c.in_err-read_source.field-0.0 c.in_err-read_source.ensures.wrong;
 })
 
 pub returns-in-Ok-clause-both : goal.returns-in-Ok-clause-both
@@ -30,7 +31,7 @@ returns-in-Err-clause-both g c = record {
   blame = λ tape output ledger. blames_then _ _ _ _ (c.in_ok-read_source.ensures.blame (g.Q.Platform.faults c.args.to.now) tape output ledger).quiet
       (blames_as _ _ c.in-Err.halt (c.in-Err.ensures.blame (g.P.Platform.faults c.read_source.new.from) tape output ledger));
   wrong = meets_to _ _ _ _ c.in-Err.halt c.in-Err.ensures.wrong;
-  behind = behind_to _ _ c.in-Err.halt c.in-Err.ensures.wrong;
+  behind = reads_to _ _ c.in-Err.halt c.in-Err.ensures.wrong c.in-Err.ensures.full;
 }
 
 pub returns-in_err-read_source-clause-leads : goal.returns-in_err-read_source-clause-leads

@@ -11,6 +11,7 @@ use Rattle.transfer.specs.Moving.{IsShort}
 use Rattle.transfer.proofs.FillLaws.{reaches_blank, reaches_committed, reaches_since, short_not_copy}
 use Rattle.transfer.proofs.BlameLaws.{blames_as, blames_then}
 use Rattle.transfer.proofs.HaltLaws.{behind_commit_all, halted, meets_commit_all}
+use Rattle.transfer.proofs.RefusalLaws.{commit_at_all, copy_at, copy_behind}
 use Rattle.transfer.proofs.running.copy.Goals as goal
 
 pub returns-in_err-copy_blocks-clause-both : goal.returns-in_err-copy_blocks-clause-both
@@ -20,7 +21,7 @@ returns-in_err-copy_blocks-clause-both g c = rw (halted c.from_residual.result c
       (carries_along g.Q.Platform g.T.Tape g.L.Sink (length c.args.blocks.now) c.args.to.now c.copy_blocks.new.to c.args.tape.now c.copy_blocks.new.tape c.args.ledger.now _ _ c.requires.target c.copy_blocks.ensures.to);
   blame = λ output. blames_as _ _ c.in_err-copy_blocks.field-0.0 (c.in_err-copy_blocks.ensures.blame output (g.L.Sink.faults c.args.ledger.now));
   wrong = c.in_err-copy_blocks.ensures.wrong;
-  behind = c.in_err-copy_blocks.ensures.behind;
+  behind = copy_behind c.in_err-copy_blocks.field-0.0 c.in_err-copy_blocks.ensures.behind;
 })
 
 pub returns-clause-both : goal.returns-clause-both
@@ -67,3 +68,17 @@ returns-clause-leads g c from_told to_told device there at at_there keys blank =
 
 pub copy_blocks-requires : goal.copy_blocks-requires
 copy_blocks-requires g c = record { source = c.requires.source; target = record { is_open = c.requires.target.is_open; mounted = c.requires.target.mounted }; within = c.requires.within; alike = c.requires.alike }
+
+pub returns-in_err-copy_blocks-clause-refused : goal.returns-in_err-copy_blocks-clause-refused
+returns-in_err-copy_blocks-clause-refused g c none =
+    rw (halted c.from_residual.result c.in_err-copy_blocks.field-0.0 c.from_residual.ensures.1) (copy_at (Unit {0}) (length c.args.blocks.now) _ c.in_err-copy_blocks.field-0.0 c.in_err-copy_blocks.ensures.behind (λ is.
+    let full = c.in_err-copy_blocks.ensures.full (ap Err is) in
+    let along = c.copy_blocks.ensures.to in
+    omega (arith, full.0, full.1, along.adds, along.capacity)))
+
+pub returns-clause-refused : goal.returns-clause-refused
+returns-clause-refused g c none =
+    let along = c.copy_blocks.ensures.to in
+    commit_at_all (Unit {0}) (length c.args.blocks.now) _ c.commit_target.result c.commit_target.ensures.wrong (λ is.
+    let full = c.commit_target.ensures.full is in
+    omega (arith, full, along.needs, along.adds, along.rises, along.capacity, none))

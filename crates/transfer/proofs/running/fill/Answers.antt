@@ -6,6 +6,7 @@ use Rattle.transfer.proofs.FillLaws.{new_blank, new_is_blank, reaches_opened, re
 use Rattle.transfer.proofs.HaltLaws.{behind_both_all, behind_opening, halted, meets_opening}
 use Rattle.transfer.proofs.LookedLaws.{there_as, there_behind}
 use Rattle.transfer.proofs.ToLaws.{spans_more, spans_opened}
+use Rattle.transfer.proofs.RefusalLaws.{refusing_opened, refusing_unopened, root_there}
 use Rattle.transfer.proofs.running.fill.Goals as goal
 
 pub returns-clause-to : goal.returns-clause-to
@@ -57,3 +58,15 @@ returns-clause-from g c any = c.fill_target.ensures.both.from any
 
 pub returns-clause-wrong : goal.returns-clause-wrong
 returns-clause-wrong g c = c.fill_target.ensures.both.wrong
+
+pub returns-clause-refused : goal.returns-clause-refused
+returns-clause-refused g c =
+    let adds = c.in_ok-target.ensures.target.adds in
+    refusing_opened _ _ _ _ _ (g.Q.Platform.capacity c.open_target.new.to - g.Q.Platform.head c.open_target.new.to) _ _ c.args.source.now c.in_ok-target.target.session c.in_ok-target.target.is_new c.fill_target.result (omega (arith, adds.0, adds.1))
+    (λ told. root_there _ _ _ c.requires.ready.is_open (c.requires.ready.mounted told).cell) c.blocks-blocks.ensures (ap (λ (r : Root). r.order) c.root.ensures) c.in_ok-target.ensures.target.on
+    (c.fill_target.ensures.refused c.in_ok-target.ensures.target.idle) c.fill_target.ensures.unlike
+
+pub returns-in_err-target-clause-refused : goal.returns-in_err-target-clause-refused
+returns-in_err-target-clause-refused g c =
+    rw (halted c.from_residual.result c.in_err-target.field-0.0 c.from_residual.ensures.1) (refusing_unopened _ _ _ _ _ c.args.source.now.root c.in_err-target.field-0.0 (λ told. root_there _ _ _ c.requires.ready.is_open (c.requires.ready.mounted told).cell)
+    c.in_err-target.ensures.target.stops c.in_err-target.ensures.target.opens_not)

@@ -8,6 +8,7 @@ use Rattle.session_calls.proofs.CarryLaws.{carries_along, carries_end, carries_t
 use Rattle.transfer.proofs.HaltLaws.{halted}
 use Rattle.transfer.proofs.BlameLaws.{blames_as, blames_done, blames_halt, blames_then}
 use Rattle.transfer.proofs.FillLaws.{fresh_blank, number_at, reaches_halted, reaches_other, reaches_since, reaches_still, stale_other}
+use Rattle.transfer.proofs.RefusalLaws.{at_then, reads_at, reads_behind}
 use Rattle.transfer.proofs.running.fill_found.Goals as goal
 
 pub returns-in_err-has-clause-both : goal.returns-in_err-has-clause-both
@@ -17,7 +18,7 @@ returns-in_err-has-clause-both g c = rw (halted c.from_residual.result c.in_err-
       (carries_along g.Q.Platform g.T.Tape g.L.Sink 0 c.args.to.now c.has_all.new.to c.args.tape.now c.args.tape.now c.args.ledger.now _ _ c.requires.target (c.has_all.ensures.both.to (drawn_by g.T.Tape c.args.tape.now)));
   blame = λ output. blames_as _ _ c.in_err-has.field-0.0 (c.in_err-has.ensures.both.blame (g.T.Tape.faults c.args.tape.now) output (g.L.Sink.faults c.args.ledger.now));
   wrong = c.in_err-has.ensures.both.wrong;
-  behind = c.in_err-has.ensures.both.behind;
+  behind = reads_behind c.in_err-has.field-0.0 c.in_err-has.ensures.both.behind;
 })
 
 pub returns-then-has-clause-both : goal.returns-then-has-clause-both
@@ -100,3 +101,16 @@ returns-else-fresh-clause-leads g c from_told to_told device there at at_there k
     let never : true ≡ false = sym (c.is_fresh-fresh.ensures.1 fresh) ∙ c.if-fresh.false in
     cc))
     (made_kept (g.Q.Platform.history c.args.to.now) (g.Q.Platform.history c.has_all.new.to) there at_there.there.device at_there.served ((c.has_all.ensures.both.to no_draw).cell to_told))
+
+pub returns-in_err-has-clause-refused : goal.returns-in_err-has-clause-refused
+returns-in_err-has-clause-refused g c none = rw (halted c.from_residual.result c.in_err-has.field-0.0 c.from_residual.ensures.1) (reads_at _ _ _ c.in_err-has.field-0.0 c.in_err-has.ensures.both.behind)
+
+pub returns-then-fresh-clause-refused : goal.returns-then-fresh-clause-refused
+returns-then-fresh-clause-refused g c none =
+    let along = c.has_all.ensures.both.to no_draw in
+    at_then _ _ _ _ _ _ c.copy.result (λ fresh. tt) (λ short. omega (arith, short, along.adds, along.rises, along.capacity)) (c.copy.ensures.refused (omega (arith, none, along.needs)))
+
+pub returns-else-fresh-clause-refused : goal.returns-else-fresh-clause-refused
+returns-else-fresh-clause-refused g c none fresh =
+    let never : true ≡ false = sym (c.is_fresh-fresh.ensures.1 fresh) ∙ c.if-fresh.false in
+    cc

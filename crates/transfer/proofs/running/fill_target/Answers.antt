@@ -12,6 +12,8 @@ use Rattle.session_calls.proofs.CarryLaws.{carries_end, carries_start}
 use Rattle.transfer.proofs.BlameLaws.{blames_as, blames_halt, blames_then}
 use Rattle.transfer.proofs.HaltLaws.{behind_from, halted, meets_from}
 use Rattle.transfer.proofs.FillLaws.{alike_of, reaches_halted, reaches_other, unlike_other}
+use Rattle.device_session.proofs.CountLaws.{needs_none}
+use Rattle.transfer.proofs.RefusalLaws.{at_then, reads_at, reads_from}
 use Rattle.transfer.proofs.running.fill_target.Goals as goal
 
 pub returns-then-not-is_alike-clause-both : goal.returns-then-not-is_alike-clause-both
@@ -91,3 +93,31 @@ returns-clause-leads g c from_told to_told device there at at_there new =
     let mid = subst (λ (i : Image). IsAt i (Some c.args.source.now) (mounted device (session_on device))) (sym (c.list_source.ensures.image from_told)) at in
     c.fill_found.ensures.leads from_told to_told device there mid at_there (c.deref-else-is_new.ensures.value ∙ (c.in_ok-blocks.ensures.lists from_told device (session_on device) at).0)
     (alike_of (g.P.Platform.history c.args.from.now).present (g.Q.Platform.history c.args.to.now).present c.args.source.now c.args.target device there _ _ at at_there (c.if-not-is_alike.ensures.0 refl))
+
+pub returns-then-not-is_alike-clause-refused : goal.returns-then-not-is_alike-clause-refused
+returns-then-not-is_alike-clause-refused g c idle fresh =
+    let never : false ≡ true = c.if-not-is_alike.ensures.1 (sym fresh.blocks_are, sym fresh.order_is) in
+    cc
+
+pub returns-in_err-blocks-clause-refused : goal.returns-in_err-blocks-clause-refused
+returns-in_err-blocks-clause-refused g c idle = rw (halted c.from_residual.result c.in_err-blocks.field-0.0 c.from_residual.ensures.1) (reads_at _ _ _ c.in_err-blocks.field-0.0 (reads_from _ _ c.in_err-blocks.field-0.0 c.in_err-blocks.ensures.wrong))
+
+pub returns-then-is_new-clause-refused : goal.returns-then-is_new-clause-refused
+returns-then-is_new-clause-refused g c idle =
+    let many : length c.deref.result.now ≡ c.args.source.now.root.mapped = ap length c.deref.ensures.value ∙ c.in_ok-blocks.ensures.count in
+    at_then _ _ _ _ _ _ c.copy.result (λ fresh. tt) (λ short. omega (arith, short, many)) (c.copy.ensures.refused (needs_none c.args.target (g.Q.Platform.head c.args.to.now) c.requires.target.is_open idle.untouched))
+
+pub returns-clause-refused : goal.returns-clause-refused
+returns-clause-refused g c idle =
+    let many : length c.deref-else-is_new.result.now ≡ c.args.source.now.root.mapped = ap length c.deref-else-is_new.ensures.value ∙ c.in_ok-blocks.ensures.count in
+    at_then _ _ _ _ _ _ c.fill_found.result (λ fresh. (fresh.commit, idle.mapped ∙ fresh.mapped)) (λ short. omega (arith, short, many))
+    (c.fill_found.ensures.refused (needs_none c.args.target (g.Q.Platform.head c.args.to.now) c.requires.target.is_open idle.untouched))
+
+pub returns-in_err-blocks-clause-unlike : goal.returns-in_err-blocks-clause-unlike
+returns-in_err-blocks-clause-unlike g c apart = absurd (apart (c.if-not-is_alike.ensures.0 refl))
+
+pub returns-then-is_new-clause-unlike : goal.returns-then-is_new-clause-unlike
+returns-then-is_new-clause-unlike g c apart = absurd (apart (c.if-not-is_alike.ensures.0 refl))
+
+pub returns-clause-unlike : goal.returns-clause-unlike
+returns-clause-unlike g c apart = absurd (apart (c.if-not-is_alike.ensures.0 refl))

@@ -8,7 +8,8 @@ use Rattle.session_calls.proofs.AlongLaws.{along_start, along_then}
 use Rattle.session_calls.proofs.CallLaws.{no_draw}
 use Rattle.transfer.proofs.BlameLaws.{blames_as, blames_done, blames_then}
 use Rattle.transfer.proofs.FillLaws.{matches_as, same_contents}
-use Rattle.transfer.proofs.HaltLaws.{behind_to, halted, meets_to}
+use Rattle.transfer.proofs.HaltLaws.{halted, meets_to}
+use Rattle.transfer.proofs.RefusalLaws.{reads_to}
 use Rattle.transfer.proofs.running.has_all.Goals as goal
 
 pub returns-in_err-others-clause-both : goal.returns-in_err-others-clause-both
@@ -17,7 +18,7 @@ returns-in_err-others-clause-both g c = rw (halted c.from_residual.result c.in_e
   to = λ any. c.list_target.ensures.along any;
   blame = λ tape output ledger. blames_as _ _ c.in_err-others.field-0.0 (c.in_err-others.ensures.blame (g.P.Platform.faults c.args.from.now) tape output ledger);
   wrong = meets_to _ _ _ _ c.in_err-others.field-0.0 c.in_err-others.ensures.wrong;
-  behind = behind_to _ _ c.in_err-others.field-0.0 c.in_err-others.ensures.wrong;
+  behind = reads_to _ _ c.in_err-others.field-0.0 c.in_err-others.ensures.wrong c.in_err-others.ensures.full;
 })
 
 pub returns-then-eq-clause-both : goal.returns-then-eq-clause-both

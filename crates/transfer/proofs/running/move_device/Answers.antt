@@ -9,7 +9,8 @@ use Rattle.transfer.proofs.LookedLaws.{looked_found, looked_none, looked_stop, m
 use Rattle.transfer.proofs.HaltLaws.{mount_from}
 use Rattle.transfer.proofs.MoveLaws.{at_mounted, moves_behind, moves_stopped}
 use Rattle.transfer.proofs.OpenLaws.{formatted_found, mount_sound}
-use Rattle.transfer.proofs.ToLaws.{spans_not}
+use Rattle.transfer.proofs.ToLaws.{found_none, spans_not}
+use Rattle.transfer.proofs.RefusalLaws.{refusing_behind, refusing_from, refusing_none}
 use Rattle.transfer.proofs.running.move_device.Goals as goal
 
 pub move_session-requires : goal.move_session-requires
@@ -98,3 +99,13 @@ returns-in-Ok-None-clause-there g c = there_no_device _ _
 
 pub returns-in-Err-clause-there : goal.returns-in-Err-clause-there
 returns-in-Err-clause-there g c = there_before _ _ c.in-Err.stop
+
+pub returns-in-Ok-Some-clause-refused : goal.returns-in-Ok-Some-clause-refused
+returns-in-Ok-Some-clause-refused g c = refusing_behind _ _ _ _ _ _ c.move_session.result c.mount_session.ensures.looks.image c.move_session.ensures.refused
+
+pub returns-in-Ok-None-clause-refused : goal.returns-in-Ok-None-clause-refused
+returns-in-Ok-None-clause-refused g c =
+    refusing_none _ _ _ _ _ (found_none g.P.Platform c.args.from.now c.mount_session.new.platform c.mount_session.result (c.in-Ok-None.is ∙ ap Ok c.in-Ok-None.field-0-is) c.mount_session.ensures.finds)
+
+pub returns-in-Err-clause-refused : goal.returns-in-Err-clause-refused
+returns-in-Err-clause-refused g c = refusing_from _ _ _ _ _ c.in-Err.stop

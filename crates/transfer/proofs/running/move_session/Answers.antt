@@ -9,6 +9,7 @@ use Rattle.transfer.proofs.FromLaws.{clears_cleared, clears_not}
 use Rattle.transfer.proofs.LookedLaws.{there_as, there_behind}
 use Rattle.transfer.proofs.MoveLaws.{moves_cleared, moves_halted}
 use Rattle.transfer.proofs.ToLaws.{spans_more}
+use Rattle.transfer.proofs.RefusalLaws.{refusing_as, refusing_done, refusing_from}
 use Rattle.transfer.proofs.running.move_session.Goals as goal
 
 pub returns-in_err-number-clause-from : goal.returns-in_err-number-clause-from
@@ -72,3 +73,12 @@ returns-in-Ok-clause-there g c = there_behind _ _ _ _ c.in_ok-number.ensures.the
 
 pub returns-clause-there : goal.returns-clause-there
 returns-clause-there g c = there_behind _ _ _ _ c.in_ok-number.ensures.there tt
+
+pub returns-in_err-number-clause-refused : goal.returns-in_err-number-clause-refused
+returns-in_err-number-clause-refused g c = rw (halted c.from_residual.result c.in_err-number.field-0.0 c.from_residual.ensures.1) (refusing_as _ _ _ _ _ c.in_err-number.field-0.0 c.in_err-number.ensures.refused)
+
+pub returns-in-Ok-clause-refused : goal.returns-in-Ok-clause-refused
+returns-in-Ok-clause-refused g c = refusing_done _ _ _ _ _ c.in_ok-number.number _ c.in_ok-number.ensures.refused
+
+pub returns-clause-refused : goal.returns-clause-refused
+returns-clause-refused g c = refusing_from _ _ _ _ _ _

@@ -39,6 +39,8 @@ returns-in-Ok-clause-went g c = record {
   looked = c.in-Ok.ensures.looked;
   there = c.in-Ok.ensures.there;
   mapped = c.in-Ok.ensures.mapped;
+  refused = tt;
+  unlike = c.in-Ok.ensures.refused.unlike;
   leads = c.in-Ok.ensures.leads;
 }
 
@@ -50,5 +52,7 @@ returns-in-Err-clause-went g c = record {
   looked = c.in-Err.ensures.looked;
   there = c.in-Err.ensures.there;
   mapped = tt;
+  refused = c.in-Err.ensures.refused.refused;
+  unlike = c.in-Err.ensures.refused.unlike;
   leads = c.in-Err.ensures.leads;
 }
