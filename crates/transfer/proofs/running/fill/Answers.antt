@@ -1,4 +1,4 @@
-use Rattle.std.proofs.Common.{◌∙◌, ap, arith}
+use Rattle.std.proofs.Common.{◌-◌, ◌∙◌, ap, arith}
 use Rattle.root_codec.specs.declared.root.Root.{Root}
 use Rattle.session_calls.proofs.AlongLaws.{along_start}
 use Rattle.transfer.proofs.BlameLaws.{blames_as, blames_then}

@@ -1,4 +1,4 @@
-use Rattle.std.proofs.Common.{◌≡◌, ◌∙◌, Some, false, true, refl, sym, subst, ◌<◌, ℕ, List}
+use Rattle.std.proofs.Common.{◌≡◌, ◌∙◌, Some, false, true, refl, sym, ap, subst, length, ◌<◌, ℕ, List, arith}
 use Rattle.std.specs.Prelude.{All}
 use Rattle.device_session.specs.Open.{blocks_of}
 use Rattle.sdbt_base.specs.Arrays.{mounted, session_on}
