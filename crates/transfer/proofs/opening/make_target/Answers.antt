@@ -41,11 +41,11 @@ returns-in-Ok-Some-clause-target g c = record {
   stops = tt;
   idle = idle_found g.Q.Platform c.format.new.platform c.mount_session.new.platform c.in-Ok-Some.session c.mount_session.result (c.in-Ok-Some.is ∙ ap Ok c.in-Ok-Some.field-0-is) c.mount_session.ensures.finds;
   on = λ told. (
-      c.requires.empty told,
-      on_new (g.Q.Platform.history c.mount_session.new.platform).present c.in-Ok-Some.session c.args.blocks c.args.order
-      (idle_found g.Q.Platform c.format.new.platform c.mount_session.new.platform c.in-Ok-Some.session c.mount_session.result (c.in-Ok-Some.is ∙ ap Ok c.in-Ok-Some.field-0-is) c.mount_session.ensures.finds)
-      (at_mounted (g.Q.Platform.history c.mount_session.new.platform).present c.in-Ok-Some.session _ c.mount_session.result (c.in-Ok-Some.is ∙ ap Ok c.in-Ok-Some.field-0-is)
-      (c.mount_session.ensures.leads told (closed (Some (new_device c.args.blocks c.args.order))) (shut (g.Q.Platform.history c.format.new.platform).present _ (c.in-Ok.ensures.made told).0 (c.in-Ok.ensures.made told).1))),
+    c.requires.empty told,
+    on_new (g.Q.Platform.history c.mount_session.new.platform).present c.in-Ok-Some.session c.args.blocks c.args.order
+        (idle_found g.Q.Platform c.format.new.platform c.mount_session.new.platform c.in-Ok-Some.session c.mount_session.result (c.in-Ok-Some.is ∙ ap Ok c.in-Ok-Some.field-0-is) c.mount_session.ensures.finds)
+        (at_mounted (g.Q.Platform.history c.mount_session.new.platform).present c.in-Ok-Some.session _ c.mount_session.result (c.in-Ok-Some.is ∙ ap Ok c.in-Ok-Some.field-0-is)
+        (c.mount_session.ensures.leads told (closed (Some (new_device c.args.blocks c.args.order))) (shut (g.Q.Platform.history c.format.new.platform).present _ (c.in-Ok.ensures.made told).0 (c.in-Ok.ensures.made told).1))),
   );
   opens_not = tt;
 }
