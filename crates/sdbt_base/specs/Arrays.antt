@@ -1,5 +1,5 @@
 -- Devices as those who use them see them: arrays of blocks, with sessions on them.
-use Rattle.std.specs.Prelude.{ℕ, ◌+◌, ◌-◌, Bool, true, false, ◌||◌, List, ◌++◌, length, replicate, Option, None, Some, unwrap_or}
+use Rattle.std.specs.Prelude.{ℕ, ◌+◌, ◌-◌, min, Bool, true, false, ◌||◌, List, ◌++◌, length, replicate, Option, None, Some, unwrap_or}
 use Rattle.std.specs.Ordering.{nat_cmp}
 use Rattle.std.specs.FinMap as map
 
@@ -44,6 +44,10 @@ session_on device = record { contents = device.contents; touched = false }
 -- the device with these blocks and the next number
 abbrev pub committed_with : Device → Blocks → Device
 committed_with device contents = record device { number = device.number + 1; contents = contents }
+
+-- the device with records of version 2, whose nodes have at most 48 entries, and the next number: its blocks stay
+abbrev pub upgraded : Device → Device
+upgraded device = record device { version = 2; order = min device.order 48; number = device.number + 1 }
 
 -- the session's blocks become the device's
 abbrev pub committed : Device → Session → Device

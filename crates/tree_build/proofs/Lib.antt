@@ -1,0 +1,10 @@
+pub mod ShapeLaws
+pub mod ItemLaws
+pub mod RiseLaws
+pub mod TreeLaws
+pub mod PlanLaws
+pub mod CutLaws
+pub mod ListingLaws
+pub mod NodeLaws
+pub mod MadeLaws
+pub mod RoundLaws
