@@ -2,3 +2,15 @@ pub mod CertifyingLaws
 pub mod FirstLaws
 pub mod FormatLaws
 pub mod EraseLaws
+pub mod CopyingLaws
+pub mod SpotLaws
+pub mod RecordLaws
+pub mod AnewLaws
+pub mod BeginLaws
+pub mod OrderLaws
+pub mod UpgradedLaws
+pub mod UpgradeLaws
+pub mod SurveyLaws
+pub mod UpgradeCauseLaws
+pub mod RewriteLaws
+pub mod UpgradingLaws

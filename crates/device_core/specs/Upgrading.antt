@@ -1,0 +1,106 @@
+-- What an upgrade is asked and answers: which root record it begins on, how many pages it needs, and why it is refused.
+use Rattle.std.specs.Prelude.{◌≡◌, ◌≢◌, ◌≤◌, ◌<◌, ◌+◌, ◌-◌, ◌⊎◌, min, ℕ, List, [], Option, None, Some, Result, Ok, Err, length}
+use Rattle.std.specs.FinMap as map
+use Rattle.sdbt_base.specs.Arrays.{Device}
+use Rattle.sdbt_base.specs.Counts.{Counts, PlatformRose, TapeRose, LedgerRose}
+use Rattle.sdbt_base.specs.Keys.{IsKeyOf}
+use Rattle.sdbt_base.specs.declared.tapes.Tape.{Ghosts as TapeGhosts}
+use Rattle.platform.specs.declared.platforms.Platform.{Ghosts as PlatformGhosts}
+use Rattle.platform.specs.Image.{Image}
+use Rattle.platform.specs.History.{History, CellStays}
+use Rattle.root_codec.specs.declared.root.Root.{Root}
+use Rattle.root_codec.specs.RootRecord.{FitsRoot, root_bytes}
+use Rattle.page_store.specs.Roots.{IsRootWithin, IsBadCell}
+use Rattle.page_store.specs.Stands.{StandsBy}
+use Rattle.page_store.specs.Tree.{Parts, Tree, Wrong}
+use Rattle.cert_maker.specs.Cert.{Cert}
+use Rattle.device_terms.specs.Certifying.{IsOfTrees, PutsEntry}
+use Rattle.tree_build.specs.Shape.{built}
+use Rattle.device_core.specs.Publishing.{IsUnmade}
+use Rattle.device_core.specs.declared.refusals.UpgradeRefusal.{UpgradeRefusal}
+use Rattle.device_core.specs.declared.refusals.UpgradeRefusal.TheVariants as upgrade
+
+-- the order of a device of version 2 that had this one
+abbrev pub order_above : ℕ → ℕ
+order_above order = min order 48
+
+-- how many pages an upgrade adds: one for each mapped block, and those of the nodes over them
+abbrev pub pages_over : ℕ → ℕ → ℕ
+pages_over order mapped = mapped + built (order_above order) mapped
+
+-- by a root record, and by the device
+abbrev pub needed_of_root : Root → ℕ
+needed_of_root root = pages_over root.order root.mapped
+
+abbrev pub needed_of_device : Device → ℕ
+needed_of_device device = pages_over device.order (map.len device.contents)
+
+-- the root record in the cell is this one, which can be served
+pub record IsOn (tells : Type 0) (image : Image) (head : ℕ) (root : Root) : Type 0 where
+  pub within : IsRootWithin head root
+  pub cell : tells → image.cell ≡ Some (root_bytes root)
+
+-- it is of version 1, and as many pages are free as an upgrade needs
+pub record Begins (tells : Type 0) (image : Image) (head capacity : ℕ) (root : Root) : Type 0 where
+  pub on : IsOn tells image head root
+  pub version : root.version ≡ 1
+  pub room : needed_of_root root ≤ capacity - head
+
+-- the root record that follows it by an upgrade: of version 2, naming the last of so many pages
+pub record IsUpgradedRoot (root : Root) (head : ℕ) (next : Root) : Type 0 where
+  pub in_range : FitsRoot next
+  pub key : IsKeyOf 2 next.key
+  pub version : next.version ≡ 2
+  pub order : next.order ≡ order_above root.order
+  pub blocks : next.blocks ≡ root.blocks
+  pub commit : next.commit ≡ root.commit + 1
+  pub mapped : next.mapped ≡ root.mapped
+  pub node : next.addr + 1 ≡ head
+  pub head_is : next.head ≡ head
+
+-- a place at this address of the tree of the root record doesn't fit, or it is the root node's, and the root record says that other blocks are mapped than the tree has
+abbrev pub IsDamaged : List (List ℕ) → Root → ℕ → Type 0
+IsDamaged pages root addr = Wrong pages root addr ⊎ ((addr ≡ root.addr) × ((parts : Parts) → Tree pages root parts → length parts.mapped ≢ root.mapped))
+
+-- what was added so far is a part of what is needed, and at each moment the cell is as it was
+pub record IsPartly {S : Type 0} (P : PlatformGhosts S) (platform platform_now : S) (root : Root) : Type 0 where
+  pub begins : Begins P.tells (P.history platform).present (P.head platform) (P.capacity platform) root
+  pub most : P.head platform_now ≤ P.head platform + needed_of_root root
+  pub still : P.tells → CellStays (P.history platform) (P.history platform_now)
+
+-- a device of version 1 is made one of version 2, with the next number, where as many pages are free as are needed, and these are added then. Else there is no device, or none that can be served, or it is of version 2, or too few pages are
+-- free, exactly so, and nothing comes of it; memory is asked for behind that. Then a record is named that doesn't fit, in the tree or, with the root node, the number of blocks. But for the object that an answer names none failed
+abbrev pub IsUpgradeCause : {S R : Type 0} → PlatformGhosts S → TapeGhosts R → S → S → R → R → Counts → Counts → Result ℕ UpgradeRefusal → Type 0
+IsUpgradeCause P T platform platform_now tape tape_now before now (Ok number) =
+    (root : Root) × Begins P.tells (P.history platform).present (P.head platform) (P.capacity platform) root × (number ≡ root.commit + 1)
+    × (P.head platform_now ≡ P.head platform + needed_of_root root)
+    × (P.tells → (next : Root) × IsUpgradedRoot root (P.head platform_now) next × ((P.history platform_now).present.cell ≡ Some (root_bytes next))) × (now ≡ before)
+IsUpgradeCause P T platform platform_now tape tape_now before now (Err upgrade.NoDevice) =
+    (P.tells → (P.history platform).present.cell ≡ None) × IsUnmade P T platform platform_now tape tape_now × (now ≡ before)
+IsUpgradeCause P T platform platform_now tape tape_now before now (Err upgrade.BadRoot) =
+    (P.tells → IsBadCell (P.head platform) (P.history platform).present.cell) × IsUnmade P T platform platform_now tape tape_now × (now ≡ before)
+IsUpgradeCause P T platform platform_now tape tape_now before now (Err upgrade.AlreadyUpgraded) =
+    ((root : Root) × IsOn P.tells (P.history platform).present (P.head platform) root × (root.version ≡ 2)) × IsUnmade P T platform platform_now tape tape_now × (now ≡ before)
+IsUpgradeCause P T platform platform_now tape tape_now before now (Err (upgrade.Full needed free)) =
+    ((root : Root) × IsOn P.tells (P.history platform).present (P.head platform) root × (root.version ≡ 1) × (needed ≡ needed_of_root root) × (free ≡ P.capacity platform - P.head platform) × (free < needed))
+    × IsUnmade P T platform platform_now tape tape_now × (now ≡ before)
+IsUpgradeCause P T platform platform_now tape tape_now before now (Err upgrade.Memory) =
+    ((root : Root) × Begins P.tells (P.history platform).present (P.head platform) (P.capacity platform) root) × IsUnmade P T platform platform_now tape tape_now × (now ≡ before)
+IsUpgradeCause P T platform platform_now tape tape_now before now (Err (upgrade.BadRecord addr)) =
+    ((root : Root) × IsPartly P platform platform_now root × (P.tells → IsDamaged (P.history platform).present.readable root addr)) × (now ≡ before)
+IsUpgradeCause P T platform platform_now tape tape_now before now (Err upgrade.TapeFault) = TapeRose before now × (root : Root) × IsPartly P platform platform_now root
+IsUpgradeCause P T platform platform_now tape tape_now before now (Err upgrade.LedgerFault) = LedgerRose before now × (root : Root) × IsPartly P platform platform_now root
+IsUpgradeCause P T platform platform_now tape tape_now before now (Err upgrade.PlatformFault) =
+    PlatformRose before now
+    × (((P.head platform_now ≡ P.head platform) × (P.tells → CellStays (P.history platform) (P.history platform_now))) ⊎ ((root : Root) × Begins P.tells (P.history platform).present (P.head platform) (P.capacity platform) root × (P.head platform_now ≤ P.head platform + needed_of_root root)))
+
+-- an upgrade's certificate, over an image that stands: that of the tree before it, of the tree after it, and of no data page
+abbrev pub IsOfUpgrade : Root → Image → Image → Root → Cert → Type 0
+IsOfUpgrade root old new next cert = (device : Device) (before : Parts) → StandsBy old device root before → IsOfTrees before.places root.head new.readable next [] cert
+
+-- what an upgrade put: nothing, with the cell as it was at each moment, or an entry, whose certificate goes on from the root record in the cell
+abbrev pub CertifiesUpgrade : Type 0 → Option (List ℕ) → Option (List ℕ) → History → History → Type 0 → Type 0
+CertifiesUpgrade tells written written_now old new Done =
+    ((written_now ≡ written) × (tells → CellStays old new))
+    ⊎ ((root : Root) × FitsRoot root × IsKeyOf root.version root.key × (tells → old.present.cell ≡ Some (root_bytes root))
+    × PutsEntry tells written written_now old new root.head (root.commit + 1) (IsOfUpgrade root old.present new.present) Done)
