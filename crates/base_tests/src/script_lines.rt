@@ -28,6 +28,8 @@ fn grammar_refuses(rt: HostRuntime) {
         "mount ",
         "format 8",
         "format 8 4 4",
+        "upgrade ",
+        "upgrade 2",
         "stats",
     ] {
         assert!(rt; parse(line.as_bytes(), &mut buffer).is_none(), "{line:?}");
@@ -54,6 +56,7 @@ fn grammar_reads(rt: HostRuntime) -> Result<(), Fail> {
         ("commit", Command::Commit),
         ("drop", Command::Drop),
         ("erase", Command::Erase),
+        ("upgrade", Command::Upgrade),
         ("stat", Command::Stat),
         ("seize", Command::Seize),
     ] {
@@ -182,6 +185,32 @@ fn state_refusals(rt: HostRuntime) -> Result<(), Fail> {
     Ok(())
 }
 
+#[test]
+fn upgrades(rt: HostRuntime) -> Result<(), Fail> {
+    let output = replies_to(
+        rt.alloc(),
+        &[
+            "upgrade",
+            "format 8 64",
+            "mount",
+            "write 3 6869",
+            "commit",
+            "upgrade",
+            "drop",
+            "upgrade",
+            "upgrade",
+            "mount",
+            "read 3",
+            "trim 3",
+            "commit",
+        ],
+    )?;
+    let want =
+        b"no device\nformatted\nmounted 0\nok\ncommitted 1\nalready mounted\ndropped\nupgraded 2\nalready upgraded\nmounted 2\ndata 6869\nok\ncommitted 3\n";
+    assert!(rt; output.bytes() == want.as_slice());
+    Ok(())
+}
+
 // The replies, a line for each.
 const REPLIES: &str = "\
 formatted
@@ -192,6 +221,7 @@ ok
 committed 18446744073709551615
 dropped
 erased
+upgraded 18446744073709551615
 stat mapped 3 commit 12
 seized pages 5 nodes 1 blocks 1
 bad
@@ -199,6 +229,7 @@ unmounted
 already mounted
 not empty
 no device
+already upgraded
 range
 full";
 
@@ -227,6 +258,7 @@ fn other_lines_are_no_replies(rt: HostRuntime) {
         "data 6A",
         "data",
         "mounted 01",
+        "upgraded",
         "ok ",
         "stat mapped 3 commit",
     ] {

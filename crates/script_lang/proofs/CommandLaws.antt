@@ -6,7 +6,7 @@ use Rattle.std.specs.Str.Parse.{digits_value}
 use Rattle.hex.specs.Hex.{decode_of}
 use Rattle.script_lang.specs.Grammar.{Spells, IsNumber}
 use Rattle.script_lang.specs.Commands.{Command}
-use Rattle.script_lang.specs.Commands.{Format, Mount, Read, Write, Trim, Commit, Drop, Erase, Stat, Seize}
+use Rattle.script_lang.specs.Commands.{Format, Mount, Read, Write, Trim, Commit, Drop, Erase, Upgrade, Stat, Seize}
 use Rattle.script_lang.proofs.Numbers.{number_is_numeral}
 use Rattle.script_lang.proofs.Spaces.{no_space}
 use Rattle.script_lang.proofs.ReplyLaws.{before_space, behind_space, before-space, behind-space}
@@ -27,7 +27,8 @@ command_of line =
     (cond (begins line == begins (codes "commit")) Commit
     (cond (begins line == begins (codes "drop")) Drop
     (cond (begins line == begins (codes "erase")) Erase
-    (cond (begins line == begins (codes "stat")) Stat Seize))))))))
+    (cond (begins line == begins (codes "upgrade")) Upgrade
+    (cond (begins line == begins (codes "stat")) Stat Seize)))))))))
 
 value : (text : List ℕ) (n : ℕ) → IsNumber text n → digits_value 10 text ≡ n
 value text n h = (number_is_numeral text n h).1
@@ -49,6 +50,7 @@ command_back line (Trim block) (a, m, e) = ap command_of e ∙ ap Trim (value a 
 command_back line Commit e = ap command_of e
 command_back line Drop e = ap command_of e
 command_back line Erase e = ap command_of e
+command_back line Upgrade e = ap command_of e
 command_back line Stat e = ap command_of e
 command_back line Seize e = ap command_of e
 

@@ -3,7 +3,7 @@ use Rattle.std.proofs.Common.{ℕ, ◌<◌, ◌≤◌, List, length, ap, arith, 
 use Rattle.std.proofs.lemmas.Fmt.{length-decimal-le}
 use Rattle.hex.proofs.HexLemmas.{decode_of-ok}
 use Rattle.script_lang.specs.Grammar.{IsBad, IsNumber, IsHex}
-use Rattle.script_lang.specs.Commands.{Format, Mount, Read, Write, Trim, Commit, Drop, Erase, Stat, Seize}
+use Rattle.script_lang.specs.Commands.{Format, Mount, Read, Write, Trim, Commit, Drop, Erase, Upgrade, Stat, Seize}
 
 pub number_is_short : (text : List ℕ) (n : ℕ) → IsNumber text n → length text ≤ 20
 number_is_short text n h = omega (arith, ap length h.1, length-decimal-le 20 n (omega arith) (omega (arith, h.0)) h.0)
@@ -21,5 +21,6 @@ long_is_bad line long (Trim block) (a, m, e) = omega (arith, long, simp length-a
 long_is_bad line long Commit e = omega (arith, long, ap length e)
 long_is_bad line long Drop e = omega (arith, long, ap length e)
 long_is_bad line long Erase e = omega (arith, long, ap length e)
+long_is_bad line long Upgrade e = omega (arith, long, ap length e)
 long_is_bad line long Stat e = omega (arith, long, ap length e)
 long_is_bad line long Seize e = omega (arith, long, ap length e)

@@ -11,7 +11,7 @@ use Rattle.hex.proofs.HexLemmas.{decode_of-encode_lower}
 use Rattle.text_lines.specs.Lines.{HasNone}
 use Rattle.script_lang.specs.Replies.{text_of, line_of, hex_or_dash, IsReply, IsFront}
 use Rattle.script_lang.specs.Replies.{Reply}
-use Rattle.script_lang.specs.Replies.{Formatted, Mounted, Content, Done, Committed, Dropped, Erased, Stat, Seized, Bad, Unmounted, AlreadyMounted, NotEmpty, NoDevice, Range, Full}
+use Rattle.script_lang.specs.Replies.{Formatted, Mounted, Content, Done, Committed, Dropped, Erased, Upgraded, Stat, Seized, Bad, Unmounted, AlreadyMounted, NotEmpty, NoDevice, AlreadyUpgraded, Range, Full}
 use Rattle.script_lang.proofs.Spaces.{split_once, no_space}
 use Rattle.std.proofs.lemmas.Bool.{cases_Bool, eqb-false}
 use Rattle.script_lang.proofs.Fronts.{small_at}
@@ -42,16 +42,17 @@ reply_of text =
     (cond (begins text == begins (codes "committed ")) (Committed (number_at 10 text))
     (cond (begins text == begins (codes "dropped")) Dropped
     (cond (begins text == begins (codes "erased")) Erased
+    (cond (begins text == begins (codes "upgraded ")) (Upgraded (number_at 9 text))
     (cond (begins text == begins (codes "stat mapped ")) (Stat (digits_value 10 (before_space (drop 12 text))) (number_at 7 (behind_space (drop 12 text))))
     (cond (begins text == begins (codes "seized pages ")) (Seized (digits_value 10 (before_space (drop 13 text)))
     (digits_value 10 (before_space (drop 6 (behind_space (drop 13 text)))))
     (number_at 7 (behind_space (drop 6 (behind_space (drop 13 text))))))
     (cond (begins text == begins (codes "bad")) Bad
     (cond (begins text == begins (codes "unmounted")) Unmounted
-    (cond (begins text == begins (codes "already mounted")) AlreadyMounted
+    (cond (begins text == begins (codes "already mounted")) (cond (get_or text 8 0 == 109) AlreadyMounted AlreadyUpgraded)
     (cond (begins text == begins (codes "not empty")) NotEmpty
     (cond (begins text == begins (codes "no device")) NoDevice
-    (cond (begins text == begins (codes "range")) Range Full))))))))))))))
+    (cond (begins text == begins (codes "range")) Range Full)))))))))))))))
 
 digits_back : (n : ℕ) → n < 2 ^ 64 → digits_value 10 (decimal n) ≡ n
 digits_back n h = (decimal_is_IsNumeral n h).1
@@ -84,6 +85,7 @@ reply_back Done is = refl
 reply_back (Committed number) is = ap Committed (digits_back number is)
 reply_back Dropped is = refl
 reply_back Erased is = refl
+reply_back (Upgraded number) is = ap Upgraded (digits_back number is)
 reply_back (Stat mapped number) is =
     let front = before-space (decimal mapped) (codes "commit " ++ decimal number) (number_has_no_space mapped is.0) in
     let back = behind-space (decimal mapped) (codes "commit " ++ decimal number) (number_has_no_space mapped is.0) in
@@ -105,6 +107,7 @@ reply_back Unmounted is = refl
 reply_back AlreadyMounted is = refl
 reply_back NotEmpty is = refl
 reply_back NoDevice is = refl
+reply_back AlreadyUpgraded is = refl
 reply_back Range is = refl
 reply_back Full is = refl
 
@@ -172,6 +175,7 @@ text_has_no_feed Done = none_from_test 10 (codes "ok") refl
 text_has_no_feed (Committed number) = none_in_both 10 (codes "committed ") (decimal number) (none_from_test 10 (codes "committed ") refl) (no_feed_in_number number)
 text_has_no_feed Dropped = none_from_test 10 (codes "dropped") refl
 text_has_no_feed Erased = none_from_test 10 (codes "erased") refl
+text_has_no_feed (Upgraded number) = none_in_both 10 (codes "upgraded ") (decimal number) (none_from_test 10 (codes "upgraded ") refl) (no_feed_in_number number)
 text_has_no_feed (Stat mapped number) =
     none_in_both 10 (codes "stat mapped ") (decimal mapped ++ (codes " commit " ++ decimal number)) (none_from_test 10 (codes "stat mapped ") refl)
     (none_in_both 10 (decimal mapped) (codes " commit " ++ decimal number) (no_feed_in_number mapped)
@@ -187,6 +191,7 @@ text_has_no_feed Unmounted = none_from_test 10 (codes "unmounted") refl
 text_has_no_feed AlreadyMounted = none_from_test 10 (codes "already mounted") refl
 text_has_no_feed NotEmpty = none_from_test 10 (codes "not empty") refl
 text_has_no_feed NoDevice = none_from_test 10 (codes "no device") refl
+text_has_no_feed AlreadyUpgraded = none_from_test 10 (codes "already upgraded") refl
 text_has_no_feed Range = none_from_test 10 (codes "range") refl
 text_has_no_feed Full = none_from_test 10 (codes "full") refl
 

@@ -32,6 +32,6 @@ Answers old [] (reply ∷ replies) new = ⊥
 Answers old (line ∷ lines) (reply ∷ replies) new = (mid : State) × Turn old line reply mid × Answers mid lines replies new
 
 -- the device after the first n replies. These devices are the marks, in the order of n: the one before all replies,
--- and one more after each accepted format, each commit that raises the number, and each erase
+-- and one more after each accepted format, each commit that raises the number, each erase and each accepted upgrade
 abbrev pub IsMark : State → List (List ℕ) → List Reply → ℕ → Option Device → Type 0
 IsMark old lines replies n device = (n ≤ length replies) × (new : State) × Answers old lines (take n replies) new × (new.device ≡ device)

@@ -1,12 +1,12 @@
 -- The array machine: which reply belongs to a command, and which state follows.
-use Rattle.std.specs.Prelude.{ℕ, ◌+◌, ◌%◌, Bool, false, ◌&&◌, ◌==◌, nat_lt, nat_le, if◌then◌else◌, List, [], ◌∷◌, Option, Some, None}
+use Rattle.std.specs.Prelude.{ℕ, ◌+◌, ◌%◌, Bool, false, not, ◌&&◌, ◌==◌, nat_lt, nat_le, if◌then◌else◌, List, [], ◌∷◌, Option, Some, None}
 use Rattle.std.specs.FinMap as map
 use Rattle.script_lang.specs.Commands.{Command}
-use Rattle.script_lang.specs.Commands.{Format, Mount, Read, Write, Trim, Commit, Drop, Erase, Stat, Seize}
+use Rattle.script_lang.specs.Commands.{Format, Mount, Read, Write, Trim, Commit, Drop, Erase, Upgrade, Stat, Seize}
 use Rattle.script_lang.specs.Replies.{Reply}
-use Rattle.script_lang.specs.Replies.{Formatted, Mounted, Content, Done, Committed, Dropped, Erased, Seized, Unmounted, AlreadyMounted, NotEmpty, NoDevice, Range}
+use Rattle.script_lang.specs.Replies.{Formatted, Mounted, Content, Done, Committed, Dropped, Erased, Upgraded, Seized, Unmounted, AlreadyMounted, NotEmpty, NoDevice, AlreadyUpgraded, Range}
 use Rattle.script_lang.specs.Replies as replies
-use Rattle.sdbt_base.specs.Arrays.{Device, Session, State, content_of, new_device, session_on, committed, written, unmapped}
+use Rattle.sdbt_base.specs.Arrays.{Device, Session, State, content_of, new_device, session_on, committed, upgraded, written, unmapped}
 
 -- a byte before bytes that have no trailing zeros: a zero before nothing is a trailing one
 abbrev pub before_trimmed : ℕ → List ℕ → List ℕ
@@ -72,6 +72,10 @@ step counted state Commit = in_session state.device state.session (Unmounted, st
     else (Committed device.number, state))
 step counted state Drop = in_session state.device state.session (Unmounted, state) (λ device session. (Dropped, record state { session = None }))
 step counted state Erase = on_device state.device (NoDevice, state) (λ device. (Erased, record { device = None; session = None }))
+step counted state Upgrade = on_session state.session
+    (on_device state.device (NoDevice, state) (λ device. if device.version == 2 then (AlreadyUpgraded, state)
+    else (Upgraded (device.number + 1), record state { device = Some (upgraded device) })))
+    (λ session. (AlreadyMounted, state))
 step counted state Stat = in_session state.device state.session (Unmounted, state) (λ device session.
     (replies.Stat (map.len session.contents) device.number, state))
 step counted state Seize = (Seized counted.pages counted.nodes counted.blocks, state)
@@ -81,6 +85,7 @@ abbrev pub needs_room : State → Command → Bool
 needs_room state (Format blocks order) = on_device state.device (in_limits blocks order) (λ device. false)
 needs_room state (Write block content) = in_session state.device state.session false (λ device session. nat_lt block device.blocks)
 needs_room state Commit = in_session state.device state.session false (λ device session. session.touched)
+needs_room state Upgrade = on_session state.session (on_device state.device false (λ device. not (device.version == 2))) (λ session. false)
 needs_room state Mount = false
 needs_room state (Read block) = false
 needs_room state (Trim block) = false

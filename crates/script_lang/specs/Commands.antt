@@ -12,6 +12,7 @@ pub data Command : Type 0 where
   Commit : Command
   Drop : Command
   Erase : Command
+  Upgrade : Command
   Stat : Command
   Seize : Command
 
@@ -25,6 +26,7 @@ asked (parsed.Trim block) buffer = Trim block
 asked parsed.Commit buffer = Commit
 asked parsed.Drop buffer = Drop
 asked parsed.Erase buffer = Erase
+asked parsed.Upgrade buffer = Upgrade
 asked parsed.Stat buffer = Stat
 asked parsed.Seize buffer = Seize
 

@@ -3,7 +3,7 @@ use Rattle.std.specs.Prelude.{◌≡◌, ℕ, ◌<◌, ◌≤◌, ◌^◌, List,
 use Rattle.std.specs.Fmt.{decimal}
 use Rattle.hex.specs.Hex.{decode_of}
 use Rattle.script_lang.specs.Commands.{Command}
-use Rattle.script_lang.specs.Commands.{Format, Mount, Read, Write, Trim, Commit, Drop, Erase, Stat, Seize}
+use Rattle.script_lang.specs.Commands.{Format, Mount, Read, Write, Trim, Commit, Drop, Erase, Upgrade, Stat, Seize}
 
 -- a number's only text: its decimal digits
 abbrev pub IsNumber : List ℕ → ℕ → Type 0
@@ -23,6 +23,7 @@ Spells line (Trim block) = (a : List ℕ) × IsNumber a block × (line ≡ codes
 Spells line Commit = line ≡ codes "commit"
 Spells line Drop = line ≡ codes "drop"
 Spells line Erase = line ≡ codes "erase"
+Spells line Upgrade = line ≡ codes "upgrade"
 Spells line Stat = line ≡ codes "stat"
 Spells line Seize = line ≡ codes "seize"
 

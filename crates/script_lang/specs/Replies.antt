@@ -14,6 +14,7 @@ pub data Reply : Type 0 where
   Committed : (number : ℕ) → Reply
   Dropped : Reply
   Erased : Reply
+  Upgraded : (number : ℕ) → Reply
   Stat : (mapped number : ℕ) → Reply
   Seized : (pages nodes blocks : ℕ) → Reply
   Bad : Reply
@@ -21,6 +22,7 @@ pub data Reply : Type 0 where
   AlreadyMounted : Reply
   NotEmpty : Reply
   NoDevice : Reply
+  AlreadyUpgraded : Reply
   Range : Reply
   Full : Reply
 
@@ -33,6 +35,7 @@ said given.Done buffer = Done
 said (given.Committed number) buffer = Committed number
 said given.Dropped buffer = Dropped
 said given.Erased buffer = Erased
+said (given.Upgraded number) buffer = Upgraded number
 said (given.Stat mapped number) buffer = Stat mapped number
 said (given.Seized pages nodes blocks) buffer = Seized pages nodes blocks
 said given.Bad buffer = Bad
@@ -40,6 +43,7 @@ said given.Unmounted buffer = Unmounted
 said given.AlreadyMounted buffer = AlreadyMounted
 said given.NotEmpty buffer = NotEmpty
 said given.NoDevice buffer = NoDevice
+said given.AlreadyUpgraded buffer = AlreadyUpgraded
 said given.Range buffer = Range
 said given.Full buffer = Full
 
@@ -62,6 +66,7 @@ text_of Done = codes "ok"
 text_of (Committed number) = codes "committed " ++ decimal number
 text_of Dropped = codes "dropped"
 text_of Erased = codes "erased"
+text_of (Upgraded number) = codes "upgraded " ++ decimal number
 text_of (Stat mapped number) = codes "stat mapped " ++ (decimal mapped ++ (codes " commit " ++ decimal number))
 text_of (Seized pages nodes blocks) = codes "seized pages " ++ (decimal pages ++ (codes " nodes " ++ (decimal nodes ++ (codes " blocks " ++ decimal blocks))))
 text_of Bad = codes "bad"
@@ -69,6 +74,7 @@ text_of Unmounted = codes "unmounted"
 text_of AlreadyMounted = codes "already mounted"
 text_of NotEmpty = codes "not empty"
 text_of NoDevice = codes "no device"
+text_of AlreadyUpgraded = codes "already upgraded"
 text_of Range = codes "range"
 text_of Full = codes "full"
 
@@ -77,6 +83,7 @@ abbrev pub IsWords : Reply → Type 0
 IsWords (Mounted number) = ⊥
 IsWords (Content bytes) = ⊥
 IsWords (Committed number) = ⊥
+IsWords (Upgraded number) = ⊥
 IsWords (Stat mapped number) = ⊥
 IsWords (Seized pages nodes blocks) = ⊥
 IsWords _ = Unit {0}
@@ -88,6 +95,7 @@ is_refusal Unmounted = true
 is_refusal AlreadyMounted = true
 is_refusal NotEmpty = true
 is_refusal NoDevice = true
+is_refusal AlreadyUpgraded = true
 is_refusal Range = true
 is_refusal Full = true
 is_refusal _ = false
@@ -111,6 +119,7 @@ abbrev pub IsReply : Reply → Type 0
 IsReply (Mounted number) = number < 2 ^ 64
 IsReply (Content bytes) = IsFront bytes
 IsReply (Committed number) = number < 2 ^ 64
+IsReply (Upgraded number) = number < 2 ^ 64
 IsReply (Stat mapped number) = (mapped < 2 ^ 64) × (number < 2 ^ 64)
 IsReply (Seized pages nodes blocks) = (pages < 2 ^ 64) × (nodes < 2 ^ 64) × (blocks < 2 ^ 64)
 IsReply Formatted = Unit {0}
@@ -122,6 +131,7 @@ IsReply Unmounted = Unit {0}
 IsReply AlreadyMounted = Unit {0}
 IsReply NotEmpty = Unit {0}
 IsReply NoDevice = Unit {0}
+IsReply AlreadyUpgraded = Unit {0}
 IsReply Range = Unit {0}
 IsReply Full = Unit {0}
 

@@ -27,6 +27,8 @@ pub enum Command {
     Drop,
     /// Makes the device none.
     Erase,
+    /// Makes the device one of version 2.
+    Upgrade,
     /// Asks for the number of mapped blocks, and of commits.
     Stat,
     /// Asks what an adversary who takes the device now would read.
@@ -63,6 +65,7 @@ fn parse_word(line: &[u8]) -> Option<Command>
     ensures commit { IfNone result (Spells line.now commands.Commit → ⊥) }
     ensures drop { IfNone result (Spells line.now commands.Drop → ⊥) }
     ensures erase { IfNone result (Spells line.now commands.Erase → ⊥) }
+    ensures upgrade { IfNone result (Spells line.now commands.Upgrade → ⊥) }
     ensures stat { IfNone result (Spells line.now commands.Stat → ⊥) }
     ensures seize { IfNone result (Spells line.now commands.Seize → ⊥) }
 {
@@ -75,6 +78,8 @@ fn parse_word(line: &[u8]) -> Option<Command>
         Some(Command::Drop)
     } else if is_text(line, b"erase") {
         Some(Command::Erase)
+    } else if is_text(line, b"upgrade") {
+        Some(Command::Upgrade)
     } else if is_text(line, b"stat") {
         Some(Command::Stat)
     } else if is_text(line, b"seize") {

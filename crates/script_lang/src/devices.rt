@@ -78,9 +78,11 @@ impl Contents {
     }
 }
 
-/// A device of version 1: an array of blocks, which a commit makes anew.
+/// A device: an array of blocks, which a commit makes anew.
 #[derive(Drop)]
 pub struct Device {
+    /// The version of its records.
+    pub version: u8,
     /// How many blocks it has.
     pub blocks: u64,
     /// The order of its tree.
@@ -99,7 +101,7 @@ impl Model for Device {
 
     ghost coded = { device_code };
 
-    ghost view = { λ d. record { version = 1; blocks = d.blocks; order = d.order; number = d.number; contents = d.contents } };
+    ghost view = { λ d. record { version = d.version; blocks = d.blocks; order = d.order; number = d.number; contents = d.contents } };
 }
 
 /// A session: a device's blocks, with changes that are not committed.

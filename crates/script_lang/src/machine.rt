@@ -59,7 +59,7 @@ impl Machine {
     }
 
     /// The reply to a command, on a medium that is full or is not: `full` answers `Full` where a format, a
-    /// write or a commit of changes would be accepted. What a write writes stands in the buffer before, and what a block holds
+    /// write, a commit of changes or an upgrade would be accepted. What a write writes stands in the buffer before, and what a block holds
     /// after. After `Memory` the machine is as before.
     pub fn step(
         &mut self,
@@ -85,6 +85,7 @@ impl Machine {
             Command::Commit => self.commit(full),
             Command::Drop => Ok(self.give_up()),
             Command::Erase => Ok(self.erase()),
+            Command::Upgrade => Ok(self.upgrade(full)),
             Command::Stat => Ok(self.stat()),
             Command::Seize => unreachable!(),
         }
@@ -104,6 +105,7 @@ impl Machine {
             return Reply::Full;
         }
         self.device = Some(Device {
+            version: 1,
             blocks,
             order,
             number: 0,
@@ -216,6 +218,7 @@ impl Machine {
         }
         let number = device.number + 1;
         let committed = Device {
+            version: device.version,
             blocks: device.blocks,
             order: device.order,
             number,
@@ -254,6 +257,31 @@ impl Machine {
         self.device = None;
         self.session = None;
         Reply::Erased
+    }
+
+    fn upgrade(&mut self, full: bool) -> Reply
+        requires { number_of self.old < 2 ^ 64 - 1 }
+        ensures step { (buffer : List ℕ) → (said result buffer, self.new) ≡ answer full none_counted self.old commands.Upgrade }
+        ensures short { FitsReply result }
+    {
+        if self.session.is_some() {
+            return Reply::AlreadyMounted;
+        }
+        let Some(device) = &mut self.device else {
+            return Reply::NoDevice;
+        };
+        if device.version == 2 {
+            return Reply::AlreadyUpgraded;
+        }
+        if full {
+            return Reply::Full;
+        }
+        device.version = 2;
+        device.order = device.order.min(48);
+        device.number += 1;
+        Reply::Upgraded {
+            number: device.number,
+        }
     }
 
     fn stat(&self) -> Reply

@@ -37,6 +37,7 @@ pub fn is_refusal_text(text: &[u8]) -> bool
         || is_text(text, b"already mounted")
         || is_text(text, b"not empty")
         || is_text(text, b"no device")
+        || is_text(text, b"already upgraded")
         || is_text(text, b"range")
         || is_text(text, b"full")
 }
@@ -68,6 +69,9 @@ fn find_reply(line: &[u8], buffer: &mut [u8; BLOCK]) -> Option<Reply>
         return Some(reply);
     }
     if let Some(reply) = read_committed(line) {
+        return Some(reply);
+    }
+    if let Some(reply) = read_upgraded(line) {
         return Some(reply);
     }
     if let Some(reply) = read_stat(line) {
@@ -102,6 +106,8 @@ fn read_words(line: &[u8]) -> Option<Reply>
         Some(Reply::NotEmpty)
     } else if is_text(line, b"no device") {
         Some(Reply::NoDevice)
+    } else if is_text(line, b"already upgraded") {
+        Some(Reply::AlreadyUpgraded)
     } else if is_text(line, b"range") {
         Some(Reply::Range)
     } else if is_text(line, b"full") {
@@ -173,6 +179,17 @@ fn read_committed(line: &[u8]) -> Option<Reply>
 {
     let number = parse_number(line.strip_prefix(b"committed ".as_slice())?)?;
     Some(Reply::Committed { number })
+}
+
+/// `upgraded C`
+#[tactic(auto, unfolding(crate::specs::Replies::text_of))]
+fn read_upgraded(line: &[u8]) -> Option<Reply>
+    ensures found { IfSome result (λ reply. (buffer : List ℕ) → IsReply (said reply buffer) × (line.now ≡ text_of (said reply buffer))) }
+    ensures fits { IfSome result FitsBlock }
+    ensures none { IfNone result ((number : ℕ) → number < 2 ^ 64 → line.now ≢ text_of (replies.Upgraded number)) }
+{
+    let number = parse_number(line.strip_prefix(b"upgraded ".as_slice())?)?;
+    Some(Reply::Upgraded { number })
 }
 
 /// `stat mapped K commit C`

@@ -17,6 +17,8 @@ pub enum Reply {
     Dropped,
     /// There is no device any more.
     Erased,
+    /// The device has version 2, and this commit number.
+    Upgraded { number: u64 },
     /// The number of the session's mapped blocks, and the commit number.
     Stat { mapped: u64, number: u64 },
     /// How many pages there are, and how many nodes and blocks can be read.
@@ -31,6 +33,8 @@ pub enum Reply {
     NotEmpty,
     /// There is no device.
     NoDevice,
+    /// The device has version 2 already.
+    AlreadyUpgraded,
     /// The block, or a number of the format, is out of range.
     Range,
     /// The medium has no room for this.

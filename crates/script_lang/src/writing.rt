@@ -70,6 +70,10 @@ impl ReplyWriter {
                 self.line.push(b"committed ");
                 self.line.push_number(*number);
             }
+            Reply::Upgraded { number } => {
+                self.line.push(b"upgraded ");
+                self.line.push_number(*number);
+            }
             Reply::Stat { mapped, number } => {
                 self.line.push(b"stat mapped ");
                 self.line.push_number(*mapped);
@@ -97,6 +101,7 @@ impl ReplyWriter {
             Reply::AlreadyMounted => self.line.push(b"already mounted"),
             Reply::NotEmpty => self.line.push(b"not empty"),
             Reply::NoDevice => self.line.push(b"no device"),
+            Reply::AlreadyUpgraded => self.line.push(b"already upgraded"),
             Reply::Range => self.line.push(b"range"),
             Reply::Full => self.line.push(b"full"),
         }

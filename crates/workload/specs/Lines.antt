@@ -3,7 +3,7 @@ use Rattle.std.specs.Prelude.{ℕ, List, [], ◌∷◌, ◌++◌, codes}
 use Rattle.std.specs.Fmt.{decimal}
 use Rattle.hex.specs.Hex.{encode_lower}
 use Rattle.script_lang.specs.Commands.{Command}
-use Rattle.script_lang.specs.Commands.{Format, Mount, Read, Write, Trim, Commit, Drop, Erase, Stat, Seize}
+use Rattle.script_lang.specs.Commands.{Format, Mount, Read, Write, Trim, Commit, Drop, Erase, Upgrade, Stat, Seize}
 use Rattle.script_lang.specs.Grammar.{Spells}
 
 -- a command's line, without its line feed
@@ -16,6 +16,7 @@ text_of (Trim block) = codes "trim " ++ decimal block
 text_of Commit = codes "commit"
 text_of Drop = codes "drop"
 text_of Erase = codes "erase"
+text_of Upgrade = codes "upgrade"
 text_of Stat = codes "stat"
 text_of Seize = codes "seize"
 

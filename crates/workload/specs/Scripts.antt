@@ -2,7 +2,7 @@
 use Rattle.std.specs.Prelude.{◌≡◌, ℕ, zero, suc, ◌%◌, ◌<◌, nat_lt, if◌then◌else◌, List, [], ◌∷◌, ◌++◌, length}
 use Rattle.std.specs.Int.{w32, to_be_bytes}
 use Rattle.script_lang.specs.Commands.{Command}
-use Rattle.script_lang.specs.Commands.{Format, Mount, Read, Write, Trim, Commit, Drop, Erase, Stat, Seize}
+use Rattle.script_lang.specs.Commands.{Format, Mount, Read, Write, Trim, Commit, Drop, Erase, Upgrade, Stat, Seize}
 use Rattle.workload.specs.Draws.{next_state, draw_at}
 
 -- the command that the draws behind a state give, and the state behind them. The first draw modulo 10 says what kind of
@@ -40,5 +40,6 @@ IsOrdinary (Format blocks order) = ⊥
 IsOrdinary Mount = ⊥
 IsOrdinary Drop = ⊥
 IsOrdinary Erase = ⊥
+IsOrdinary Upgrade = ⊥
 IsOrdinary Stat = ⊥
 IsOrdinary Seize = ⊥

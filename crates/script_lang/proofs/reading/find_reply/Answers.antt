@@ -1,7 +1,7 @@
 use Rattle.std.proofs.Common.{◌≢◌, Option, Some, None}
 use Rattle.std.specs.Option.{IfNone}
 use Rattle.script_lang.specs.Replies.{IsReply, text_of}
-use Rattle.script_lang.specs.Replies.{Formatted, Mounted, Content, Done, Committed, Dropped, Erased, Stat, Seized, Bad, Unmounted, AlreadyMounted, NotEmpty, NoDevice, Range, Full}
+use Rattle.script_lang.specs.Replies.{Formatted, Mounted, Content, Done, Committed, Dropped, Erased, Upgraded, Stat, Seized, Bad, Unmounted, AlreadyMounted, NotEmpty, NoDevice, AlreadyUpgraded, Range, Full}
 use Rattle.script_lang.proofs.reading.find_reply.Goals as goal
 
 weaker : {X : Type 0} (o : Option X) (P Q : Type 0) → (P → Q) → IfNone o P → IfNone o Q
@@ -20,6 +20,7 @@ returns-clause-none c =
       | Committed number ↦ λ is. c.in_default-read_committed.ensures.none number is
       | Dropped ↦ λ is. words Dropped tt
       | Erased ↦ λ is. words Erased tt
+      | Upgraded number ↦ λ is. c.in_default-read_upgraded.ensures.none number is
       | Stat mapped number ↦ λ is. c.in_default-read_stat.ensures.none mapped number is.0 is.1
       | Seized pages nodes blocks ↦ λ is. seized pages nodes blocks is.0 is.1 is.2
       | Bad ↦ λ is. words Bad tt
@@ -27,6 +28,7 @@ returns-clause-none c =
       | AlreadyMounted ↦ λ is. words AlreadyMounted tt
       | NotEmpty ↦ λ is. words NotEmpty tt
       | NoDevice ↦ λ is. words NoDevice tt
+      | AlreadyUpgraded ↦ λ is. words AlreadyUpgraded tt
       | Range ↦ λ is. words Range tt
       | Full ↦ λ is. words Full tt
     ]) c.read_seized.ensures.none
