@@ -17,6 +17,7 @@ use Rattle.cert_maker.specs.Cert.{Cert}
 use Rattle.cert_codec.specs.Text.{entry}
 use Rattle.device_session.specs.Sessions.{Session}
 use Rattle.device_terms.specs.Certifying.{Certifies, PutsEntry, SpeaksOf}
+use Rattle.device_core.specs.Upgrading.{CertifiesUpgrade, IsOfUpgrade}
 use Rattle.device_course.specs.Certified.{Came, CameBetween, Certificate, Certified}
 
 -- ---- what came into the cell
@@ -310,15 +311,26 @@ done_or_not : {X Y : Type 0} (result : Result X Y) → IsOk result ⊎ (IsOk res
 done_or_not (Ok x) = inl refl
 done_or_not (Err y) = inr (λ ok. absurd cc)
 
+-- a root record with the next number is another one than the one in the cell
+next_differs : (cell : Option (List ℕ)) (root next : Root) → FitsRoot root → FitsRoot next → next.commit ≡ root.commit + 1 → cell ≡ Some (root_bytes root) → cell ≢ Some (root_bytes next)
+next_differs cell root next fits in_range number there is =
+    let same : root ≡ next = one_root root next fits in_range (same_Some _ _ (sym there ∙ is)) in
+    let numbers : root.commit ≡ next.commit = ap (λ (r : Root). r.commit) same in omega (arith, number, numbers)
+
 -- a commit of a session on the root record in the cell
 pub certified_commit : {X Y : Type 0} (tells : Type 0) (written written_now : Option (List ℕ)) (old new : History) (session : Session) (Is : Root → Cert → Type 0) (result : Result X Y) → FitsRoot session.root → (tells → CellTurns old new) → (tells → old.present.cell ≡ Some (root_bytes session.root))
     → Certifies tells written written_now old new session.root.head (session.root.commit + 1) Is (IsOk result) → Certified tells written written_now old new (IsOk result)
 certified_commit tells written written_now old new session Is result fits turns cell certifies =
     certified_call tells written written_now old new session.root.head (session.root.commit + 1) Is (IsOk result) (done_or_not result) turns
-    (λ root in_range number told. inl (λ is.
-    let same : session.root ≡ root = one_root session.root root fits in_range (same_Some _ _ (sym (cell told) ∙ is)) in
-    let numbers : session.root.commit ≡ root.commit = ap (λ (r : Root). r.commit) same in
-    omega (arith, number, numbers))) certifies
+    (λ root in_range number told. inl (next_differs old.present.cell session.root root fits in_range number (cell told))) certifies
+
+-- an upgrade of the root record in the cell
+pub certified_upgrade : {X Y : Type 0} (tells : Type 0) (written written_now : Option (List ℕ)) (old new : History) (result : Result X Y) → (tells → CellTurns old new) → CertifiesUpgrade tells written written_now old new (IsOk result)
+    → Certified tells written written_now old new (IsOk result)
+certified_upgrade tells written written_now old new result turns (inl none) = certified_unput tells written written_now old new (IsOk result) none.0 none.1
+certified_upgrade tells written written_now old new result turns (inr (root, fits, key, cell, puts)) =
+    certified_puts tells written written_now old new root.head (root.commit + 1) (IsOfUpgrade root old.present new.present) (IsOk result) turns
+    (λ next in_range number told. inl (next_differs old.present.cell root next fits in_range number (cell told))) puts (done_or_not result)
 
 -- a format, which is not done where the cell is full
 pub certified_format : {X Y : Type 0} (tells : Type 0) (written written_now : Option (List ℕ)) (old new : History) (base : ℕ) (Is : Root → Cert → Type 0) (result : Result X Y) → (tells → CellTurns old new) → (tells → old.present.cell ≢ None → CellStays old new) → (tells → IsOk result → old.present.cell ≡ None)

@@ -51,8 +51,9 @@ use Rattle.device_session.specs.Holds.{Holds}
 use Rattle.device_session.specs.Sessions.{Session}
 use Rattle.device_session.specs.Open.{AreDataPages}
 use Rattle.device_session.specs.Certifying.{IsOfCommit}
-use Rattle.device_terms.specs.Certifying.{Certifies}
+use Rattle.device_terms.specs.Certifying.{Certifies, IsOfTrees, PutsEntry}
 use Rattle.device_core.specs.Certifying.{IsOfFormat}
+use Rattle.device_core.specs.Upgrading.{CertifiesUpgrade, IsOfUpgrade}
 use Rattle.device_course.proofs.SaidLaws.{entry_has, has_entry}
 use Rattle.device_session.specs.Keys.{HoldsListed}
 use Rattle.device_course.specs.States.{IsAt, IsSessionOf}
@@ -342,55 +343,78 @@ came_root new next (Some device, (root, parts, stands)) in_range came =
     let same : root ≡ next = one_root root next stands.in_range in_range (same_Some _ _ (sym stands.cell ∙ came)) in
     (device, parts, subst (λ (r : Root). StandsBy new device r parts) same stands)
 
+-- a ledger that gets the entry of the root record that came into the cell, with the next number
+next_fits : (old new : History) (device : Device) (root next : Root) (before : Parts) (pages : List Unkept) (cert : Cert) → FitsText cert → FitsRoot next → next.commit ≡ root.commit + 1 → new.present.cell ≡ Some (root_bytes next) → Forgets old new
+    → StandsBy old.present device root before → IsOfTrees before.places root.head new.present.readable next pages cert → ((page : Unkept) → Contains pages page → (root.head ≤ page.addr) × (page.addr < length old.present.recorded))
+    → (text : List ℕ) → FitsImage text old.present → FitsImage (text ++ entry cert) new.present
+next_fits old new device root next before pages cert in_text in_range number came forgets was of between text f =
+    let now = came_root new.present next (During-now old new IsSound forgets.sound) in_range came in
+    let stands : StandsBy new.present now.0 next now.1 = now.2 in
+    let same : of.after ≡ now.1 = one_tree new.present.readable next of.after now.1 in_range of.tree stands.tree in
+    let cert_of : CertOf (entries_of before.places) (entries_of now.1.places) next.commit next.addr root.head next.head pages cert =
+    subst (λ (parts : Parts). CertOf (entries_of before.places) (entries_of parts.places) next.commit next.addr root.head next.head pages cert) same of.is in
+    record {
+      certs = f.certs ++ cert ∷ [];
+      ledger = entry_adds text f.certs cert in_text f.ledger;
+      fits = elim f.fits [
+        | inl none ↦ absurd (none-some (root_bytes root) (sym none ∙ was.cell))
+        | inr c ↦ inr (record {
+          root = next;
+          is = root_of_stands new.present now.0 next now.1 stands;
+          parts = now.1;
+          tree = stands.tree;
+          fits = fits_next f.certs root next before.places now.1.places pages cert (cell_fits old.present device root before f.certs was c) number
+              (succeeds old new device now.0 root next before now.1 pages was stands forgets number between) cert_of;
+        })
+      ];
+    }
+
+-- what was put is that entry, or a part of it, or all of it before the root record comes
+puts_fit : (tells : Type 0) (written written_now : Option (List ℕ)) (old new : History) (root : Root) (Is : Root → Cert → Type 0) (Done : Type 0) → tells → IsRootOf old.present root → IsEarlier old.present new.present
+    → PutsEntry tells written written_now old new root.head (root.commit + 1) Is Done
+    → ((cert : Cert) (next : Root) → FitsText cert → FitsRoot next → next.commit ≡ root.commit + 1 → new.present.cell ≡ Some (root_bytes next) → Is next cert → (text : List ℕ) → FitsImage text old.present → FitsImage (text ++ entry cert) new.present)
+    → KeepsFitting written written_now old.present new.present
+puts_fit tells written written_now old new root Is Done told there earlier p goes_on =
+    let numbered : (other : Root) → IsRootOf old.present other → p.cert.commit ≡ other.commit + 1 = λ other is.
+    let same : root ≡ other = one_root_in old.present old.present root other refl there is in
+    p.speaks.commit ∙ p.number ∙ ap (λ (r : Root). r.commit + 1) same in
+    let waits : CellStays old new → Got written (entry p.cert) written_now ⊎ GotPart written (entry p.cert) written_now → KeepsFitting written written_now old.present new.present = λ stays put.
+    fitting_waits written written_now p.cert old.present new.present p.in_text earlier (During-now old new (λ image. image.cell ≡ old.present.cell) stays) numbered put in
+    elim p.put [
+      | inl whole ↦ elim (whole.1 told) [
+        | inl came ↦ record { put = entry p.cert; got = whole.0; fits = λ text f. goes_on p.cert p.root p.in_text p.in_range p.number came (p.is told) text f }
+        | inr stays ↦ waits stays.0 (inl whole.0)
+      ]
+      | inr part ↦ waits (part.1 told) (inr part.0)
+    ]
+
 pub fitting_commit : (tells : Type 0) (written written_now : Option (List ℕ)) (old new : History) (session : Session) (device : Device) (contents : Blocks) (Done : Type 0) → tells → Holds session old.present device contents → Forgets old new
     → Certifies tells written written_now old new session.root.head (session.root.commit + 1) (IsOfCommit session old.present new.present) Done → KeepsFitting written written_now old.present new.present
 fitting_commit tells written written_now old new session device contents Done told h forgets certifies =
     let earlier = Extends-earlier old new forgets.turns.extends in
     let before : Parts = h.committed in
     let was : StandsBy old.present device session.root before = h.stands in
-    let there : IsRootOf old.present session.root = root_of_stands old.present device session.root before was in
+    let pages = wrote old.present session device contents h in
     elim certifies [
       | inl none ↦ fitting_still written written_now old.present new.present none.0 earlier (During-now old new (λ image. image.cell ≡ old.present.cell) (none.1 told))
-      | inr p ↦
-          let numbered : (root : Root) → IsRootOf old.present root → p.cert.commit ≡ root.commit + 1 = λ root is.
-          let same : session.root ≡ root = one_root_in old.present old.present session.root root refl there is in
-          p.speaks.commit ∙ p.number ∙ ap (λ (r : Root). r.commit + 1) same in
-          let waits : CellStays old new → Got written (entry p.cert) written_now ⊎ GotPart written (entry p.cert) written_now → KeepsFitting written written_now old.present new.present = λ stays put.
-          fitting_waits written written_now p.cert old.present new.present p.in_text earlier (During-now old new (λ image. image.cell ≡ old.present.cell) stays) numbered put in
-          elim p.put [
-            | inl whole ↦ elim (whole.1 told) [
-              | inl came ↦ record { put = entry p.cert; got = whole.0; fits = λ text f. next_fits p.cert p.root p.in_text p.in_range p.number came (p.is told) before was text f }
-              | inr stays ↦ waits stays.0 (inl whole.0)
-            ]
-            | inr part ↦ waits (part.1 told) (inr part.0)
-          ]
+      | inr p ↦ puts_fit tells written written_now old new session.root (IsOfCommit session old.present new.present) Done told (root_of_stands old.present device session.root before was) earlier p
+          (λ cert next in_text in_range number came is. next_fits old new device session.root next before pages.list cert in_text in_range number came forgets was (is device contents h pages.list pages.are before was.tree) pages.between)
     ]
-  where
-    next_fits : (cert : Cert) (next : Root) → FitsText cert → FitsRoot next → next.commit ≡ session.root.commit + 1 → new.present.cell ≡ Some (root_bytes next) → IsOfCommit session old.present new.present next cert
-        → (before : Parts) → StandsBy old.present device session.root before → (text : List ℕ) → FitsImage text old.present → FitsImage (text ++ entry cert) new.present
-    next_fits cert next in_text in_range number came is before was text f =
-        let now = came_root new.present next (During-now old new IsSound forgets.sound) in_range came in
-        let stands : StandsBy new.present now.0 next now.1 = now.2 in
-        let pages = wrote old.present session device contents h in
-        let of = is device contents h pages.list pages.are before was.tree in
-        let same : of.after ≡ now.1 = one_tree new.present.readable next of.after now.1 in_range of.tree stands.tree in
-        let cert_of : CertOf (entries_of before.places) (entries_of now.1.places) next.commit next.addr session.root.head next.head pages.list cert =
-        subst (λ (parts : Parts). CertOf (entries_of before.places) (entries_of parts.places) next.commit next.addr session.root.head next.head pages.list cert) same of.is in
-        record {
-          certs = f.certs ++ cert ∷ [];
-          ledger = entry_adds text f.certs cert in_text f.ledger;
-          fits = elim f.fits [
-            | inl none ↦ absurd (none-some (root_bytes session.root) (sym none ∙ was.cell))
-            | inr c ↦ inr (record {
-              root = next;
-              is = root_of_stands new.present now.0 next now.1 stands;
-              parts = now.1;
-              tree = stands.tree;
-              fits = fits_next f.certs session.root next before.places now.1.places pages.list cert (cell_fits old.present device session.root before f.certs was c) number
-                  (succeeds old new device now.0 session.root next before now.1 pages.list was stands forgets number pages.between) cert_of;
-            })
-          ];
-        }
+
+-- ---- an upgrade
+
+-- of a device, or where there is none
+pub fitting_upgrade : (tells : Type 0) (written written_now : Option (List ℕ)) (old new : History) (Done : Type 0) → tells → IsSound old.present → Forgets old new → CertifiesUpgrade tells written written_now old new Done
+    → KeepsFitting written written_now old.present new.present
+fitting_upgrade tells written written_now old new Done told sound forgets (inl none) =
+    fitting_still written written_now old.present new.present none.0 (Extends-earlier old new forgets.turns.extends) (During-now old new (λ image. image.cell ≡ old.present.cell) (none.1 told))
+fitting_upgrade tells written written_now old new Done told sound forgets (inr (root, fits, key, cell, puts)) =
+    let there = came_root old.present root sound fits (cell told) in
+    let device : Device = there.0 in
+    let before : Parts = there.1 in
+    let was : StandsBy old.present device root before = there.2 in
+    puts_fit tells written written_now old new root (IsOfUpgrade root old.present new.present) Done told (root_of_stands old.present device root before was) (Extends-earlier old new forgets.turns.extends) puts
+    (λ cert next in_text in_range number came is. next_fits old new device root next before [] cert in_text in_range number came forgets was (is device before was) (λ page has. absurd (omega (arith, has.1))))
 
 -- ---- a format
 
@@ -495,6 +519,13 @@ pub fitting_formatted : (tells : Type 0) (written written_now : Option (List ℕ
     → tells → (entry : State) → IsAt old.present held entry → KeepsFitting written written_now old.present new.present
 fitting_formatted tells written written_now old new held base Done forgets certifies told entry at =
     fitting_format tells written written_now old new base Done told (forgets told (entry.device, at.there.device)) certifies
+
+-- an upgrade, by its public clauses
+pub fitting_upgraded : (tells : Type 0) (written written_now : Option (List ℕ)) (old new : History) (Done : Type 0) → (tells → IsSound old.present → Forgets old new) → CertifiesUpgrade tells written written_now old new Done
+    → tells → (entry : State) → IsAt old.present None entry → KeepsFitting written written_now old.present new.present
+fitting_upgraded tells written written_now old new Done forgets certifies told entry at =
+    let sound : IsSound old.present = (entry.device, at.there.device) in
+    fitting_upgrade tells written written_now old new Done told sound (forgets told sound) certifies
 
 -- ---- a loss of power
 

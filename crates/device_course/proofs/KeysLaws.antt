@@ -1,5 +1,5 @@
 -- How parts of a run compose that keep the keys of an image, and which calls do.
-use Rattle.std.proofs.Common.{◌≡◌, ℕ, ◌+◌, List, ◌++◌, Option, None, Some, Result, length, refl, sym, ◌∙◌, subst, ap}
+use Rattle.std.proofs.Common.{◌≡◌, ℕ, ◌+◌, List, [], ◌++◌, Option, None, Some, Result, length, refl, sym, ◌∙◌, subst, ap}
 use Rattle.std.specs.Prelude.{IsOk}
 use Rattle.std.proofs.lemmas.List.Elements.{Contains-append_left}
 use Rattle.sdbt_base.specs.Arrays.{Device, State}
@@ -25,12 +25,13 @@ use Rattle.device_terms.specs.Certifying.{Certifies}
 use Rattle.device_terms.specs.Effects.{Discloses}
 use Rattle.device_terms.specs.Served.{IsServedImage}
 use Rattle.device_terms.proofs.ServedLaws.{serves_still}
+use Rattle.device_core.specs.Upgrading.{CertifiesUpgrade}
 use Rattle.device_course.specs.Fitting.{KeepsFitting}
 use Rattle.device_course.specs.States.{IsListed, IsAt}
 use Rattle.device_course.specs.Certified.{Certified}
 use Rattle.device_course.specs.Keys.{KeepsOn}
 use Rattle.device_course.proofs.CertifiedLaws.{certified_commit, certified_start, certified_stays, certified_going, certified_then}
-use Rattle.device_course.proofs.FitsLaws.{fitting_committed, fitting_start, fitting_same, fitting_erased, fitting_then, fitting_while}
+use Rattle.device_course.proofs.FitsLaws.{fitting_committed, fitting_start, fitting_same, fitting_erased, fitting_then, fitting_upgraded, fitting_while}
 
 pub sound_of : (session : Option Session) (image : Image) (keys : List (List ℕ)) → IsListed session image keys → IsSound image
 sound_of None image keys sound = sound
@@ -134,6 +135,19 @@ on_commit tells drawn drawn_now written written_now held session pages old new r
     (certified_going tells written written_now old new (IsOk result) Going going
     (certified_commit tells written written_now old new session (IsOfCommit session old.present new.present) result there_open.served.in_range discloses.turns cell certifies))
     (fitting_committed tells written written_now old new held session (IsOk result) is discloses.forgets certifies)
+
+-- an upgrade where there is no session, whatever its answer: the image stands still
+pub on_upgrade : (tells : Type 0) (drawn drawn_now : Option (List (List ℕ))) (written written_now : Option (List ℕ)) (old new : History) (Made Going : Type 0) (Then Done : List (List ℕ) → Type 0)
+    → Discloses tells drawn drawn_now old new (λ keys. IsSound old.present) Then → CertifiesUpgrade tells written written_now old new Made → Certified tells written written_now old new Going → ((keys : List (List ℕ)) → IsSound new.present → Done keys)
+    → KeepsOn tells drawn drawn_now written written_now None old new Going Done
+on_upgrade tells drawn drawn_now written written_now old new Made Going Then Done discloses certifies certified done =
+    on_call tells drawn drawn_now written written_now None old new Going (λ keys. IsSound old.present) Then Done discloses.keys
+    (λ told keys h. h)
+    discloses.forgets
+    (λ told keys more h then'. done (keys ++ more) (During-now old new IsSound (discloses.forgets told keys h).sound))
+    discloses.serves
+    certified
+    (fitting_upgraded tells written written_now old new Made (λ told. discloses.forgets told []) certifies)
 
 -- without a session a mount finds the device
 pub mount_listed : (held : Option Session) (image : Image) (keys bytes : List (List ℕ)) (X : Type 0) (cell : List ℕ) → held ≡ None → image.cell ≡ Some cell → IsListed held image keys → ((device : Device) → Stands image (Some device) → X) → X

@@ -5,6 +5,7 @@ pub mod Goes
 pub mod Commits
 pub mod Cells
 pub mod Mounts
+pub mod Upgrades
 pub mod Calling
 pub mod Carrying
 pub mod Handed

@@ -8,6 +8,7 @@ mod mounting;
 mod reading;
 mod stops;
 mod trimming;
+mod upgrading;
 mod writing;
 
 pub use committing::{Committed, commit_session};
@@ -16,4 +17,5 @@ pub use mounting::mount_session;
 pub use reading::read_block;
 pub use stops::DeviceStop;
 pub use trimming::trim_block;
+pub use upgrading::{UpgradeReply, upgrade_device};
 pub use writing::{write_block, write_each};

@@ -1,0 +1,161 @@
+-- What an upgrade does to a run, by what the device's upgrade does: whom it blames, what it adds and puts, and what it keeps.
+use Rattle.std.proofs.Common.{◌≡◌, ◌+◌, ◌≤◌, ℕ, List, Option, Result, Ok, Err, inl, inr, arith}
+use Rattle.std.specs.Prelude.{◌⊎◌, IfOk, IfErr, IsErrOf, IsOk, OnOk}
+use Rattle.sdbt_base.specs.Counts.{Counts, counts}
+use Rattle.sdbt_base.specs.declared.sinks.Sink.{Ghosts as SinkGhosts}
+use Rattle.sdbt_base.specs.declared.tapes.Tape.{Ghosts as TapeGhosts}
+use Rattle.platform.specs.declared.platforms.Platform.{Ghosts as PlatformGhosts}
+use Rattle.platform.specs.History.{History}
+use Rattle.root_codec.specs.declared.root.Root.{Root}
+use Rattle.page_store.specs.Stands.{IsSound}
+use Rattle.device_terms.specs.Certifying.{PutsSynced}
+use Rattle.device_terms.specs.Effects.{Discloses}
+use Rattle.device_core.specs.Upgrading.{Begins, CertifiesUpgrade, IsPartly, IsUpgradeCause, needed_of_root}
+use Rattle.device_core.specs.declared.refusals.UpgradeRefusal.{UpgradeRefusal}
+use Rattle.device_core.specs.declared.refusals.UpgradeRefusal.TheVariants as upgrade
+use Rattle.device_course.specs.Certified.{Certified}
+use Rattle.device_course.proofs.CertifiedLaws.{certified_unput, certified_upgrade}
+use Rattle.device_course.proofs.KeysLaws.{on_upgrade}
+use Rattle.session_calls.specs.Blame.{HasCause}
+use Rattle.session_calls.specs.Upgrades.{AddsNeeded, PutsFor, UpgradeGoes, answer_of_refusal}
+use Rattle.session_calls.specs.declared.upgrading.UpgradeReply.TheVariants as replies
+
+-- ---- what is blamed, added and put
+
+-- whose count rose, and that no other did
+refusal_blamed : {S R : Type 0} (P : PlatformGhosts S) (T : TapeGhosts R) (platform platform_now : S) (tape tape_now : R) (before now : Counts) (refusal : UpgradeRefusal)
+    → IsUpgradeCause P T platform platform_now tape tape_now before now (Err refusal) → OnOk (answer_of_refusal refusal) (now ≡ before) × IfErr (answer_of_refusal refusal) (HasCause before now)
+refusal_blamed P T platform platform_now tape tape_now before now upgrade.NoDevice cause = (cause.2, tt)
+refusal_blamed P T platform platform_now tape tape_now before now upgrade.BadRoot cause = (tt, cause.2)
+refusal_blamed P T platform platform_now tape tape_now before now upgrade.AlreadyUpgraded cause = (cause.2, tt)
+refusal_blamed P T platform platform_now tape tape_now before now (upgrade.Full needed free) cause = (cause.2, tt)
+refusal_blamed P T platform platform_now tape tape_now before now (upgrade.BadRecord addr) cause = (tt, cause.1)
+refusal_blamed P T platform platform_now tape tape_now before now upgrade.Memory cause = (tt, cause.2)
+refusal_blamed P T platform platform_now tape tape_now before now upgrade.TapeFault cause = (tt, cause.0)
+refusal_blamed P T platform platform_now tape tape_now before now upgrade.PlatformFault cause = (tt, cause.0)
+refusal_blamed P T platform platform_now tape tape_now before now upgrade.LedgerFault cause = (tt, cause.0)
+
+partly_adds : {S : Type 0} (P : PlatformGhosts S) (platform platform_now : S) (root : Root) → IsPartly P platform platform_now root → AddsNeeded P platform platform_now
+partly_adds P platform platform_now root partly = inr (root, partly.begins, partly.most)
+
+-- at most the pages that are needed
+refusal_adds : {S R : Type 0} (P : PlatformGhosts S) (T : TapeGhosts R) (platform platform_now : S) (tape tape_now : R) (before now : Counts) (refusal : UpgradeRefusal)
+    → IsUpgradeCause P T platform platform_now tape tape_now before now (Err refusal) → AddsNeeded P platform platform_now
+refusal_adds P T platform platform_now tape tape_now before now upgrade.NoDevice cause = inl cause.1.0.head
+refusal_adds P T platform platform_now tape tape_now before now upgrade.BadRoot cause = inl cause.1.0.head
+refusal_adds P T platform platform_now tape tape_now before now upgrade.AlreadyUpgraded cause = inl cause.1.0.head
+refusal_adds P T platform platform_now tape tape_now before now (upgrade.Full needed free) cause = inl cause.1.0.head
+refusal_adds P T platform platform_now tape tape_now before now (upgrade.BadRecord addr) cause = partly_adds P platform platform_now cause.0.0 cause.0.1
+refusal_adds P T platform platform_now tape tape_now before now upgrade.Memory cause = inl cause.1.0.head
+refusal_adds P T platform platform_now tape tape_now before now upgrade.TapeFault cause = partly_adds P platform platform_now cause.1 cause.2
+refusal_adds P T platform platform_now tape tape_now before now upgrade.PlatformFault cause = elim cause.1 [ inl same ↦ inl same.0 | inr some ↦ inr some ]
+refusal_adds P T platform platform_now tape tape_now before now upgrade.LedgerFault cause = partly_adds P platform platform_now cause.1 cause.2
+
+-- where neither the platform nor the ledger failed nothing was put
+third_of : (One Other Third : Type 0) → (One → ⊥) → (Other → ⊥) → One ⊎ (Other ⊎ Third) → Third
+third_of One Other Third no_one no_other (inl one) = absurd (no_one one)
+third_of One Other Third no_one no_other (inr (inl other)) = absurd (no_other other)
+third_of One Other Third no_one no_other (inr (inr third)) = third
+
+abbrev Refuses : UpgradeRefusal → UpgradeRefusal → Type 0
+Refuses refusal other = IsErrOf {T = ℕ} {E = UpgradeRefusal} (Err refusal) other
+
+refusal_puts : (written written_now : Option (List ℕ)) (refusal : UpgradeRefusal)
+    → Refuses refusal upgrade.PlatformFault ⊎ (Refuses refusal upgrade.LedgerFault ⊎ (written_now ≡ written)) → PutsFor written written_now (answer_of_refusal refusal)
+refusal_puts written written_now upgrade.NoDevice unput = third_of _ _ (written_now ≡ written) (λ e. cc) (λ e. cc) unput
+refusal_puts written written_now upgrade.BadRoot unput = third_of _ _ (written_now ≡ written) (λ e. cc) (λ e. cc) unput
+refusal_puts written written_now upgrade.AlreadyUpgraded unput = third_of _ _ (written_now ≡ written) (λ e. cc) (λ e. cc) unput
+refusal_puts written written_now (upgrade.Full needed free) unput = third_of _ _ (written_now ≡ written) (λ e. cc) (λ e. cc) unput
+refusal_puts written written_now (upgrade.BadRecord addr) unput = third_of _ _ (written_now ≡ written) (λ e. cc) (λ e. cc) unput
+refusal_puts written written_now upgrade.Memory unput = third_of _ _ (written_now ≡ written) (λ e. cc) (λ e. cc) unput
+refusal_puts written written_now upgrade.TapeFault unput = third_of _ _ (written_now ≡ written) (λ e. cc) (λ e. cc) unput
+refusal_puts written written_now upgrade.PlatformFault unput = tt
+refusal_puts written written_now upgrade.LedgerFault unput = tt
+
+-- ---- what is kept
+
+-- where it goes on without an upgrade nothing was put
+refusal_certified : {S R : Type 0} (P : PlatformGhosts S) (T : TapeGhosts R) (platform platform_now : S) (tape tape_now : R) (before now : Counts) (written written_now : Option (List ℕ)) (refusal : UpgradeRefusal)
+    → IsUpgradeCause P T platform platform_now tape tape_now before now (Err refusal) → PutsFor written written_now (answer_of_refusal refusal)
+    → Certified P.tells written written_now (P.history platform) (P.history platform_now) (IsOk {T = ℕ} {E = UpgradeRefusal} (Err refusal)) → Certified P.tells written written_now (P.history platform) (P.history platform_now) (IsOk (answer_of_refusal refusal))
+refusal_certified P T platform platform_now tape tape_now before now written written_now upgrade.NoDevice cause same certified =
+    certified_unput P.tells written written_now (P.history platform) (P.history platform_now) _ same cause.1.1
+refusal_certified P T platform platform_now tape tape_now before now written written_now upgrade.AlreadyUpgraded cause same certified =
+    certified_unput P.tells written written_now (P.history platform) (P.history platform_now) _ same cause.1.1
+refusal_certified P T platform platform_now tape tape_now before now written written_now (upgrade.Full needed free) cause same certified =
+    certified_unput P.tells written written_now (P.history platform) (P.history platform_now) _ same cause.1.1
+refusal_certified P T platform platform_now tape tape_now before now written written_now upgrade.BadRoot cause puts certified = certified
+refusal_certified P T platform platform_now tape tape_now before now written written_now (upgrade.BadRecord addr) cause puts certified = certified
+refusal_certified P T platform platform_now tape tape_now before now written written_now upgrade.Memory cause puts certified = certified
+refusal_certified P T platform platform_now tape tape_now before now written written_now upgrade.TapeFault cause puts certified = certified
+refusal_certified P T platform platform_now tape tape_now before now written written_now upgrade.PlatformFault cause puts certified = certified
+refusal_certified P T platform platform_now tape tape_now before now written written_now upgrade.LedgerFault cause puts certified = certified
+
+if_done : {X Y : Type 0} (result : Result X Y) (Holds : Type 0) → Holds → IfOk result (λ x. Holds)
+if_done (Ok x) Holds holds = holds
+if_done (Err y) Holds holds = tt
+
+-- what a call does beside its purpose
+abbrev Grows : {S R W : Type 0} → PlatformGhosts S → TapeGhosts R → SinkGhosts W → S → S → R → R → W → W → Type 0
+Grows P T L platform platform_now tape tape_now ledger ledger_now =
+    (P.head platform ≤ P.head platform_now) × (P.capacity platform_now ≡ P.capacity platform)
+    × (P.faults platform ≤ P.faults platform_now) × (T.faults tape ≤ T.faults tape_now) × (L.faults ledger ≤ L.faults ledger_now)
+
+pub refused_goes : {S R W : Type 0} (P : PlatformGhosts S) (T : TapeGhosts R) (L : SinkGhosts W) (platform platform_now : S) (tape tape_now : R) (ledger ledger_now : W) (refusal : UpgradeRefusal) (added : ℕ) (Then : List (List ℕ) → Type 0)
+    → IsUpgradeCause P T platform platform_now tape tape_now (counts (P.faults platform) (T.faults tape) 0 0 (L.faults ledger)) (counts (P.faults platform_now) (T.faults tape_now) 0 0 (L.faults ledger_now)) (Err refusal)
+    → Refuses refusal upgrade.PlatformFault ⊎ (Refuses refusal upgrade.LedgerFault ⊎ (L.written ledger_now ≡ L.written ledger))
+    → Discloses P.tells (T.drawn tape) (T.drawn tape_now) (P.history platform) (P.history platform_now) (λ keys. IsSound (P.history platform).present) Then
+    → CertifiesUpgrade P.tells (L.written ledger) (L.written ledger_now) (P.history platform) (P.history platform_now) (IsOk {T = ℕ} {E = UpgradeRefusal} (Err refusal))
+    → PutsSynced P added platform platform_now ledger ledger_now → Grows P T L platform platform_now tape tape_now ledger ledger_now
+    → UpgradeGoes P T L platform platform_now tape tape_now ledger ledger_now (answer_of_refusal refusal)
+refused_goes P T L platform platform_now tape tape_now ledger ledger_now refusal added Then cause unput discloses certifies synced grows =
+    let old : History = P.history platform in
+    let new : History = P.history platform_now in
+    let before : Counts = counts (P.faults platform) (T.faults tape) 0 0 (L.faults ledger) in
+    let now : Counts = counts (P.faults platform_now) (T.faults tape_now) 0 0 (L.faults ledger_now) in
+    let puts : PutsFor (L.written ledger) (L.written ledger_now) (answer_of_refusal refusal) = refusal_puts (L.written ledger) (L.written ledger_now) refusal unput in
+    let blamed = refusal_blamed P T platform platform_now tape tape_now before now refusal cause in
+    record {
+      capacity = grows.1;
+      rises = grows.0;
+      adds = refusal_adds P T platform platform_now tape tape_now before now refusal cause;
+      keeps = on_upgrade P.tells (T.drawn tape) (T.drawn tape_now) (L.written ledger) (L.written ledger_now) old new _ (IsOk (answer_of_refusal refusal)) Then (λ keys. IfOk (answer_of_refusal refusal) (λ reply. IsSound new.present)) discloses certifies
+          (refusal_certified P T platform platform_now tape tape_now before now (L.written ledger) (L.written ledger_now) refusal cause puts
+          (certified_upgrade {X = ℕ} {Y = UpgradeRefusal} P.tells (L.written ledger) (L.written ledger_now) old new (Err refusal) discloses.turns certifies))
+          (λ keys sound. if_done (answer_of_refusal refusal) (IsSound new.present) sound);
+      blame = record {
+        fell = record { platform = grows.2; tape = grows.3; input = omega arith; output = omega arith; ledger = grows.4 };
+        quiet = blamed.0;
+        cause = blamed.1;
+      };
+      added = added;
+      synced = synced;
+      puts = puts;
+    }
+
+pub upgraded_goes : {S R W : Type 0} (P : PlatformGhosts S) (T : TapeGhosts R) (L : SinkGhosts W) (platform platform_now : S) (tape tape_now : R) (ledger ledger_now : W) (number : ℕ) (root : Root) (added : ℕ) (Then : List (List ℕ) → Type 0)
+    → Begins P.tells (P.history platform).present (P.head platform) (P.capacity platform) root → P.head platform_now ≡ P.head platform + needed_of_root root
+    → counts (P.faults platform_now) (T.faults tape_now) 0 0 (L.faults ledger_now) ≡ counts (P.faults platform) (T.faults tape) 0 0 (L.faults ledger)
+    → Discloses P.tells (T.drawn tape) (T.drawn tape_now) (P.history platform) (P.history platform_now) (λ keys. IsSound (P.history platform).present) Then
+    → CertifiesUpgrade P.tells (L.written ledger) (L.written ledger_now) (P.history platform) (P.history platform_now) (IsOk {T = ℕ} {E = UpgradeRefusal} (Ok number))
+    → PutsSynced P added platform platform_now ledger ledger_now → Grows P T L platform platform_now tape tape_now ledger ledger_now
+    → UpgradeGoes P T L platform platform_now tape tape_now ledger ledger_now (Ok (replies.Upgraded number))
+upgraded_goes P T L platform platform_now tape tape_now ledger ledger_now number root added Then begins adds quiet discloses certifies synced grows =
+    let old : History = P.history platform in
+    let new : History = P.history platform_now in
+    record {
+      capacity = grows.1;
+      rises = grows.0;
+      adds = inr (root, begins, omega (arith, adds));
+      keeps = on_upgrade P.tells (T.drawn tape) (T.drawn tape_now) (L.written ledger) (L.written ledger_now) old new _ _ Then (λ keys. IsSound new.present) discloses certifies
+          (certified_upgrade {X = ℕ} {Y = UpgradeRefusal} P.tells (L.written ledger) (L.written ledger_now) old new (Ok number) discloses.turns certifies)
+          (λ keys sound. sound);
+      blame = record {
+        fell = record { platform = grows.2; tape = grows.3; input = omega arith; output = omega arith; ledger = grows.4 };
+        quiet = quiet;
+        cause = tt;
+      };
+      added = added;
+      synced = synced;
+      puts = tt;
+    }
