@@ -1,11 +1,14 @@
 -- What a desk has of a call of its session.
-use Rattle.std.proofs.Common.{◌≡◌, ℕ, ◌+◌, ◌<◌, ◌≤◌, Bool, true, false, List, Option, None, Some, Ok, Err, inl, inr, refl, sym, ◌∙◌, subst, ap, arith}
+use Rattle.std.proofs.Common.{◌≡◌, ℕ, ◌+◌, ◌-◌, ◌<◌, ◌≤◌, Bool, true, false, List, Option, None, Some, Ok, Err, inl, inr, refl, sym, ◌∙◌, subst, ap, arith}
 use Rattle.platform.specs.Image.{Image}
 use Rattle.platform.specs.History.{CellStays, History, Turns}
-use Rattle.platform.proofs.Moments.{During-now}
+use Rattle.platform.proofs.Moments.{During-now, Turns-not}
+use Rattle.root_codec.specs.declared.root.Root.{Root}
+use Rattle.device_core.specs.Publishing.{IsUnmade}
+use Rattle.device_core.specs.Upgrading.{Begins, needed_of_device}
 use Rattle.platform.specs.declared.platforms.Platform.{Ghosts}
 use Rattle.sdbt_base.specs.declared.tapes.Tape.{Ghosts as TapeGhosts}
-use Rattle.sdbt_base.specs.Arrays.{Blocks, Device, Session as OpenSession, State, committed, session_on}
+use Rattle.sdbt_base.specs.Arrays.{Blocks, Device, Session as OpenSession, State, closed, committed, session_on, upgraded}
 use Rattle.device_terms.specs.Served.{IsServedImage}
 use Rattle.device_course.specs.Keys.{KeepsOn}
 use Rattle.device_course.specs.Marks.{Leaves}
@@ -20,8 +23,8 @@ use Rattle.page_store.specs.Roots.{IsRootWithin}
 use Rattle.device_session.specs.Reading.{room_of}
 use Rattle.device_session.specs.Sessions.{Session}
 use Rattle.script_lang.specs.Answers.{answer, none_counted}
-use Rattle.script_lang.specs.Commands.{Command, Commit, Mount, Read, Trim, Write}
-use Rattle.script_lang.specs.Replies.{Committed, Full, Reply}
+use Rattle.script_lang.specs.Commands.{Command, Commit, Mount, Read, Trim, Upgrade, Write}
+use Rattle.script_lang.specs.Replies.{AlreadyUpgraded, Committed, Full, NoDevice, Reply, Upgraded}
 use Rattle.script_lang.specs.declared.replies.Reply.{Reply as Given}
 use Rattle.std.specs.Prelude.{◌⊎◌, IfSome, IsErrOf}
 use Rattle.session_calls.specs.Along.{Drawn}
@@ -30,10 +33,11 @@ use Rattle.session_calls.specs.Blame.{IsOfCall}
 use Rattle.session_calls.specs.Commits.{CommitLeads, HasNumber, IsShort, ReplyLeads, StopsAt}
 use Rattle.session_calls.specs.Mounts.{IsMountStop, MountLeads}
 use Rattle.session_calls.specs.Goes.{AddsBlock, ReadsBlock, TrimsBlock, WritesBlock}
+use Rattle.session_calls.specs.Upgrades.{LeadsNowhere, LeadsUpgraded, MayUpgrade, StopsUpgrade, UpgradeLeads}
 use Rattle.session_calls.specs.declared.stops.DeviceStop.{DeviceStop}
 use Rattle.session_calls.specs.declared.stops.DeviceStop.TheVariants as stops
 use Rattle.session_calls.proofs.StateLaws.{at_array}
-use Rattle.device_cli.specs.Added.{left_by}
+use Rattle.device_cli.specs.Added.{LeavesFew, left_by}
 use Rattle.device_cli.specs.Causes.{LacksMemory, MayStop, OnMounted}
 use Rattle.device_cli.specs.Desk.{After}
 use Rattle.device_cli.specs.Replied.{Halts, Serves}
@@ -42,7 +46,7 @@ use Rattle.device_cli.specs.Represents.{Represents}
 use Rattle.device_cli.specs.World.{World, is_full, needed_of, world_of}
 use Rattle.device_cli.specs.declared.desk.Desk.{Desk}
 use Rattle.device_cli.proofs.ReplyLaws.{held_has}
-use Rattle.device_cli.proofs.ServedLaws.{at, with_session, has_session, serves_still, halts_still, is_full_false, is_full_true, gives_commit_full, gives_idle, gives_raised}
+use Rattle.device_cli.proofs.ServedLaws.{at, with_session, has_none, has_session, serves_still, halts_still, is_full_false, is_full_true, gives_already, gives_commit_full, gives_idle, gives_raised, gives_upgrade_full, gives_upgraded}
 use Rattle.device_cli.proofs.ServingLaws.{KeepsCell, keeps_same, needed_some}
 
 -- the device has as many blocks as the session
@@ -56,7 +60,7 @@ past_device image session d t block there past = subst (λ (n : ℕ). n ≤ bloc
 pub serves_led : (old new : World) (session now : Session) (entry : State) (command : Command) (reply : Reply) (next : OpenSession → OpenSession) → old.session ≡ Some session → new.session ≡ Some now
     → IsServedImage old.history.present
     → ((d : Device) (t : OpenSession) → IsAt old.history.present (Some session) (at d t)
-    → IsAt new.history.present (Some now) (at d (next t)) × ((reply, at d (next t)) ≡ answer (is_full old command) none_counted (at d t) command))
+    → IsAt new.history.present (Some now) (at d (next t)) × ((reply, at d (next t)) ≡ answer (is_full old (at d t) command) none_counted (at d t) command))
     → KeepsCell old new → Represents old entry → Serves old new entry command (Ok reply)
 serves_led old new session now entry command reply next taken going served led keeps rep =
     with_session old session entry taken rep (λ state. Serves old new state command (Ok reply))
@@ -114,7 +118,7 @@ no_root (stops.BadRecord addr) of e = cc
 
 -- what a stop of a call leaves
 pub after_stopped : {S : Type 0} (P : Ghosts S) (before desk : Desk) (old new : S) (command : Command) (stop : DeviceStop) → (IsErrOf {T = Given} {E = DeviceStop} (Err stop) stops.BadRoot → ⊥) → P.capacity new ≡ P.capacity old → P.head old ≤ P.head new
-    → P.head new ≤ P.head old + left_by stop command (needed_of before.session) → After P before desk old new command (Err stop)
+    → LeavesFew P.tells (P.history old).present stop command (needed_of before.session) (P.head old) (P.head new) → After P before desk old new command (Err stop)
 after_stopped P before desk old new command stop none capacity rises added = record {
   ready = tt;
   room = tt;
@@ -212,7 +216,7 @@ write_kept P T platform platform_now tape tape_now stop adds e = (subst (λ (s :
 
 -- a write that stopped added a page at most where the platform failed, and else none
 pub write_added : {S R : Type 0} (P : Ghosts S) (T : TapeGhosts R) (platform platform_now : S) (tape tape_now : R) (block : ℕ) (bytes : List ℕ) (changes : ℕ) (stop : DeviceStop) → P.head platform_now ≤ P.head platform + 1
-    → AddsBlock P T platform platform_now tape tape_now (Err stop) → P.head platform_now ≤ P.head platform + left_by stop (Write block bytes) changes
+    → AddsBlock P T platform platform_now tape tape_now (Err stop) → P.head platform_now ≤ P.head platform + left_by stop (Write block bytes) changes 0
 write_added P T platform platform_now tape tape_now block bytes changes stops.Platform one adds = one
 write_added P T platform platform_now tape tape_now block bytes changes stops.Tape one adds = omega (arith, adds.head)
 write_added P T platform platform_now tape tape_now block bytes changes stops.Memory one adds = omega (arith, adds.head)
@@ -235,17 +239,17 @@ at_none w entry none rep served = record { there = subst (λ (s : Option Session
 
 -- ---- a commit
 
-number_at : (old new : World) (now : Session) (number : ℕ) (d : Device) (contents : Blocks) (touched : Bool) → new.session ≡ Some now → is_full old Commit ≡ false
+number_at : (old new : World) (now : Session) (number : ℕ) (d : Device) (contents : Blocks) (touched : Bool) → new.session ≡ Some now → is_full old (at d (record { contents = contents; touched = touched })) Commit ≡ false
     → ReplyLeads old.history new.history now d (record { contents = contents; touched = touched }) (replies.Committed number) → Serves old new (at d (record { contents = contents; touched = touched })) Commit (Ok (Committed number))
 number_at old new now number d contents false going room led =
     let t : OpenSession = record { contents = contents; touched = false } in
     subst (λ (n : ℕ). Serves old new (at d t) Commit (Ok (Committed n))) (sym led.1)
-    (at d t, (none_counted, gives_idle (is_full old Commit) d t refl), has_session new now d t going led.0.there.session.0 led.0.there.session.1, led.2)
+    (at d t, (none_counted, gives_idle (is_full old (at d t) Commit) d t refl), has_session new now d t going led.0.there.session.0 led.0.there.session.1, led.2)
 number_at old new now number d contents true going room led =
     let t : OpenSession = record { contents = contents; touched = true } in
     let after : OpenSession = session_on (committed d t) in
     subst (λ (n : ℕ). Serves old new (at d t) Commit (Ok (Committed n))) (sym led.1)
-    (at (committed d t) after, (none_counted, gives_raised (is_full old Commit) d t room refl), has_session new now (committed d t) after going led.0.there.session.0 led.0.there.session.1, led.2)
+    (at (committed d t) after, (none_counted, gives_raised (is_full old (at d t) Commit) d t room refl), has_session new now (committed d t) after going led.0.there.session.0 led.0.there.session.1, led.2)
 
 -- it was answered with a number
 pub serves_number : {S R W : Type 0} (P : Ghosts S) (platform platform_now : S) (tape tape_now : R) (ledger ledger_now : W) (held : Option Session) (session now : Session) (number : ℕ) (entry : State) → held ≡ Some session → IsServedImage (P.history platform).present
@@ -256,7 +260,7 @@ serves_number P platform platform_now tape tape_now ledger ledger_now held sessi
     let old : World = world_of P held platform in
     let new : World = world_of P (Some now) platform_now in
     with_session old session entry taken rep (λ state. Serves old new state Commit (Ok (Committed number)))
-    (λ d t holds touched. number_at old new now number d t.contents t.touched refl (is_full_false old Commit (omega (arith, has.room, needed_some old session taken)))
+    (λ d t holds touched. number_at old new now number d t.contents t.touched refl (is_full_false old (at d t) Commit (omega (arith, has.room, needed_some old session taken)))
     (leads d t (at_array old.history.present session d t holds touched served)))
 
 -- too few pages are free
@@ -270,8 +274,8 @@ serves_short P platform platform_now tape tape_now ledger ledger_now held sessio
     with_session old session entry taken rep (λ state. Serves old new state Commit (Ok Full))
     (λ d t holds touched.
     let led = leads d t (at_array old.history.present session d t holds touched served) in
-    let full : is_full old Commit ≡ true = is_full_true old Commit (omega (arith, short.short, short.is_needed, short.is_free, needed_some old session taken)) in
-    serves_still old new (at d t) (at d t) Commit Full (has_session old session d t taken holds touched) (gives_commit_full (is_full old Commit) d t full (sym touched ∙ short.touched))
+    let full : is_full old (at d t) Commit ≡ true = is_full_true old (at d t) Commit (omega (arith, short.short, short.is_needed, short.is_free, needed_some old session taken)) in
+    serves_still old new (at d t) (at d t) Commit Full (has_session old session d t taken holds touched) (gives_commit_full (is_full old (at d t) Commit) d t full (sym touched ∙ short.touched))
     (has_session new now d t refl led.0.there.session.0 led.0.there.session.1) (keeps_same old new (ap (λ p. P.history p) short.same.1)))
 
 -- it stopped
@@ -284,8 +288,8 @@ halts_commit P T platform platform_now tape tape_now held now session stops.Plat
     let new : World = world_of P now platform_now in
     with_session old session entry taken rep (λ state. Halts old new state Commit stops.Platform)
     (λ d t holds touched.
-    let made : (answer (is_full old Commit) none_counted (at d t) Commit).1.device ≡ Some (committed d t) =
-    sym (ap (λ (p : Reply × State). p.1.device) (gives_raised (is_full old Commit) d t (is_full_false old Commit (omega (arith, stopped.room, needed_some old session taken))) (sym touched ∙ stopped.touched))) in
+    let made : (answer (is_full old (at d t) Commit) none_counted (at d t) Commit).1.device ≡ Some (committed d t) =
+    sym (ap (λ (p : Reply × State). p.1.device) (gives_raised (is_full old (at d t) Commit) d t (is_full_false old (at d t) Commit (omega (arith, stopped.room, needed_some old session taken))) (sym touched ∙ stopped.touched))) in
     subst (λ (there : Option Device). Turns old.history new.history (Leaves (Some d)) (Leaves there)) (sym made) (leads d t (at_array old.history.present session d t holds touched served)))
 halts_commit P T platform platform_now tape tape_now held now session stops.Tape entry taken told served stopped leads rep =
     halts_still (world_of P held platform) (world_of P now platform_now) entry Commit stops.Tape tt rep (stopped.left told)
@@ -295,3 +299,98 @@ halts_commit P T platform platform_now tape tape_now held now session stops.Memo
     halts_still (world_of P held platform) (world_of P now platform_now) entry Commit stops.Memory tt rep (stopped.left.1 told)
 halts_commit P T platform platform_now tape tape_now held now session stops.BadRoot entry taken told served stopped leads rep = absurd stopped.left
 halts_commit P T platform platform_now tape tape_now held now session (stops.BadRecord addr) entry taken told served stopped leads rep = absurd stopped.left
+
+-- ---- an upgrade
+
+-- it was done
+pub serves_upgraded : {S : Type 0} (P : Ghosts S) (platform platform_now : S) (held : Option Session) (entry : State) (number : ℕ) → held ≡ None → LeadsUpgraded P platform platform_now entry number
+    → Serves (world_of P held platform) (world_of P held platform_now) entry Upgrade (Ok (Upgraded number))
+serves_upgraded P platform platform_now held entry number none led =
+    let old : World = world_of P held platform in
+    let new : World = world_of P held platform_now in
+    let was : State = closed (Some led.device) in
+    subst (λ (state : State). Serves old new state Upgrade (Ok (Upgraded number))) (sym led.was)
+    (subst (λ (n : ℕ). Serves old new was Upgrade (Ok (Upgraded n))) (sym led.is_number) (
+      closed (Some (upgraded led.device)),
+      (none_counted, gives_upgraded (is_full old was Upgrade) led.device (is_full_false old was Upgrade led.room) led.version),
+      has_none new (Some (upgraded led.device)) none led.at.there.device,
+      led.turns,
+    ))
+
+-- or not, and the state stays
+serves_nowhere : {S : Type 0} (P : Ghosts S) (platform platform_now : S) (held : Option Session) (entry : State) (reply : Reply) → held ≡ None → LeadsNowhere P platform platform_now entry
+    → (reply, entry) ≡ answer (is_full (world_of P held platform) entry Upgrade) none_counted entry Upgrade → Serves (world_of P held platform) (world_of P held platform_now) entry Upgrade (Ok reply)
+serves_nowhere P platform platform_now held entry reply none led is = (
+  entry,
+  (none_counted, is),
+  subst (λ (s : Option Session). states.Represents (P.history platform_now).present s entry) (sym none) led.at.there,
+  Turns-not (P.history platform) (P.history platform_now) (Leaves entry.device) (Leaves entry.device) led.during,
+)
+
+pub serves_none_upgraded : {S : Type 0} (P : Ghosts S) (platform platform_now : S) (held : Option Session) (entry : State) → held ≡ None → (entry ≡ closed None) × LeadsNowhere P platform platform_now entry
+    → Serves (world_of P held platform) (world_of P held platform_now) entry Upgrade (Ok NoDevice)
+serves_none_upgraded P platform platform_now held entry none (was, led) =
+    let old : World = world_of P held platform in
+    serves_nowhere P platform platform_now held entry NoDevice none led
+    (subst (λ (state : State). (NoDevice, state) ≡ answer (is_full old state Upgrade) none_counted state Upgrade) (sym was) refl)
+
+pub serves_upgraded_already : {S : Type 0} (P : Ghosts S) (platform platform_now : S) (held : Option Session) (entry : State) → held ≡ None
+    → ((d : Device) × (entry ≡ closed (Some d)) × (d.version ≡ 2)) × LeadsNowhere P platform platform_now entry → Serves (world_of P held platform) (world_of P held platform_now) entry Upgrade (Ok AlreadyUpgraded)
+serves_upgraded_already P platform platform_now held entry none ((d, was, two), led) =
+    let old : World = world_of P held platform in
+    serves_nowhere P platform platform_now held entry AlreadyUpgraded none led
+    (subst (λ (state : State). (AlreadyUpgraded, state) ≡ answer (is_full old state Upgrade) none_counted state Upgrade) (sym was) (gives_already (is_full old (closed (Some d)) Upgrade) d two))
+
+pub serves_upgrade_full : {S : Type 0} (P : Ghosts S) (platform platform_now : S) (held : Option Session) (entry : State) → held ≡ None
+    → ((d : Device) × (entry ≡ closed (Some d)) × (d.version ≡ 1) × (P.capacity platform - P.head platform < needed_of_device d)) × LeadsNowhere P platform platform_now entry
+    → Serves (world_of P held platform) (world_of P held platform_now) entry Upgrade (Ok Full)
+serves_upgrade_full P platform platform_now held entry none ((d, was, one, few), led) =
+    let old : World = world_of P held platform in
+    serves_nowhere P platform platform_now held entry Full none led
+    (subst (λ (state : State). (Full, state) ≡ answer (is_full old state Upgrade) none_counted state Upgrade) (sym was)
+    (gives_upgrade_full (is_full old (closed (Some d)) Upgrade) d (is_full_true old (closed (Some d)) Upgrade few) one))
+
+-- it stopped
+may_upgrade : {S : Type 0} (P : Ghosts S) (platform platform_now : S) (held : Option Session) (entry : State) → MayUpgrade P platform platform_now entry
+    → Halts (world_of P held platform) (world_of P held platform_now) entry Upgrade stops.Platform
+may_upgrade P platform platform_now held entry may =
+    let old : World = world_of P held platform in
+    let new : World = world_of P held platform_now in
+    let was : State = closed (Some may.device) in
+    let made : (answer (is_full old was Upgrade) none_counted was Upgrade).1.device ≡ Some (upgraded may.device) =
+    sym (ap (λ (p : Reply × State). p.1.device) (gives_upgraded (is_full old was Upgrade) may.device (is_full_false old was Upgrade may.room) may.version)) in
+    subst (λ (state : State). Halts old new state Upgrade stops.Platform) (sym may.was)
+    (subst (λ (there : Option Device). Turns old.history new.history (Leaves (Some may.device)) (Leaves there)) (sym made) may.turns)
+
+pub halts_upgrade : {S : Type 0} (P : Ghosts S) (platform platform_now : S) (held : Option Session) (entry : State) (stop : DeviceStop) → UpgradeLeads P platform platform_now entry (Err stop)
+    → Serves (world_of P held platform) (world_of P held platform_now) entry Upgrade (Err stop)
+halts_upgrade P platform platform_now held entry stops.Platform (inl during) =
+    Turns-not (P.history platform) (P.history platform_now) (Leaves entry.device) (Leaves (answer (is_full (world_of P held platform) entry Upgrade) none_counted entry Upgrade).1.device) during
+halts_upgrade P platform platform_now held entry stops.Platform (inr may) = may_upgrade P platform platform_now held entry may
+halts_upgrade P platform platform_now held entry stops.Tape led = led.during
+halts_upgrade P platform platform_now held entry stops.Ledger led = led.during
+halts_upgrade P platform platform_now held entry stops.Memory led = led.during
+halts_upgrade P platform platform_now held entry stops.BadRoot led = absurd led
+halts_upgrade P platform platform_now held entry (stops.BadRecord addr) led = absurd led
+
+-- what nothing came of, is so behind it
+begins_still : {S R : Type 0} (P : Ghosts S) (T : TapeGhosts R) (platform platform_now : S) (tape tape_now : R) (root : Root) → P.capacity platform_now ≡ P.capacity platform → IsUnmade P T platform platform_now tape tape_now
+    → Begins P.tells (P.history platform).present (P.head platform) (P.capacity platform) root → Begins P.tells (P.history platform_now).present (P.head platform_now) (P.capacity platform_now) root
+begins_still P T platform platform_now tape tape_now root capacity still b = record {
+  on = record {
+    within = subst (λ (n : ℕ). IsRootWithin n root) (sym still.0.head) b.on.within;
+    cell = λ told. ap (λ (i : Image). i.cell) (still.0.image told) ∙ b.on.cell told;
+  };
+  version = b.version;
+  room = omega (arith, b.room, capacity, still.0.head);
+}
+
+pub upgrade_stops : {S R : Type 0} (P : Ghosts S) (T : TapeGhosts R) (platform platform_now : S) (tape tape_now : R) (held : Option Session) (stop : DeviceStop) → held ≡ None → P.capacity platform_now ≡ P.capacity platform
+    → StopsUpgrade P T platform platform_now tape tape_now stop → MayStop P.tells held (P.history platform_now).present (P.head platform_now) (P.capacity platform_now) Upgrade stop
+upgrade_stops P T platform platform_now tape tape_now held stops.Platform none capacity stopped = tt
+upgrade_stops P T platform platform_now tape tape_now held stops.Tape none capacity stopped = tt
+upgrade_stops P T platform platform_now tape tape_now held stops.Ledger none capacity stopped = tt
+upgrade_stops P T platform platform_now tape tape_now held stops.Memory none capacity (begun, still) =
+    (none, begun.0, begins_still P T platform platform_now tape tape_now begun.0 capacity still begun.1)
+upgrade_stops P T platform platform_now tape tape_now held stops.BadRoot none capacity stopped = tt
+upgrade_stops P T platform platform_now tape tape_now held (stops.BadRecord addr) none capacity (partly, wrong) = λ told. (wrong told).1

@@ -1,22 +1,19 @@
--- A run with room for 42 pages a line, a short input and no fault answers each line, and none that too few pages were free.
-use Rattle.std.proofs.Common.{◌≡◌, ◌≢◌, ℕ, ◌+◌, ◌-◌, ◌*◌, ◌≤◌, Bool, true, false, List, [], ◌∷◌, ◌++◌, Option, None, Some, length, ◌⊎◌, inl, inr, refl, sym, ◌∙◌, subst, ap, arith, length-append, Ok, Err}
-use Rattle.std.specs.Prelude.{All, ◌&&◌, nat_lt, flat_map, IfErr}
-use Rattle.std.proofs.lemmas.Bool.{cases_Bool}
+-- A run with room for 42 pages a line and for each upgrade, a short input and no fault answers each line, and none that too few pages were free.
+use Rattle.std.proofs.Common.{◌≡◌, ◌≢◌, ℕ, ◌+◌, ◌-◌, ◌*◌, ◌≤◌, Bool, false, List, [], ◌∷◌, ◌++◌, Option, None, Some, length, ◌⊎◌, inl, inr, refl, sym, ◌∙◌, subst, ap, arith, length-append, Ok, Err}
+use Rattle.std.specs.Prelude.{All, nat_lt, flat_map, IfErr}
 use Rattle.std.proofs.lemmas.Grind.{common_steps}
 use Rattle.std.proofs.lemmas.List.{append-nil}
 use Rattle.std.proofs.lemmas.List.Elements.{All-nil, All-cons}
 use Rattle.sdbt_base.specs.Told.{Gave, Got, IsAtEnd}
 use Rattle.text_lines.specs.Lines.{lines_of}
 use Rattle.script_lang.specs.Replies.{line_of, Reply, Full}
-use Rattle.script_lang.specs.Arrays.{Counted, in_limits, needs_room, step}
-use Rattle.sdbt_base.specs.Arrays.{State, closed, Device, Session as OpenSession}
+use Rattle.sdbt_base.specs.Arrays.{State, closed, Device}
 use Rattle.script_lang.specs.Answers.{Answers, answer}
-use Rattle.script_lang.specs.Commands.{Command, Format, Mount, Read, Write, Trim, Commit, Drop, Erase, Seize}
-use Rattle.script_lang.specs.Commands as commands
 use Rattle.device_terms.specs.Served.{IsServedImage}
 use Rattle.device_cli.specs.World.{World}
 use Rattle.device_cli.specs.Represents.{StandsFor}
-use Rattle.device_cli.specs.Pages.{updates_after, TurnOn, AnswersOn}
+use Rattle.device_cli.specs.Pages.{updates_after, upgrade_of, upgrade_lines, most_upgrade, TurnOn, AnswersOn}
+use Rattle.device_cli.specs.Seen.{mapped_of}
 use Rattle.device_cli.specs.Run.{IsStatus, Took}
 use Rattle.line_run.specs.Stops.{HasCause, TookUntil, Ending, exit_of}
 use Rattle.sdbt_base.specs.Counts.{Counts, NoneRose}
@@ -25,83 +22,35 @@ use Rattle.session_calls.specs.declared.stops.DeviceStop.TheVariants as device
 use Rattle.device_cli.proofs.RanLaws.{Took-of}
 use Rattle.device_cli.specs.Ran.{AnswersScript, AnswersFrom, IsAmple, IsComplete}
 use Rattle.device_cli.proofs.PageLaws.{answers_of}
-use Rattle.device_cli.proofs.TurnLaws.{needed_most, line_bound}
+use Rattle.device_cli.proofs.RoomLaws.{answer_room}
+use Rattle.device_cli.proofs.TurnLaws.{needed_most, line_bound, spelled}
+use Rattle.device_cli.proofs.UpgradeLaws.{IsWithin, needs_within, turn_within, within_closed}
 
--- a state of these parts
-abbrev parts : Option Device → Option OpenSession → State
-parts there opened = record { device = there; session = opened }
-
--- the array itself never answers that no page is free
-step_room : (counted : Counted) (there : Option Device) (opened : Option OpenSession) (command : Command) → (step counted (parts there opened) command).0 ≡ Full → ⊥
-step_room counted None opened (Format blocks order) e = elim (cases_Bool (in_limits blocks order)) [
-  | inl holds ↦ let f = rw holds at e in cc
-  | inr fails ↦ let f = rw fails at e in cc
-]
-step_room counted (Some d) opened (Format blocks order) e = cc
-step_room counted None None Mount e = cc
-step_room counted (Some d) None Mount e = cc
-step_room counted there (Some t) Mount e = cc
-step_room counted None opened (Read block) e = cc
-step_room counted (Some d) None (Read block) e = cc
-step_room counted (Some d) (Some t) (Read block) e = elim (cases_Bool (nat_lt block d.blocks)) [
-  | inl holds ↦ let f = rw holds at e in cc
-  | inr fails ↦ let f = rw fails at e in cc
-]
-step_room counted None opened (Write block content) e = cc
-step_room counted (Some d) None (Write block content) e = cc
-step_room counted (Some d) (Some t) (Write block content) e = elim (cases_Bool (nat_lt block d.blocks)) [
-  | inl holds ↦ let f = rw holds at e in cc
-  | inr fails ↦ let f = rw fails at e in cc
-]
-step_room counted None opened (Trim block) e = cc
-step_room counted (Some d) None (Trim block) e = cc
-step_room counted (Some d) (Some t) (Trim block) e = elim (cases_Bool (nat_lt block d.blocks)) [
-  | inl holds ↦ let f = rw holds at e in cc
-  | inr fails ↦ let f = rw fails at e in cc
-]
-step_room counted None opened Commit e = cc
-step_room counted (Some d) None Commit e = cc
-step_room counted (Some d) (Some t) Commit e = elim (cases_Bool t.touched) [
-  | inl holds ↦ let f = rw holds at e in cc
-  | inr fails ↦ let f = rw fails at e in cc
-]
-step_room counted None opened Drop e = cc
-step_room counted (Some d) None Drop e = cc
-step_room counted (Some d) (Some t) Drop e = cc
-step_room counted None opened Erase e = cc
-step_room counted (Some d) opened Erase e = cc
-step_room counted None opened commands.Stat e = cc
-step_room counted (Some d) None commands.Stat e = cc
-step_room counted (Some d) (Some t) commands.Stat e = cc
-step_room counted there opened Seize e = cc
-
-and_false : (b : Bool) → (b && false) ≡ false
-and_false true = refl
-and_false false = refl
-
--- on a medium that is not full no reply says that it is
-answer_room : (counted : Counted) (state : State) (command : Command) → (answer false counted state command).0 ≡ Full → ⊥
-answer_room counted state command e = let f = rw (and_false (needs_room state command)) at e in step_room counted state.device state.session command f
+times_less : (n a b : ℕ) → a ≤ b → n * a ≤ n * b
+times_less n a b less = grind (arith, common_steps)
 
 not_less : (free needed : ℕ) → needed ≤ free → nat_lt free needed ≡ false
 not_less free needed h = grind (arith, common_steps)
 
-turn_room : (capacity : ℕ) (old : State) (pages updates : ℕ) (line : List ℕ) (reply : Reply) (new : State) (pages_now : ℕ) → pages + 41 * updates + 1 ≤ capacity
+turn_room : (capacity : ℕ) (old : State) (pages updates : ℕ) (line : List ℕ) (reply : Reply) (new : State) (pages_now most : ℕ) → upgrade_of old ≤ most → pages + 41 * updates + 1 + spelled line * most ≤ capacity
     → TurnOn capacity old pages updates line reply new pages_now → reply ≢ Full
-turn_room capacity old pages updates line reply new pages_now room (inl (command, spells, needed, needs, (counted, is), added)) e =
-    let free : nat_lt (capacity - pages) needed ≡ false = not_less (capacity - pages) needed (omega (arith, room, needs.within, needed_most command (41 * updates))) in
+turn_room capacity old pages updates line reply new pages_now most few room (inl (command, spells, needed, needs, (counted, is), added)) e =
+    let more : spelled line * upgrade_of old ≤ spelled line * most = times_less (spelled line) (upgrade_of old) most few in
+    let free : nat_lt (capacity - pages) needed ≡ false = not_less (capacity - pages) needed (omega (arith, room, needs.within, needed_most line command (41 * updates) (upgrade_of old) spells, more)) in
     answer_room counted old command
     (subst (λ (b : Bool). (answer b counted old command).0 ≡ Full) free (sym (ap (λ (p : Reply × State). p.0) is) ∙ e))
-turn_room capacity old pages updates line reply new pages_now room (inr (bad, is, same, added)) e = cc
+turn_room capacity old pages updates line reply new pages_now most few room (inr (bad, is, same, added)) e = cc
 
--- with 42 pages for each line
-roomy : (capacity : ℕ) (old : State) (pages updates : ℕ) (lines : List (List ℕ)) (replies : List Reply) (new : State) (pages_now : ℕ) → pages + 41 * updates + 42 * length lines ≤ capacity
-    → AnswersOn capacity old pages updates lines replies new pages_now → All (λ r. r ≢ Full) replies
-roomy capacity old pages updates lines [] new pages_now room h = All-nil (λ (r : Reply). r ≢ Full)
-roomy capacity old pages updates [] (reply ∷ replies) new pages_now room h = absurd h
-roomy capacity old pages updates (line ∷ lines) (reply ∷ replies) new pages_now room (mid, between, turn, rest) =
-    All-cons (λ (r : Reply). r ≢ Full) reply replies (turn_room capacity old pages updates line reply mid between (omega (arith, room)) turn)
-    (roomy capacity mid between (updates_after reply updates) lines replies new pages_now (omega (arith, room, line_bound capacity old pages updates line reply mid between turn)) rest)
+-- with 42 pages for each line, and as many for each upgrade as one needs at most
+roomy : (capacity : ℕ) (old : State) (pages updates : ℕ) (lines : List (List ℕ)) (replies : List Reply) (new : State) (pages_now mapped most : ℕ) → IsWithin old mapped → most_upgrade (mapped + length lines) ≤ most
+    → pages + 41 * updates + 42 * length lines + upgrade_lines lines * most ≤ capacity → AnswersOn capacity old pages updates lines replies new pages_now → All (λ r. r ≢ Full) replies
+roomy capacity old pages updates lines [] new pages_now mapped most held within room h = All-nil (λ (r : Reply). r ≢ Full)
+roomy capacity old pages updates [] (reply ∷ replies) new pages_now mapped most held within room h = absurd h
+roomy capacity old pages updates (line ∷ lines) (reply ∷ replies) new pages_now mapped most held within room (mid, between, turn, rest) =
+    let few : upgrade_of old ≤ most = omega (arith, needs_within old mapped held, within) in
+    All-cons (λ (r : Reply). r ≢ Full) reply replies (turn_room capacity old pages updates line reply mid between most few (omega (arith, room)) turn)
+    (roomy capacity mid between (updates_after reply updates) lines replies new pages_now (mapped + 1) most (turn_within capacity old pages updates line reply mid between mapped held turn) (omega (arith, within))
+    (omega (arith, room, line_bound capacity old pages updates line reply mid between most few turn)) rest)
 
 -- what was taken of a text, where nothing is left, is all of it
 all_taken : (text taken : List ℕ) (left left_now : Option (List ℕ)) → left ≡ Some text → Gave left taken left_now → IsAtEnd left_now → taken ≡ text
@@ -121,8 +70,8 @@ some_taken text taken left (Some rest) is gave =
 
 pub complete_at : (tells : Type 0) (old new : World) (left left_now written written_now : Option (List ℕ)) (text : List ℕ) (there : Option Device)
     → (script : AnswersScript tells old new 0 left left_now written written_now) → AnswersFrom old new 0 (closed there) script.lines script.replies script.part
-    → IsAmple left text old.head old.capacity → IsComplete (closed there) text written written_now
-complete_at tells old new left left_now written written_now text there script from ample =
+    → StandsFor old.history.present there → IsAmple left text (mapped_of there) old.head old.capacity → IsComplete (closed there) text written written_now
+complete_at tells old new left left_now written written_now text there script from stands ample =
     let all = script.all refl in
     let taken : script.taken ≡ text = all_taken text script.taken left left_now ample.text_is script.gave all.0 in
     let lines : script.lines ≡ lines_of text = all.1 ∙ ap (λ (t : List ℕ). lines_of t) taken in
@@ -135,30 +84,31 @@ complete_at tells old new left left_now written written_now text there script fr
       answers = subst (λ (l : List (List ℕ)). Answers (closed there) l script.replies from.now) lines
           (answers_of old.capacity (closed there) old.head 0 script.lines script.replies from.now from.pages from.answers);
       each = all.2 ∙ ap (λ (l : List (List ℕ)). length l) lines;
-      roomy = roomy old.capacity (closed there) old.head 0 script.lines script.replies from.now from.pages
-          (omega (arith, ample.room, ap (λ (l : List (List ℕ)). length l) lines)) from.answers;
+      roomy = roomy old.capacity (closed there) old.head 0 script.lines script.replies from.now from.pages (mapped_of there) (most_upgrade (mapped_of there + length script.lines))
+          (within_closed old.history.present there stands) (omega arith)
+          (subst (λ (l : List (List ℕ)). old.head + 41 * 0 + 42 * length l + upgrade_lines l * most_upgrade (mapped_of there + length l) ≤ old.capacity) (sym lines) (omega (arith, ample.room))) from.answers;
     }
 
 -- and with its replies
 pub complete_with : (tells : Type 0) (old new : World) (left left_now written written_now : Option (List ℕ)) (text : List ℕ) (there : Option Device)
     → (script : AnswersScript tells old new 0 left left_now written written_now) → AnswersFrom old new 0 (closed there) script.lines script.replies script.part
-    → IsAmple left text old.head old.capacity → (all : IsComplete (closed there) text written written_now) × (all.replies ≡ script.replies)
+    → StandsFor old.history.present there → IsAmple left text (mapped_of there) old.head old.capacity → (all : IsComplete (closed there) text written written_now) × (all.replies ≡ script.replies)
 unfolding complete_at
-complete_with tells old new left left_now written written_now text there script from ample = (complete_at tells old new left left_now written written_now text there script from ample, refl)
+complete_with tells old new left left_now written written_now text there script from stands ample = (complete_at tells old new left left_now written written_now text there script from stands ample, refl)
 
 pub complete : (tells : Type 0) (old new : World) (status : ℕ) (left left_now written written_now : Option (List ℕ)) (text : List ℕ) (there : Option Device)
     → tells → StandsFor old.history.present there → IsServedImage old.history.present
     → (script : AnswersScript tells old new status left left_now written written_now)
     → ((taken : List ℕ) × Gave left taken left_now × Took status taken left_now) → IsStatus status
     → (status ≡ 2 → ⊥) → (status ≡ 3 → ⊥) → (status ≡ 4 → ⊥) → (status ≡ 5 → ⊥) → (status ≡ 6 → ⊥) → (status ≡ 7 → ⊥) → (status ≡ 10 → ⊥)
-    → IsAmple left text old.head old.capacity → (status ≡ 11) ⊎ ((status ≡ 0) × IsComplete (closed there) text written written_now)
+    → IsAmple left text (mapped_of there) old.head old.capacity → (status ≡ 11) ⊎ ((status ≡ 0) × IsComplete (closed there) text written written_now)
 complete tells old new status left left_now written written_now text there told stands served script (taken, gave, took) is no2 no3 no4 no5 no6 no7 no10 ample =
     let from = script.answered told there stands served in
     which is from.sound.0 from.sound.1
     (λ e. let limit = took.limit e in omega (arith, limit, some_taken text taken left left_now ample.text_is gave, ample.short))
     (λ zero.
     let script0 = subst (λ (n : ℕ). AnswersScript tells old new n left left_now written written_now) zero script in
-    complete_at tells old new left left_now written written_now text there script0 (script0.answered told there stands served) ample)
+    complete_at tells old new left left_now written written_now text there script0 (script0.answered told there stands served) stands ample)
   where
     which : IsStatus status → (status ≢ 8) → (status ≢ 9) → (status ≡ 12 → ⊥) → (status ≡ 0 → IsComplete (closed there) text written written_now)
         → (status ≡ 11) ⊎ ((status ≡ 0) × IsComplete (closed there) text written written_now)
@@ -219,7 +169,7 @@ pub complete_ending : (tells : Type 0) (old new : World) (ending : Ending) (befo
     → tells → StandsFor old.history.present there → IsServedImage old.history.present
     → AnswersScript tells old new (exit_of ending) left left_now written written_now
     → (taken : List ℕ) → Gave left taken left_now → TookUntil ending taken left_now → IfErr ending (HasCause before now) → NoneRose before now
-    → IsAmple left text old.head old.capacity → (exit_of ending ≡ 11) ⊎ ((exit_of ending ≡ 0) × IsComplete (closed there) text written written_now)
+    → IsAmple left text (mapped_of there) old.head old.capacity → (exit_of ending ≡ 11) ⊎ ((exit_of ending ≡ 0) × IsComplete (closed there) text written written_now)
 complete_ending tells old new ending before now left left_now written written_now text there told stands served script taken gave took cause quiet ample =
     let q = quiet_exit ending before now cause quiet in
     complete tells old new (exit_of ending) left left_now written written_now text there told stands served script

@@ -8,7 +8,8 @@ use Rattle.script_lang.specs.Commands.{Format}
 use Rattle.script_lang.specs.declared.replies.Reply.{Reply as Given}
 use Rattle.script_lang.specs.declared.replies.Reply.TheVariants as given
 use Rattle.device_cli.specs.Pages.{updates_after}
-use Rattle.device_cli.specs.Parts.{added_by}
+use Rattle.platform.specs.Image.{Image}
+use Rattle.device_cli.specs.Parts.{Adds}
 use Rattle.device_cli.specs.Replied.{outcome}
 use Rattle.device_cli.specs.World.{needed_of, AreEnough}
 use Rattle.session_calls.specs.declared.stops.DeviceStop.{DeviceStop}
@@ -31,8 +32,8 @@ enough_refused (Ok now) buffer held updates (inl e) enough = subst (λ (r : Give
 enough_refused (Ok now) buffer held updates (inr e) enough = subst (λ (r : Given). AreEnough held (updates_after (said r buffer) updates)) (sym e) enough
 enough_refused (Err stop) buffer held updates either enough = tt
 
-pub pages_refused : (result : Result Given DeviceStop) (buffer : List ℕ) (blocks order changes head head_now : ℕ) → IfOk result (λ now. (now ≡ given.NotEmpty) ⊎ (now ≡ given.Range))
-    → head_now ≡ head → IfOk (outcome result buffer) (λ said. head_now ≡ head + added_by (Format blocks order) said changes)
-pages_refused (Ok now) buffer blocks order changes head head_now (inl e) same = subst (λ (r : Given). head_now ≡ head + added_by (Format blocks order) (said r buffer) changes) (sym e) (omega (arith, same))
-pages_refused (Ok now) buffer blocks order changes head head_now (inr e) same = subst (λ (r : Given). head_now ≡ head + added_by (Format blocks order) (said r buffer) changes) (sym e) (omega (arith, same))
-pages_refused (Err stop) buffer blocks order changes head head_now either same = tt
+pub pages_refused : (tells : Type 0) (image : Image) (result : Result Given DeviceStop) (buffer : List ℕ) (blocks order changes head head_now : ℕ) → IfOk result (λ now. (now ≡ given.NotEmpty) ⊎ (now ≡ given.Range))
+    → head_now ≡ head → IfOk (outcome result buffer) (λ said. Adds tells image (Format blocks order) said changes head head_now)
+pages_refused tells image (Ok now) buffer blocks order changes head head_now (inl e) same = subst (λ (r : Given). Adds tells image (Format blocks order) (said r buffer) changes head head_now) (sym e) (omega (arith, same))
+pages_refused tells image (Ok now) buffer blocks order changes head head_now (inr e) same = subst (λ (r : Given). Adds tells image (Format blocks order) (said r buffer) changes head head_now) (sym e) (omega (arith, same))
+pages_refused tells image (Err stop) buffer blocks order changes head head_now either same = tt

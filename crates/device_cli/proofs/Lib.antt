@@ -2,6 +2,8 @@ pub mod CellLaws
 pub mod CallLaws
 pub mod Choices
 pub mod PageLaws
+pub mod UpgradeLaws
+pub mod RoomLaws
 pub mod TurnLaws
 pub mod EnoughLaws
 pub mod PassLaws

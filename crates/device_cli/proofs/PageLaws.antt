@@ -4,11 +4,11 @@ use Rattle.std.specs.Prelude.{◌⊎◌, nat_lt}
 use Rattle.sdbt_base.specs.Arrays.{State}
 use Rattle.script_lang.specs.Answers.{Turn, Answers}
 use Rattle.script_lang.specs.Commands.{Command}
-use Rattle.script_lang.specs.Commands.{Commit}
+use Rattle.script_lang.specs.Commands.{Commit, Upgrade}
 use Rattle.script_lang.specs.Replies.{Reply}
 use Rattle.script_lang.specs.Replies.{Full}
 use Rattle.device_cli.specs.Added.{HasAdded}
-use Rattle.device_cli.specs.Pages.{needed_for, pages_after, updates_after, updates_of, TurnOn, AnswersOn, IsShort, AreShort}
+use Rattle.device_cli.specs.Pages.{needed_for, pages_after, updates_after, updates_of, upgrade_of, TurnOn, AnswersOn, IsShort, AreShort}
 use Rattle.device_cli.specs.World.{World, IsLater}
 
 -- a reply that belongs to a line on a medium of so many pages
@@ -23,7 +23,7 @@ pages_cases _ needed pages = inr refl
 
 -- a line adds no more than its command needs
 pub near_turn : (capacity : ℕ) (old : State) (pages updates : ℕ) (line : List ℕ) (reply : Reply) (new : State) (pages_now : ℕ) → TurnOn capacity old pages updates line reply new pages_now
-    → HasAdded (λ command. needed_for command (41 * updates)) (line ∷ []) [] pages pages_now
+    → HasAdded (λ command. needed_for command (41 * updates) (upgrade_of old)) (line ∷ []) [] pages pages_now
 near_turn capacity old pages updates line reply new pages_now (inl (command, spells, needed, needs, is, added)) = elim (pages_cases reply needed pages) [
   | inl none ↦ inl (omega (arith, none, added))
   | inr some ↦ inr (omega (arith, some, added), (command, spells, omega (arith, some, added, needs.within)))
@@ -65,6 +65,7 @@ updates_of-append updates (reply ∷ replies) others = updates_of-append (update
 -- too few pages are free for good
 short_later : (old new : World) (command : Command) (updates : ℕ) → IsLater old new → IsShort command updates old.head old.capacity → IsShort command updates new.head new.capacity
 short_later old new Commit updates later short = omega (arith, later.capacity, later.rises, short)
+short_later old new Upgrade updates later short = omega (arith, later.capacity, later.rises, short)
 short_later old new _ updates later short = omega (arith, later.capacity, later.rises, later.within, short)
 
 pub AreShort-later : (old new : World) (updates : ℕ) (lines : List (List ℕ)) (replies : List Reply) → IsLater old new → AreShort old.head old.capacity updates lines replies

@@ -1,5 +1,5 @@
 -- How runs compose.
-use Rattle.std.proofs.Common.{◌≡◌, ℕ, ◌<◌, ◌≤◌, ◌+◌, ◌-◌, ◌*◌, true, false, List, [], ◌∷◌, ◌++◌, Option, None, Some, Ok, Err, length, take, inl, inr, refl, sym, ◌∙◌, subst, ap, arith, append_assoc, length-append}
+use Rattle.std.proofs.Common.{◌≡◌, ℕ, ◌≤◌, ◌+◌, ◌-◌, ◌*◌, true, false, List, [], ◌∷◌, ◌++◌, Option, None, Some, Ok, Err, length, take, inl, inr, refl, sym, ◌∙◌, subst, ap, arith, append_assoc, length-append}
 use Rattle.std.specs.Prelude.{IfSome, OnOk, IsOk}
 use Rattle.std.proofs.lemmas.Grind.{flat_map-append, common_steps}
 use Rattle.std.proofs.lemmas.List.{append-nil}
@@ -10,7 +10,7 @@ use Rattle.page_store.proofs.StandsLaws.{one_device, stands_leaves}
 use Rattle.sdbt_base.proofs.ToldLaws.{Got-nothing, Got-then}
 use Rattle.script_lang.specs.Grammar.{Spells, IsBad}
 use Rattle.script_lang.specs.Replies.{line_of, Reply, Full, Bad}
-use Rattle.script_lang.specs.Commands.{Command, Format, Write, Commit}
+use Rattle.script_lang.specs.Commands.{Command, Format, Write, Commit, Upgrade}
 use Rattle.sdbt_base.specs.Arrays.{State, Device, Session as OpenSession, closed}
 use Rattle.script_lang.specs.Answers.{Turn, answer, none_counted}
 use Rattle.device_terms.specs.Served.{IsServedImage}
@@ -18,8 +18,9 @@ use Rattle.device_session.specs.Open.{IsOpen}
 use Rattle.device_session.specs.Sessions.{Session}
 use Rattle.device_session.proofs.CountLaws.{needs_some, needs_none}
 use Rattle.device_course.specs.States.{IsSessionOf}
-use Rattle.device_cli.specs.Parts.{added_by}
+use Rattle.device_cli.specs.Parts.{Adds}
 use Rattle.device_cli.proofs.TurnLaws.{parts, turning}
+use Rattle.device_cli.proofs.UpgradeLaws.{adds_device, leaves_device, root_most}
 use Rattle.script_lang.specs.Arrays.{needs_room}
 use Rattle.line_run.specs.Stops.{IsOfLine, Ending, IsSound}
 use Rattle.device_cli.specs.Looks.{LooksOn}
@@ -29,8 +30,8 @@ use Rattle.device_course.specs.Marks.{Leaves, last_mark}
 use Rattle.device_course.specs.Course.{Made}
 use Rattle.device_course.proofs.MadeLaws.{shut, made_none, made_one, made_stopped, made_then, made_closed}
 use Rattle.device_cli.specs.Represents.{Stood, StandsFor}
-use Rattle.device_cli.specs.Added.{left_by, HasAdded, IsNear}
-use Rattle.device_cli.specs.Pages.{needed_for, updates_after, updates_of, TurnOn, AnswersOn, IsShort, IfNext}
+use Rattle.device_cli.specs.Added.{left_by, LacksPages, LeavesFew, HasAdded, IsNear}
+use Rattle.device_cli.specs.Pages.{needed_for, updates_after, updates_of, upgrade_of, TurnOn, AnswersOn, IsShort, IfNext}
 use Rattle.device_cli.specs.Replied.{AreMany, IsStopAt, IsEndingAt, IsAhead, AreMarks, EndsIn, Answered, Replied, Handled, Halts, Serves}
 use Rattle.line_run.specs.Puts.{no_line, IsBehind, HasPut}
 use Rattle.device_cli.specs.Causes.{MayStop, SoOn}
@@ -47,9 +48,9 @@ use Rattle.device_cli.proofs.PageLaws.{turn_of, near_turn, answers_of, AnswersOn
 use Rattle.device_cli.proofs.PassLaws.{AreMarks-none, AreMarks-one, AreMarks-then, AreMarks-longer}
 
 -- no command needs more where a commit doesn't
-needed_more : (command : Command) (changes more : ℕ) → changes ≤ more → needed_for command changes ≤ needed_for command more
-needed_more Commit changes more less = less
-needed_more _ changes more less = omega arith
+needed_more : (command : Command) (changes more upgrade : ℕ) → changes ≤ more → needed_for command changes upgrade ≤ needed_for command more upgrade
+needed_more Commit changes more upgrade less = less
+needed_more _ changes more upgrade less = omega arith
 
 -- from one world to itself, and on from one to the next
 pub IsLater-refl : (w : World) → w.head ≤ w.capacity → IsLater w w
@@ -231,8 +232,8 @@ halted_turned old new entry now line reply turn rep served turns = elim (made_st
 halted : (old new : World) (entry : State) (line : List ℕ) (command : Command) (stop : DeviceStop) → Spells line command → Stood old entry → IsServedImage new.history.present
     → Halts old new entry command stop → Halted old new entry line stop
 halted old new entry line command device.Platform spells rep served h =
-    let next = answer (is_full old command) none_counted entry command in
-    halted_turned old new entry next.1 line next.0 (inl (command, spells, is_full old command, (none_counted, refl))) rep served h
+    let next = answer (is_full old entry command) none_counted entry command in
+    halted_turned old new entry next.1 line next.0 (inl (command, spells, is_full old entry command, (none_counted, refl))) rep served h
 halted old new entry line command device.Tape spells rep served h = halted_still old new entry line device.Tape tt refl rep served h
 halted old new entry line command device.Ledger spells rep served h = halted_still old new entry line device.Ledger tt refl rep served h
 halted old new entry line command device.Memory spells rep served h = halted_still old new entry line device.Memory tt refl rep served h
@@ -240,17 +241,18 @@ halted old new entry line command device.BadRoot spells rep served h = absurd h
 halted old new entry line command (device.BadRecord addr) spells rep served h = absurd h
 
 -- a stop leaves no more where a commit needs no more
-left_more : (stop : DeviceStop) (command : Command) (changes more : ℕ) → changes ≤ more → left_by stop command changes ≤ left_by stop command more
-left_more device.Platform command changes more less = needed_more command changes more less
-left_more device.Ledger command changes more less = needed_more command changes more less
-left_more device.Tape Commit changes more less = less
-left_more device.Tape _ changes more less = omega arith
-left_more device.Memory command changes more less = omega arith
-left_more device.BadRoot command changes more less = omega arith
-left_more (device.BadRecord addr) command changes more less = omega arith
+left_more : (stop : DeviceStop) (command : Command) (changes more upgrade : ℕ) → changes ≤ more → left_by stop command changes upgrade ≤ left_by stop command more upgrade
+left_more device.Platform command changes more upgrade less = needed_more command changes more upgrade less
+left_more device.Ledger command changes more upgrade less = needed_more command changes more upgrade less
+left_more device.Tape Commit changes more upgrade less = less
+left_more device.Tape _ changes more upgrade less = omega arith
+left_more device.Memory command changes more upgrade less = omega arith
+left_more device.BadRoot command changes more upgrade less = omega arith
+left_more (device.BadRecord addr) Upgrade changes more upgrade less = omega arith
+left_more (device.BadRecord addr) _ changes more upgrade less = omega arith
 
 -- a line that the device stopped at
-pub Replied-stop : (tells : Type 0) (old new : World) (line : List ℕ) (command : Command) (stop : DeviceStop) → Spells line command → IsLater old new → DrewUntil old.drawn (line ∷ []) [] new.drawn → (tells → Extends old.history new.history) → new.head ≤ old.head + left_by stop command (needed_of old.session)
+pub Replied-stop : (tells : Type 0) (old new : World) (line : List ℕ) (command : Command) (stop : DeviceStop) → Spells line command → IsLater old new → DrewUntil old.drawn (line ∷ []) [] new.drawn → (tells → Extends old.history new.history) → LeavesFew tells old.history.present stop command (needed_of old.session) old.head new.head
     → IsEndingAt tells new [] (line ∷ []) (Err (stops.Device stop))
     → LooksOn tells old new (line ∷ []) (IsOk {T = Unit {0}} {E = Stop} (Err (stops.Device stop)))
     → (tells → IsServedImage new.history.present) → (tells → (entry : State) → Stood old entry → Halts old new entry command stop)
@@ -276,7 +278,7 @@ Replied-stop tells old new line command stop spells later drew extends added dam
         answers = (refl, refl);
         seen = (refl, refl);
         ends = h.sound;
-        near = inr (later.rises, (command, spells, omega (arith, added, left_more stop command (needed_of old.session) (41 * updates) enough)));
+        near = inr (later.rises, (command, spells, omega (arith, leaves_device tells old.history.present entry stop command (needed_of old.session) old.head new.head told rep.there.device added, left_more stop command (needed_of old.session) (41 * updates) (upgrade_of entry) enough)));
         ahead = h.ahead;
         is_ahead = h.is_ahead;
         marks = h.marks;
@@ -290,24 +292,24 @@ HasAdded-behind : (most : Command → ℕ) (lines more : List (List ℕ)) (repli
 HasAdded-behind most lines more replies others pages now same (inl e) = inl e
 HasAdded-behind most lines more replies others pages now same (inr (rises, next)) = inr (rises, IfNext-behind _ lines more replies others same next)
 
-IsNear-then : (ending : Ending) (updates : ℕ) (lines more : List (List ℕ)) (replies others : List Reply) (pages now : ℕ) → length replies ≡ length lines
-    → IsNear ending updates more others pages now → IsNear ending updates (lines ++ more) (replies ++ others) pages now
-IsNear-then (Ok done) updates lines more replies others pages now same h = h
-IsNear-then (Err stops.Source) updates lines more replies others pages now same h = h
-IsNear-then (Err stops.Limit) updates lines more replies others pages now same h = h
-IsNear-then (Err stops.Sink) updates lines more replies others pages now same h = HasAdded-behind _ lines more replies others pages now same h
-IsNear-then (Err (stops.Device stop)) updates lines more replies others pages now same h = HasAdded-behind _ lines more replies others pages now same h
+IsNear-then : (ending : Ending) (updates upgrade : ℕ) (lines more : List (List ℕ)) (replies others : List Reply) (pages now : ℕ) → length replies ≡ length lines
+    → IsNear ending updates upgrade more others pages now → IsNear ending updates upgrade (lines ++ more) (replies ++ others) pages now
+IsNear-then (Ok done) updates upgrade lines more replies others pages now same h = h
+IsNear-then (Err stops.Source) updates upgrade lines more replies others pages now same h = h
+IsNear-then (Err stops.Limit) updates upgrade lines more replies others pages now same h = h
+IsNear-then (Err stops.Sink) updates upgrade lines more replies others pages now same h = HasAdded-behind _ lines more replies others pages now same h
+IsNear-then (Err (stops.Device stop)) updates upgrade lines more replies others pages now same h = HasAdded-behind _ lines more replies others pages now same h
 
 HasAdded-longer : (most : Command → ℕ) (lines more : List (List ℕ)) (replies : List Reply) (pages now : ℕ) → HasAdded most lines replies pages now → HasAdded most (lines ++ more) replies pages now
 HasAdded-longer most lines more replies pages now (inl e) = inl e
 HasAdded-longer most lines more replies pages now (inr (rises, next)) = inr (rises, IfNext-longer _ lines more replies next)
 
-IsNear-longer : (stop : Stop) (updates : ℕ) (lines more : List (List ℕ)) (replies : List Reply) (pages now : ℕ)
-    → IsNear (Err stop) updates lines replies pages now → IsNear (Err stop) updates (lines ++ more) replies pages now
-IsNear-longer stops.Source updates lines more replies pages now h = h
-IsNear-longer stops.Limit updates lines more replies pages now h = h
-IsNear-longer stops.Sink updates lines more replies pages now h = HasAdded-longer _ lines more replies pages now h
-IsNear-longer (stops.Device stop) updates lines more replies pages now h = HasAdded-longer _ lines more replies pages now h
+IsNear-longer : (stop : Stop) (updates upgrade : ℕ) (lines more : List (List ℕ)) (replies : List Reply) (pages now : ℕ)
+    → IsNear (Err stop) updates upgrade lines replies pages now → IsNear (Err stop) updates upgrade (lines ++ more) replies pages now
+IsNear-longer stops.Source updates upgrade lines more replies pages now h = h
+IsNear-longer stops.Limit updates upgrade lines more replies pages now h = h
+IsNear-longer stops.Sink updates upgrade lines more replies pages now h = HasAdded-longer _ lines more replies pages now h
+IsNear-longer (stops.Device stop) updates upgrade lines more replies pages now h = HasAdded-longer _ lines more replies pages now h
 
 AreMany-then : (ending : Ending) (a b c d : ℕ) → a ≡ b → AreMany c d ending → AreMany (a + c) (b + d) ending
 AreMany-then (Ok done) a b c d e h = omega (arith, e, h)
@@ -393,8 +395,8 @@ Answered-then old mid new ending entry updates lines more replies others none pa
       answers = AnswersOn-append old.capacity entry old.head updates p.now p.pages q.now q.pages lines more replies others same p.answers more_answers;
       seen = SeenOn-append old.capacity mid.history new.history (moment old.history) entry old.head updates p.now p.pages q.now q.pages lines more replies others q.made.passes.extends
           p.made.passes.extends.later same p.seen (SeenOn-moved old mid new (moment mid.history) p.now q.now p.pages (updates_of updates replies) q.pages more others later.capacity p.ends.1 q.seen);
-      near = subst (λ (n : ℕ). IsNear ending n (lines ++ more) (replies ++ others) q.pages new.head) (sym (updates_of-append updates replies others))
-          (IsNear-then ending (updates_of (updates_of updates replies) others) lines more replies others q.pages new.head same q.near);
+      near = subst (λ (n : ℕ). IsNear ending n (upgrade_of q.now) (lines ++ more) (replies ++ others) q.pages new.head) (sym (updates_of-append updates replies others))
+          (IsNear-then ending (updates_of (updates_of updates replies) others) (upgrade_of q.now) lines more replies others q.pages new.head same q.near);
       ends = EndsIn-then old mid new ending entry p.now q.now updates lines more replies others part p.pages q.pages later.capacity p.ends.1 same p.answers q.ends;
       ahead = q.ahead;
       is_ahead = q.is_ahead;
@@ -484,7 +486,7 @@ Replied-longer tells old new last stop lines more put line p = record {
     pages = first.pages;
     answers = AnswersOn-longer old.capacity entry old.head updates first.now first.pages lines more p.replies first.answers;
     seen = SeenOn-longer old.capacity new.history (moment old.history) entry old.head updates first.now first.pages lines more p.replies first.seen;
-    near = IsNear-longer stop (updates_of updates p.replies) lines more p.replies first.pages new.head first.near;
+    near = IsNear-longer stop (updates_of updates p.replies) (upgrade_of first.now) lines more p.replies first.pages new.head first.near;
     ends = EndsIn-longer old new stop entry first.now updates lines more p.replies p.part first.pages first.ends;
     ahead = first.ahead;
     is_ahead = first.is_ahead;
@@ -581,26 +583,28 @@ changes_of (Some session) image None (Some t) head is h = absurd h
 changes_of (Some session) image (Some d) (Some t) head is h = (λ e. needs_some session head is (h.1 ∙ e), λ e. needs_none session head is (h.1 ∙ e))
 
 -- a command's line
-pub turned_command : (old new : World) (entry : State) (updates : ℕ) (line : List ℕ) (command : Command) (reply : Reply) → Spells line command
-    → IfSome old.session (λ session. IsOpen session old.head) → IsServedImage new.history.present → new.head ≡ old.head + added_by command reply (needed_of old.session)
+pub turned_command : (tells : Type 0) (old new : World) (entry : State) (updates : ℕ) (line : List ℕ) (command : Command) (reply : Reply) → tells → Spells line command
+    → IfSome old.session (λ session. IsOpen session old.head) → IsServedImage new.history.present → Adds tells old.history.present command reply (needed_of old.session) old.head new.head
     → Saw new.history (moment old.history) entry.device old.head reply → Stood old entry → AreEnough old.session updates
     → Serves old new entry command (Ok reply) → Turned old new entry updates line reply
-turned_command old new entry updates line command reply spells ready served pages saw rep enough (now, is, after, turns) =
+turned_command tells old new entry updates line command reply told spells ready served pages saw rep enough (now, is, after, turns) =
+    let added = adds_device tells old.history.present entry command reply (needed_of old.session) old.head new.head told rep.there.device pages in
     let changes = changes_of old.session old.history.present entry.device entry.session old.head ready rep.there.session in
-    let turn = turning entry.device entry.session command (old.capacity - old.head) (needed_of old.session) updates old.head new.head reply now enough changes.0 changes.1 is pages in
+    let turn = turning entry.device entry.session command (old.capacity - old.head) (needed_of old.session) updates old.head new.head reply now enough changes.0 changes.1 is added in
     (now, inl (command, spells, turn.0, turn.1, turn.2, turn.3), record { there = after; served = served }, turns, saw)
 
 -- a reply that too few pages are free is true for so many updates as are enough
-short_of : (command : Command) (changes updates head capacity : ℕ) → changes ≤ 41 * updates → head ≤ capacity → capacity - head < needed_for command changes → IsShort command updates head capacity
-short_of (Format blocks order) changes updates head capacity enough within few = omega (arith, within, few)
-short_of (Write block content) changes updates head capacity enough within few = omega (arith, within, few)
-short_of Commit changes updates head capacity enough within few = omega (arith, enough, few)
-short_of _ changes updates head capacity enough within few = absurd (omega (arith, few))
+short_of : (tells : Type 0) (image : Image) (command : Command) (changes updates head capacity : ℕ) → changes ≤ 41 * updates → head ≤ capacity → LacksPages tells image command changes head capacity → IsShort command updates head capacity
+short_of tells image (Format blocks order) changes updates head capacity enough within few = omega (arith, within, few)
+short_of tells image (Write block content) changes updates head capacity enough within few = omega (arith, within, few)
+short_of tells image Commit changes updates head capacity enough within few = omega (arith, enough, few)
+short_of tells image Upgrade changes updates head capacity enough within (root, on, few) = omega (arith, few, root_most root on.within.in_range)
+short_of tells image _ changes updates head capacity enough within few = absurd (omega (arith, few))
 
-pub tells_short : (old new : World) (line : List ℕ) (command : Command) (reply : Reply) → Spells line command → IsLater old new
-    → (reply ≡ Full → new.capacity - new.head < needed_for command (needed_of old.session)) → TellsShort old new line reply
-tells_short old new line command reply spells later full updates enough e =
-    (command, spells, short_of command (needed_of old.session) updates new.head new.capacity enough later.within (full e))
+pub tells_short : (tells : Type 0) (image : Image) (old new : World) (line : List ℕ) (command : Command) (reply : Reply) → Spells line command → IsLater old new
+    → (reply ≡ Full → LacksPages tells image command (needed_of old.session) new.head new.capacity) → TellsShort old new line reply
+tells_short tells image old new line command reply spells later full updates enough e =
+    (command, spells, short_of tells image command (needed_of old.session) updates new.head new.capacity enough later.within (full e))
 
 stops_there : (tells : Type 0) (held : Option Session) (now : World) (line : List ℕ) (command : Command) (stop : DeviceStop) → Spells line command → MayStop tells held now.history.present now.head now.capacity command stop → IsStopAt tells now [] (line ∷ []) stop
 stops_there tells held now line command device.Platform spells may = tt
@@ -621,7 +625,7 @@ halts_by old new drawn drawn_now entry command (device.BadRecord addr) h = h
 
 -- a line that the device stopped at
 pub Handled-stop : (tells : Type 0) (old new : World) (line : List ℕ) (command : Command) (stop : DeviceStop) (written : Option (List ℕ)) → Spells line command
-    → IsLater old new → DrewUntil old.drawn (line ∷ []) [] new.drawn → (tells → Extends old.history new.history) → new.head ≤ old.head + left_by stop command (needed_of old.session)
+    → IsLater old new → DrewUntil old.drawn (line ∷ []) [] new.drawn → (tells → Extends old.history new.history) → LeavesFew tells old.history.present stop command (needed_of old.session) old.head new.head
     → MayStop tells old.session new.history.present new.head new.capacity command stop
     → LooksOn tells old new (line ∷ []) (IsOk {T = Unit {0}} {E = Stop} (Err (stops.Device stop)))
     → (tells → IsServedImage new.history.present) → (tells → (entry : State) → Stood old entry → Halts old new entry command stop)

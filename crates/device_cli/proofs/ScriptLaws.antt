@@ -1,11 +1,18 @@
 -- From how a run ends to its exit status.
-use Rattle.std.proofs.Common.{◌≡◌, ◌≢◌, ℕ, ◌+◌, ◌*◌, ◌≤◌, List, [], ◌∷◌, ◌++◌, Option, None, Ok, Err, length, ◌⊎◌, inl, inr, refl, sym, subst, arith, length-append}
+use Rattle.std.proofs.Common.{◌≡◌, ◌≢◌, ℕ, ◌+◌, ◌-◌, ◌*◌, ◌<◌, ◌≤◌, Bool, false, List, [], ◌∷◌, ◌++◌, Option, None, Ok, Err, length, ◌⊎◌, inl, inr, refl, sym, ap, subst, arith, length-append}
 use Rattle.sdbt_base.specs.Told.{Got, IsAtEnd}
 use Rattle.sdbt_base.proofs.ToldLaws.{Gave-nothing, Got-nothing}
 use Rattle.text_lines.specs.Lines.{whole_lines_of, lines_of}
-use Rattle.script_lang.specs.Replies.{line_of, Reply}
+use Rattle.script_lang.specs.Replies.{line_of, Reply, Full}
 use Rattle.sdbt_base.specs.Arrays.{State, Device, closed}
-use Rattle.script_lang.specs.Commands.{Command, Commit}
+use Rattle.script_lang.specs.Commands.{Command, Format, Write, Commit, Upgrade}
+use Rattle.script_lang.specs.Grammar.{Spells}
+use Rattle.script_lang.specs.Arrays.{Counted}
+use Rattle.script_lang.specs.Answers.{answer}
+use Rattle.script_lang.proofs.CommandLaws.{one_command}
+use Rattle.std.specs.Prelude.{nat_lt}
+use Rattle.std.proofs.lemmas.Bool.{cases_lt}
+use Rattle.std.proofs.lemmas.Grind.{common_steps}
 use Rattle.device_terms.specs.Served.{IsServedImage}
 use Rattle.device_session.specs.Sessions.{Session}
 use Rattle.platform.specs.History.{History}
@@ -20,9 +27,13 @@ use Rattle.line_run.specs.Puts.{IsBehind, IsFirstPart, damage_line, AreLines, Ha
 use Rattle.device_cli.specs.Causes.{Draws, PutsEntry, HasLacked, MeetsRecord, IsOf}
 use Rattle.device_cli.specs.Drawing.{DrewUntil}
 use Rattle.device_cli.specs.Added.{left_by, HasAdded, IsNear}
-use Rattle.device_cli.specs.Pages.{needed_for, updates_of, accepted, AnswersOn, IfNext}
-use Rattle.device_cli.proofs.TurnLaws.{answers_bound, needed_most}
-use Rattle.device_cli.specs.Ran.{Ran, AnswersFrom, AnswersScript}
+use Rattle.device_cli.specs.Pages.{needed_for, updates_after, updates_of, upgrade_of, most_upgrade, TurnOn, AnswersOn, AreFew, IfNext}
+use Rattle.device_cli.specs.Seen.{mapped_of}
+use Rattle.device_cli.proofs.PageLaws.{pages_cases}
+use Rattle.device_cli.proofs.RoomLaws.{answer_room}
+use Rattle.device_cli.proofs.TurnLaws.{answers_bound, answers_within}
+use Rattle.device_cli.proofs.UpgradeLaws.{IsWithin, needs_within, turn_within, within_closed}
+use Rattle.device_cli.specs.Ran.{Ran, AnswersFrom, AnswersScript, most_pages}
 use Rattle.line_run.specs.declared.stop.Stop.TheVariants as stops
 use Rattle.session_calls.specs.declared.stops.DeviceStop.{DeviceStop}
 use Rattle.session_calls.specs.declared.stops.DeviceStop.TheVariants as device
@@ -248,15 +259,17 @@ none_ahead (Err (stops.Device device.Memory)) ahead h p q = h
 none_ahead (Err (stops.Device device.BadRoot)) ahead h p q = h
 none_ahead (Err (stops.Device (device.BadRecord addr))) ahead h p q = h
 
--- what a stop leaves is within what the command needs
-left_most : (stop : DeviceStop) (command : Command) (changes : ℕ) → left_by stop command changes ≤ needed_for command changes
-left_most device.Platform command changes = omega arith
-left_most device.Ledger command changes = omega arith
-left_most device.Tape Commit changes = omega arith
-left_most device.Tape _ changes = omega arith
-left_most device.Memory command changes = omega arith
-left_most device.BadRoot command changes = omega arith
-left_most (device.BadRecord addr) command changes = omega arith
+-- what a stop over an image that stands leaves is within what the command needs
+left_most : (stop : DeviceStop) (command : Command) (changes upgrade : ℕ) → left_by stop command changes upgrade ≤ needed_for command changes upgrade
+left_most device.Platform command changes upgrade = omega arith
+left_most device.Ledger command changes upgrade = omega arith
+left_most device.Tape Commit changes upgrade = omega arith
+left_most device.Tape Upgrade changes upgrade = omega arith
+left_most device.Tape _ changes upgrade = omega arith
+left_most device.Memory command changes upgrade = omega arith
+left_most device.BadRoot command changes upgrade = omega arith
+left_most (device.BadRecord addr) Upgrade changes upgrade = omega arith
+left_most (device.BadRecord addr) _ changes upgrade = omega arith
 
 IfNext-weaker : (P Q : List ℕ → Type 0) (replies : List Reply) (lines : List (List ℕ)) → ((line : List ℕ) → P line → Q line) → IfNext replies lines P → IfNext replies lines Q
 IfNext-weaker P Q [] [] weaker h = h
@@ -282,75 +295,158 @@ HasAdded-none most lines replies pages now none (inl e) = e
 HasAdded-none most lines replies pages now none (inr (rises, next)) =
     IfNext-any (now ≡ pages) _ replies lines (λ line h. omega (arith, rises, h.2, none h.0)) next
 
-near : (ending : Ending) (updates : ℕ) (lines : List (List ℕ)) (replies : List Reply) (pages now : ℕ) → IsNear ending updates lines replies pages now
-    → HasAdded (λ command. needed_for command (41 * updates)) lines replies pages now
-near (Ok done) updates lines replies pages now h = inl h
-near (Err stops.Source) updates lines replies pages now h = inl h
-near (Err stops.Limit) updates lines replies pages now h = inl h
-near (Err stops.Sink) updates lines replies pages now h = h
-near (Err (stops.Device stop)) updates lines replies pages now h =
-    HasAdded-more (λ command. left_by stop command (41 * updates)) (λ command. needed_for command (41 * updates)) lines replies pages now (λ command. left_most stop command (41 * updates)) h
+near : (ending : Ending) (updates upgrade : ℕ) (lines : List (List ℕ)) (replies : List Reply) (pages now : ℕ) → IsNear ending updates upgrade lines replies pages now
+    → HasAdded (λ command. needed_for command (41 * updates) upgrade) lines replies pages now
+near (Ok done) updates upgrade lines replies pages now h = inl h
+near (Err stops.Source) updates upgrade lines replies pages now h = inl h
+near (Err stops.Limit) updates upgrade lines replies pages now h = inl h
+near (Err stops.Sink) updates upgrade lines replies pages now h = h
+near (Err (stops.Device stop)) updates upgrade lines replies pages now h =
+    HasAdded-more (λ command. left_by stop command (41 * updates) upgrade) (λ command. needed_for command (41 * updates) upgrade) lines replies pages now (λ command. left_most stop command (41 * updates) upgrade) h
 
-keyless : (ending : Ending) (updates : ℕ) (lines : List (List ℕ)) (replies : List Reply) (pages now : ℕ) → IsNear ending updates lines replies pages now
-    → exit_of ending ≡ 6 → HasAdded (λ command. left_by device.Tape command (41 * updates)) lines replies pages now
-keyless (Ok done) updates lines replies pages now h e = absurd (omega (arith, e))
-keyless (Err stops.Source) updates lines replies pages now h e = absurd (omega (arith, e))
-keyless (Err stops.Limit) updates lines replies pages now h e = absurd (omega (arith, e))
-keyless (Err stops.Sink) updates lines replies pages now h e = absurd (omega (arith, e))
-keyless (Err (stops.Device device.Tape)) updates lines replies pages now h e = h
-keyless (Err (stops.Device device.Platform)) updates lines replies pages now h e = absurd (omega (arith, e))
-keyless (Err (stops.Device device.Ledger)) updates lines replies pages now h e = absurd (omega (arith, e))
-keyless (Err (stops.Device device.Memory)) updates lines replies pages now h e = absurd (omega (arith, e))
-keyless (Err (stops.Device device.BadRoot)) updates lines replies pages now h e = absurd (omega (arith, e))
-keyless (Err (stops.Device (device.BadRecord addr))) updates lines replies pages now h e = absurd (omega (arith, e))
+keyless : (ending : Ending) (updates upgrade : ℕ) (lines : List (List ℕ)) (replies : List Reply) (pages now : ℕ) → IsNear ending updates upgrade lines replies pages now
+    → exit_of ending ≡ 6 → HasAdded (λ command. left_by device.Tape command (41 * updates) upgrade) lines replies pages now
+keyless (Ok done) updates upgrade lines replies pages now h e = absurd (omega (arith, e))
+keyless (Err stops.Source) updates upgrade lines replies pages now h e = absurd (omega (arith, e))
+keyless (Err stops.Limit) updates upgrade lines replies pages now h e = absurd (omega (arith, e))
+keyless (Err stops.Sink) updates upgrade lines replies pages now h e = absurd (omega (arith, e))
+keyless (Err (stops.Device device.Tape)) updates upgrade lines replies pages now h e = h
+keyless (Err (stops.Device device.Platform)) updates upgrade lines replies pages now h e = absurd (omega (arith, e))
+keyless (Err (stops.Device device.Ledger)) updates upgrade lines replies pages now h e = absurd (omega (arith, e))
+keyless (Err (stops.Device device.Memory)) updates upgrade lines replies pages now h e = absurd (omega (arith, e))
+keyless (Err (stops.Device device.BadRoot)) updates upgrade lines replies pages now h e = absurd (omega (arith, e))
+keyless (Err (stops.Device (device.BadRecord addr))) updates upgrade lines replies pages now h e = absurd (omega (arith, e))
 
-exact : (ending : Ending) (updates : ℕ) (lines : List (List ℕ)) (replies : List Reply) (pages now : ℕ) → IsNear ending updates lines replies pages now → exit_of ending ≡ 11 → now ≡ pages
-exact (Ok done) updates lines replies pages now h e = absurd (omega (arith, e))
-exact (Err stops.Source) updates lines replies pages now h e = absurd (omega (arith, e))
-exact (Err stops.Limit) updates lines replies pages now h e = absurd (omega (arith, e))
-exact (Err stops.Sink) updates lines replies pages now h e = absurd (omega (arith, e))
-exact (Err (stops.Device device.Memory)) updates lines replies pages now h e = HasAdded-none _ lines replies pages now (λ command. omega arith) h
-exact (Err (stops.Device device.Platform)) updates lines replies pages now h e = absurd (omega (arith, e))
-exact (Err (stops.Device device.Ledger)) updates lines replies pages now h e = absurd (omega (arith, e))
-exact (Err (stops.Device device.Tape)) updates lines replies pages now h e = absurd (omega (arith, e))
-exact (Err (stops.Device device.BadRoot)) updates lines replies pages now h e = absurd (omega (arith, e))
-exact (Err (stops.Device (device.BadRecord addr))) updates lines replies pages now h e = absurd (omega (arith, e))
+exact : (ending : Ending) (updates upgrade : ℕ) (lines : List (List ℕ)) (replies : List Reply) (pages now : ℕ) → IsNear ending updates upgrade lines replies pages now → exit_of ending ≡ 11 → now ≡ pages
+exact (Ok done) updates upgrade lines replies pages now h e = absurd (omega (arith, e))
+exact (Err stops.Source) updates upgrade lines replies pages now h e = absurd (omega (arith, e))
+exact (Err stops.Limit) updates upgrade lines replies pages now h e = absurd (omega (arith, e))
+exact (Err stops.Sink) updates upgrade lines replies pages now h e = absurd (omega (arith, e))
+exact (Err (stops.Device device.Memory)) updates upgrade lines replies pages now h e = HasAdded-none _ lines replies pages now (λ command. omega arith) h
+exact (Err (stops.Device device.Platform)) updates upgrade lines replies pages now h e = absurd (omega (arith, e))
+exact (Err (stops.Device device.Ledger)) updates upgrade lines replies pages now h e = absurd (omega (arith, e))
+exact (Err (stops.Device device.Tape)) updates upgrade lines replies pages now h e = absurd (omega (arith, e))
+exact (Err (stops.Device device.BadRoot)) updates upgrade lines replies pages now h e = absurd (omega (arith, e))
+exact (Err (stops.Device (device.BadRecord addr))) updates upgrade lines replies pages now h e = absurd (omega (arith, e))
 
 -- how many pages there are at most, after some replies and with what the command of the next line added
-bound : (capacity before : ℕ) (entry : State) (lines : List (List ℕ)) (replies : List Reply) (state : State) (pages now : ℕ) → AnswersOn capacity entry before 0 lines replies state pages
-    → HasAdded (λ command. needed_for command (41 * updates_of 0 replies)) lines replies pages now
-    → (pages ≤ before + 42 * accepted replies) × (now ≤ before + 42 * accepted replies + 1)
-bound capacity before entry lines replies state pages now answers near =
-    let most = answers_bound capacity entry before 0 lines replies state pages answers in (
-      omega (arith, most),
-      elim near [
-        | inl same ↦ omega (arith, same, most)
-        | inr more ↦ IfNext-any (now ≤ before + 42 * accepted replies + 1) _ replies lines (λ line h. omega (arith, h.2, needed_most h.0 (41 * updates_of 0 replies), most)) more.1
-      ],
-    )
+bound : (capacity before : ℕ) (entry : State) (lines : List (List ℕ)) (replies : List Reply) (state : State) (pages : ℕ) → IsWithin entry (mapped_of entry.device) → AnswersOn capacity entry before 0 lines replies state pages
+    → pages + 41 * updates_of 0 replies ≤ most_pages before entry replies
+bound capacity before entry lines replies state pages held answers =
+    let most = answers_bound capacity entry before 0 lines replies state pages (mapped_of entry.device) (most_upgrade (mapped_of entry.device + length replies)) held (omega arith) answers in
+    omega (arith, most)
+
+-- what the command of the next line added is what a commit or an update needs, or as much as an upgrade needs
+cut_needs : (line : List ℕ) (command : Command) (changes upgrade pages now most more : ℕ) → Spells line command → pages + changes ≤ most → upgrade ≤ more → now ≤ pages + needed_for command changes upgrade
+    → (now ≤ most + 1) ⊎ (Spells line Upgrade × (now ≤ most + more))
+cut_needs line Upgrade changes upgrade pages now most more spells within few h = inr (spells, omega (arith, within, few, h))
+cut_needs line (Format blocks order) changes upgrade pages now most more spells within few h = inl (omega (arith, within, h))
+cut_needs line (Write block content) changes upgrade pages now most more spells within few h = inl (omega (arith, within, h))
+cut_needs line Commit changes upgrade pages now most more spells within few h = inl (omega (arith, within, h))
+cut_needs line _ changes upgrade pages now most more spells within few h = inl (omega (arith, within, h))
+
+-- a next line has the one or the other
+next_either : (X : Type 0) (P Q : List ℕ → Type 0) (replies : List Reply) (lines : List (List ℕ)) → ((line : List ℕ) → P line → X ⊎ Q line) → IfNext replies lines P → X ⊎ IfNext replies lines Q
+next_either X P Q [] [] either h = absurd h
+next_either X P Q [] (line ∷ lines) either h = either line h
+next_either X P Q (reply ∷ replies) [] either h = absurd h
+next_either X P Q (reply ∷ replies) (line ∷ lines) either h = next_either X P Q replies lines either h
+
+IfNext-out : (Q : List ℕ → Type 0) (Y : Type 0) (replies : List Reply) (lines : List (List ℕ)) → IfNext replies lines (λ line. Q line × Y) → IfNext replies lines Q × Y
+IfNext-out Q Y [] [] h = absurd h
+IfNext-out Q Y [] (line ∷ lines) h = (h.0, h.1)
+IfNext-out Q Y (reply ∷ replies) [] h = absurd h
+IfNext-out Q Y (reply ∷ replies) (line ∷ lines) h = IfNext-out Q Y replies lines h
+
+cut_bound : (before : ℕ) (entry : State) (lines : List (List ℕ)) (replies : List Reply) (updates upgrade pages now more : ℕ) → pages + 41 * updates ≤ most_pages before entry replies → upgrade ≤ more
+    → HasAdded (λ command. needed_for command (41 * updates) upgrade) lines replies pages now
+    → (now ≤ most_pages before entry replies + 1) ⊎ (IfNext replies lines (λ line. Spells line Upgrade) × (now ≤ most_pages before entry replies + more))
+cut_bound before entry lines replies updates upgrade pages now more within few (inl same) = inl (omega (arith, same, within))
+cut_bound before entry lines replies updates upgrade pages now more within few (inr (rises, next)) =
+    elim (next_either (now ≤ most_pages before entry replies + 1) _ (λ line. Spells line Upgrade × (now ≤ most_pages before entry replies + more)) replies lines
+    (λ line h. cut_needs line h.0 (41 * updates) upgrade pages now (most_pages before entry replies) more h.1 within few h.2) next) [
+      | inl one ↦ inl one
+      | inr upgrades ↦ inr (IfNext-out (λ line. Spells line Upgrade) (now ≤ most_pages before entry replies + more) replies lines upgrades)
+    ]
+
+-- pages are only added
+rises_turn : (capacity : ℕ) (old : State) (pages updates : ℕ) (line : List ℕ) (reply : Reply) (new : State) (pages_now : ℕ) → TurnOn capacity old pages updates line reply new pages_now → pages ≤ pages_now
+rises_turn capacity old pages updates line reply new pages_now (inl (command, spells, needed, needs, is, added)) = elim (pages_cases reply needed pages) [
+  | inl none ↦ omega (arith, none, added)
+  | inr some ↦ omega (arith, some, added)
+]
+rises_turn capacity old pages updates line reply new pages_now (inr (bad, is, same, added)) = omega (arith, added)
+
+rises_on : (capacity : ℕ) (old : State) (pages updates : ℕ) (lines : List (List ℕ)) (replies : List Reply) (new : State) (pages_now : ℕ) → AnswersOn capacity old pages updates lines replies new pages_now → pages ≤ pages_now
+rises_on capacity old pages updates lines [] new pages_now h = omega (arith, h.1)
+rises_on capacity old pages updates [] (reply ∷ replies) new pages_now h = absurd h
+rises_on capacity old pages updates (line ∷ lines) (reply ∷ replies) new pages_now (mid, between, turn, rest) =
+    omega (arith, rises_turn capacity old pages updates line reply mid between turn, rises_on capacity mid between (updates_after reply updates) lines replies new pages_now rest)
+
+-- a reply to an upgrade that too few pages were free is true for good
+few_needed : (free needed : ℕ) (counted : Counted) (state new : State) (command : Command) → (Full, new) ≡ answer (nat_lt free needed) counted state command → free < needed
+few_needed free needed counted state new command is = elim (cases_lt free needed) [
+  | inl less ↦ less
+  | inr not ↦ absurd (answer_room counted state command
+      (subst (λ (b : Bool). (answer b counted state command).0 ≡ Full) (above free needed not) (sym (ap (λ (p : Reply × State). p.0) is))))
+]
+  where
+    above : (a b : ℕ) → b ≤ a → nat_lt a b ≡ false
+    above a b h = grind (arith, common_steps)
+
+few_turn : (capacity : ℕ) (old : State) (pages updates : ℕ) (line : List ℕ) (reply : Reply) (new : State) (pages_now head mapped : ℕ) → IsWithin old mapped → pages ≤ head → TurnOn capacity old pages updates line reply new pages_now
+    → Spells line Upgrade → reply ≡ Full → capacity - head < most_upgrade mapped
+few_turn capacity old pages updates line reply new pages_now head mapped held later (inl (command, spells, needed, needs, (counted, is), added)) upgrade e =
+    let same : command ≡ Upgrade = one_command line command Upgrade spells upgrade in
+    let most : needed ≤ upgrade_of old = subst (λ (c : Command). needed ≤ needed_for c (41 * updates) (upgrade_of old)) same needs.within in
+    let few : capacity - pages < needed = few_needed (capacity - pages) needed counted old new command (subst (λ (r : Reply). (r, new) ≡ answer (nat_lt (capacity - pages) needed) counted old command) e is) in
+    omega (arith, most, few, later, needs_within old mapped held)
+few_turn capacity old pages updates line reply new pages_now head mapped held later (inr (bad, is, same, added)) upgrade e = absurd (bad Upgrade upgrade)
+
+few_on : (capacity : ℕ) (old : State) (pages updates : ℕ) (lines : List (List ℕ)) (replies : List Reply) (new : State) (pages_now head mapped : ℕ) → IsWithin old mapped → pages_now ≤ head
+    → AnswersOn capacity old pages updates lines replies new pages_now → AreFew head capacity mapped lines replies
+few_on capacity old pages updates lines [] new pages_now head mapped held later h = tt
+few_on capacity old pages updates [] (reply ∷ replies) new pages_now head mapped held later h = absurd h
+few_on capacity old pages updates (line ∷ lines) (reply ∷ replies) new pages_now head mapped held later (mid, between, turn, rest) = (
+  few_turn capacity old pages updates line reply mid between head mapped held
+      (omega (arith, later, rises_turn capacity old pages updates line reply mid between turn, rises_on capacity mid between (updates_after reply updates) lines replies new pages_now rest)) turn,
+  few_on capacity mid between (updates_after reply updates) lines replies new pages_now head (mapped + 1) (turn_within capacity old pages updates line reply mid between mapped held turn) later rest,
+)
+
+-- there are no fewer pages than by the replies
+added_more : (most : Command → ℕ) (lines : List (List ℕ)) (replies : List Reply) (pages now : ℕ) → HasAdded most lines replies pages now → pages ≤ now
+added_more most lines replies pages now (inl same) = omega (arith, same)
+added_more most lines replies pages now (inr (rises, next)) = rises
 
 -- what a run answered, by its status
-answers_from : (old new : World) (ending : Ending) (entry : State) (lines : List (List ℕ)) (replies : List Reply) (part : List ℕ)
+answers_from : (old new : World) (ending : Ending) (entry : State) (lines : List (List ℕ)) (replies : List Reply) (part : List ℕ) → IsWithin entry (mapped_of entry.device)
     → Answered old new ending entry 0 lines replies part → AnswersFrom old new (exit_of ending) entry lines replies part
-answers_from old new ending entry lines replies part f = record {
-  now = f.now;
-  pages = f.pages;
-  answers = f.answers;
-  seen = f.seen;
-  ends = ends old new ending entry f.now 0 lines replies part f.pages f.ends;
-  next = next old new ending entry f.now 0 lines replies part f.pages f.ends;
-  sound = sound old new ending entry f.now 0 lines replies part f.pages f.ends;
-  near = near ending (updates_of 0 replies) lines replies f.pages new.head f.near;
-  keyless = keyless ending (updates_of 0 replies) lines replies f.pages new.head f.near;
-  exact = exact ending (updates_of 0 replies) lines replies f.pages new.head f.near;
-  bound = bound old.capacity old.head entry lines replies f.now f.pages new.head f.answers (near ending (updates_of 0 replies) lines replies f.pages new.head f.near);
-  ahead = f.ahead;
-  one_ahead = one_ahead ending f.ahead f.is_ahead;
-  none_ahead = none_ahead ending f.ahead f.is_ahead;
-  passes = subst (λ (n : ℕ). Passes old.history new.history (HasMark entry lines (replies ++ f.ahead)) n) (length-append replies f.ahead)
-      (passes_of old.history new.history entry lines (replies ++ f.ahead) f.marks f.are f.made.passes);
-  exits = exits_of new.history.present entry lines replies f.ahead f.marks f.are f.made.exits.there.device;
-}
+answers_from old new ending entry lines replies part held f =
+    let added = near ending (updates_of 0 replies) (upgrade_of f.now) lines replies f.pages new.head f.near in
+    let within = answers_within old.capacity entry old.head 0 lines replies f.now f.pages (mapped_of entry.device) held f.answers in
+    let most = bound old.capacity old.head entry lines replies f.now f.pages held f.answers in
+    record {
+      now = f.now;
+      pages = f.pages;
+      answers = f.answers;
+      seen = f.seen;
+      ends = ends old new ending entry f.now 0 lines replies part f.pages f.ends;
+      next = next old new ending entry f.now 0 lines replies part f.pages f.ends;
+      sound = sound old new ending entry f.now 0 lines replies part f.pages f.ends;
+      near = added;
+      keyless = keyless ending (updates_of 0 replies) (upgrade_of f.now) lines replies f.pages new.head f.near;
+      exact = exact ending (updates_of 0 replies) (upgrade_of f.now) lines replies f.pages new.head f.near;
+      bound = omega (arith, most);
+      cut_bound = cut_bound old.head entry lines replies (updates_of 0 replies) (upgrade_of f.now) f.pages new.head (most_upgrade (mapped_of entry.device + length replies)) most
+          (needs_within f.now (mapped_of entry.device + length replies) within) added;
+      few = few_on old.capacity entry old.head 0 lines replies f.now f.pages new.head (mapped_of entry.device) held (added_more _ lines replies f.pages new.head added) f.answers;
+      ahead = f.ahead;
+      one_ahead = one_ahead ending f.ahead f.is_ahead;
+      none_ahead = none_ahead ending f.ahead f.is_ahead;
+      passes = subst (λ (n : ℕ). Passes old.history new.history (HasMark entry lines (replies ++ f.ahead)) n) (length-append replies f.ahead)
+          (passes_of old.history new.history entry lines (replies ++ f.ahead) f.marks f.are f.made.passes);
+      exits = exits_of new.history.present entry lines replies f.ahead f.marks f.are f.made.exits.there.device;
+    }
 
 -- what is said of a run's end says nothing of its session, and of its tape
 forget : (old : World) (drawn drawn_now : Option (List (List ℕ))) (session : Option Session) (history : History) (head capacity reads : ℕ) (status : ℕ) (entry : State) (lines : List (List ℕ)) (replies : List Reply) (part : List ℕ)
@@ -367,6 +463,8 @@ forget old drawn drawn_now session history head capacity reads status entry line
   keyless = f.keyless;
   exact = f.exact;
   bound = f.bound;
+  cut_bound = f.cut_bound;
+  few = f.few;
   ahead = f.ahead;
   one_ahead = f.one_ahead;
   none_ahead = f.none_ahead;
@@ -406,7 +504,7 @@ answers_script tells old drawn drawn_now session history head capacity reads end
   looks = λ told most last h. (p.looks told None last most (subst (λ (held : Option Session). IsWarmFor held None) (sym alone) tt) h).0;
   answered = λ told there stands served.
       forget old drawn drawn_now session history head capacity reads (exit_of ending) (closed there) r.lines p.replies p.part
-      (answers_from (drew_by drawn old) (drew_by drawn_now (world session history head capacity reads)) ending (closed there) r.lines p.replies p.part
+      (answers_from (drew_by drawn old) (drew_by drawn_now (world session history head capacity reads)) ending (closed there) r.lines p.replies p.part (within_closed old.history.present there stands)
       (p.answered told (closed there) 0 (record { there = alone_on old there alone stands; served = served }) (enough_alone old.session alone)));
 }
 
@@ -463,7 +561,9 @@ answers_nothing tells w left written = record {
     near = inl refl;
     keyless = λ e. absurd (omega (arith, e));
     exact = λ e. absurd (omega (arith, e));
-    bound = (omega arith, omega arith);
+    bound = omega arith;
+    cut_bound = inl (omega arith);
+    few = tt;
     ahead = [];
     one_ahead = omega arith;
     none_ahead = λ p q. refl;

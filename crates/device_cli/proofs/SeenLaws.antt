@@ -19,12 +19,14 @@ told_plain device pages image replies.Done plain = tt
 told_plain device pages image (replies.Committed number) plain = tt
 told_plain device pages image replies.Dropped plain = tt
 told_plain device pages image replies.Erased plain = tt
+told_plain device pages image (replies.Upgraded number) plain = tt
 told_plain device pages image (replies.Stat mapped number) plain = tt
 told_plain device pages image replies.Bad plain = tt
 told_plain device pages image replies.Unmounted plain = tt
 told_plain device pages image replies.AlreadyMounted plain = tt
 told_plain device pages image replies.NotEmpty plain = tt
 told_plain device pages image replies.NoDevice plain = tt
+told_plain device pages image replies.AlreadyUpgraded plain = tt
 told_plain device pages image replies.Range plain = tt
 told_plain device pages image replies.Full plain = tt
 

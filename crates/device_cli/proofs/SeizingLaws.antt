@@ -1,6 +1,6 @@
 -- What a `seize` line tells, and that no other does.
 use Rattle.std.proofs.Common.{◌≡◌, ◌≢◌, ℕ, Bool, List, [], Option, None, Some, Result, Ok, Err, refl, sym, ◌∙◌, subst, ap, arith, inl, inr}
-use Rattle.std.specs.Prelude.{nat_lt, ◌&&◌, IfOk, length}
+use Rattle.std.specs.Prelude.{nat_lt, ◌&&◌, ◌==◌, IfOk, length}
 use Rattle.std.proofs.lemmas.Bool.{cases_Bool}
 use Rattle.platform.specs.Image.{Image}
 use Rattle.platform.specs.History.{Steps, moment}
@@ -10,7 +10,7 @@ use Rattle.seizure.specs.Report.{Begins, IsSeizure, Seized as Report}
 use Rattle.script_lang.specs.Arrays.{Counted, in_limits, needs_room, step}
 use Rattle.script_lang.specs.Answers.{answer}
 use Rattle.script_lang.specs.Commands.{Command}
-use Rattle.script_lang.specs.Commands.{Format, Mount, Read, Write, Trim, Commit, Drop, Erase, Seize}
+use Rattle.script_lang.specs.Commands.{Format, Mount, Read, Write, Trim, Commit, Drop, Erase, Upgrade, Seize}
 use Rattle.script_lang.specs.Commands as commands
 use Rattle.script_lang.specs.Replies.{Reply}
 use Rattle.script_lang.specs.Replies.{Seized}
@@ -65,6 +65,12 @@ step_seized counted (Some d) None Drop told nodes blocks other e = cc
 step_seized counted (Some d) (Some t) Drop told nodes blocks other e = cc
 step_seized counted None opened Erase told nodes blocks other e = cc
 step_seized counted (Some d) opened Erase told nodes blocks other e = cc
+step_seized counted None None Upgrade told nodes blocks other e = cc
+step_seized counted (Some d) None Upgrade told nodes blocks other e = elim (cases_Bool (d.version == 2)) [
+  | inl holds ↦ let f = rw holds at e in cc
+  | inr fails ↦ let f = rw fails at e in cc
+]
+step_seized counted there (Some t) Upgrade told nodes blocks other e = cc
 step_seized counted None opened commands.Stat told nodes blocks other e = cc
 step_seized counted (Some d) None commands.Stat told nodes blocks other e = cc
 step_seized counted (Some d) (Some t) commands.Stat told nodes blocks other e = cc
@@ -81,7 +87,7 @@ pub saw_of : (old new : World) (entry : State) (command : Command) (given : Resu
     → IfOk given (Saw new.history (moment old.history) entry.device old.head)
 saw_of old new entry command (Ok reply) other (now, is, rep, turns) =
     saw_plain old.history new.history entry.device old.head reply turns.extends
-    (λ told nodes blocks e. answer_seized (is_full old command) is.0 entry command told nodes blocks other (sym (ap (λ (p : Reply × State). p.0) is.1) ∙ e))
+    (λ told nodes blocks e. answer_seized (is_full old entry command) is.0 entry command told nodes blocks other (sym (ap (λ (p : Reply × State). p.0) is.1) ∙ e))
 saw_of old new entry command (Err stop) other h = tt
 
 -- what a seizure's report counts of an image

@@ -1,24 +1,24 @@
 -- What serving a command makes of the state, by the array machine.
 use Rattle.std.proofs.Common.{◌≡◌, ℕ, ◌+◌, ◌-◌, ◌<◌, ◌≤◌, Bool, true, false, List, Option, None, Some, Ok, refl, sym, subst, ap, arith}
-use Rattle.std.specs.Prelude.{nat_lt}
+use Rattle.std.specs.Prelude.{nat_lt, ◌==◌}
 use Rattle.std.specs.FinMap as map
 use Rattle.std.proofs.lemmas.Grind.{common_steps}
 use Rattle.platform.specs.Image.{Image}
 use Rattle.platform.specs.History.{During}
 use Rattle.platform.proofs.Moments.{Turns-not}
 use Rattle.page_store.proofs.StandsLaws.{stands_during}
-use Rattle.sdbt_base.specs.Arrays.{Blocks, content_of, closed, Device, Session as OpenSession, State, new_device, session_on, committed, written, unmapped}
+use Rattle.sdbt_base.specs.Arrays.{Blocks, content_of, closed, Device, Session as OpenSession, State, new_device, session_on, committed, upgraded, written, unmapped}
 use Rattle.device_session.specs.Open.{is_touched}
 use Rattle.device_session.specs.Holds.{Holds}
 use Rattle.device_session.specs.Sessions.{Session}
-use Rattle.script_lang.specs.Commands.{Command, Format, Read, Write, Trim, Commit, Drop}
+use Rattle.script_lang.specs.Commands.{Command, Format, Read, Write, Trim, Commit, Drop, Upgrade}
 use Rattle.script_lang.specs.Commands as commands
-use Rattle.script_lang.specs.Replies.{Reply, Formatted, Done, Committed, Unmounted, Range, Full}
+use Rattle.script_lang.specs.Replies.{Reply, Formatted, Done, Committed, Upgraded, Unmounted, AlreadyUpgraded, Range, Full}
 use Rattle.script_lang.specs.Replies as replies
 use Rattle.script_lang.specs.Arrays.{content_reply, in_limits}
 use Rattle.script_lang.specs.Answers.{answer, none_counted}
 use Rattle.device_cli.specs.World.{World, is_full, needed_of}
-use Rattle.device_cli.specs.Pages.{needed_for}
+use Rattle.device_cli.specs.Pages.{needed_for, upgrade_of}
 use Rattle.device_cli.specs.Replied.{Serves, Halts}
 use Rattle.line_run.specs.Stops.{IsSound}
 use Rattle.device_course.specs.States.{IsSessionOf}
@@ -88,7 +88,7 @@ pub leaves_still : (old new : World) (entry : State) → Represents old entry �
 leaves_still old new entry rep during = stands_during old.history new.history _ rep.device during
 
 -- a reply of a call that left the cell
-pub serves_still : (old new : World) (entry now : State) (command : Command) (reply : Reply) → Represents old entry → (reply, now) ≡ answer (is_full old command) none_counted entry command → Represents new now
+pub serves_still : (old new : World) (entry now : State) (command : Command) (reply : Reply) → Represents old entry → (reply, now) ≡ answer (is_full old entry command) none_counted entry command → Represents new now
     → During old.history new.history (λ image. image.cell ≡ old.history.present.cell) → Serves old new entry command (Ok reply)
 serves_still old new entry now command reply rep is after during =
     (now, (none_counted, is), after, Turns-not old.history new.history (Leaves entry.device) (Leaves now.device) (leaves_still old new entry rep during))
@@ -97,7 +97,7 @@ serves_still old new entry now command reply rep is after during =
 pub halts_still : (old new : World) (entry : State) (command : Command) (stop : DeviceStop) → IsSound stop → Represents old entry
     → During old.history new.history (λ image. image.cell ≡ old.history.present.cell) → Halts old new entry command stop
 halts_still old new entry command device.Platform sound rep during =
-    Turns-not old.history new.history (Leaves entry.device) (Leaves (answer (is_full old command) none_counted entry command).1.device) (leaves_still old new entry rep during)
+    Turns-not old.history new.history (Leaves entry.device) (Leaves (answer (is_full old entry command) none_counted entry command).1.device) (leaves_still old new entry rep during)
 halts_still old new entry command device.Tape sound rep during = leaves_still old new entry rep during
 halts_still old new entry command device.Ledger sound rep during = leaves_still old new entry rep during
 halts_still old new entry command device.Memory sound rep during = leaves_still old new entry rep during
@@ -111,11 +111,11 @@ above : (block blocks : ℕ) → blocks ≤ block → nat_lt block blocks ≡ fa
 above block blocks h = grind (arith, common_steps)
 
 -- whether fewer pages are free than a command needs
-pub is_full_true : (w : World) (command : Command) → w.capacity - w.head < needed_for command (needed_of w.session) → is_full w command ≡ true
-is_full_true w command few = below (w.capacity - w.head) (needed_for command (needed_of w.session)) few
+pub is_full_true : (w : World) (state : State) (command : Command) → w.capacity - w.head < needed_for command (needed_of w.session) (upgrade_of state) → is_full w state command ≡ true
+is_full_true w state command few = below (w.capacity - w.head) (needed_for command (needed_of w.session) (upgrade_of state)) few
 
-pub is_full_false : (w : World) (command : Command) → needed_for command (needed_of w.session) ≤ w.capacity - w.head → is_full w command ≡ false
-is_full_false w command many = above (w.capacity - w.head) (needed_for command (needed_of w.session)) many
+pub is_full_false : (w : World) (state : State) (command : Command) → needed_for command (needed_of w.session) (upgrade_of state) ≤ w.capacity - w.head → is_full w state command ≡ false
+is_full_false w state command many = above (w.capacity - w.head) (needed_for command (needed_of w.session) (upgrade_of state)) many
 
 -- replies without a session
 pub gives_unmounted_read : (full : Bool) (device : Option Device) (block : ℕ) → (Unmounted, closed device) ≡ answer full none_counted (closed device) (Read block)
@@ -194,3 +194,19 @@ gives_formatted full there blocks order room within = rw (within, room) refl
 pub gives_format_full : (full : Bool) (there : Option OpenSession) (blocks order : ℕ) → full ≡ true → in_limits blocks order ≡ true
     → (Full, on None there) ≡ answer full none_counted (on None there) (Format blocks order)
 gives_format_full full there blocks order none within = rw (within, none) refl
+
+-- an upgrade, without a session
+one_not_two : (version : ℕ) → version ≡ 1 → (version == 2) ≡ false
+one_not_two version is = subst (λ (n : ℕ). (n == 2) ≡ false) (sym is) refl
+
+two_is : (version : ℕ) → version ≡ 2 → (version == 2) ≡ true
+two_is version is = subst (λ (n : ℕ). (n == 2) ≡ true) (sym is) refl
+
+pub gives_upgraded : (full : Bool) (d : Device) → full ≡ false → d.version ≡ 1 → (Upgraded (d.number + 1), closed (Some (upgraded d))) ≡ answer full none_counted (closed (Some d)) Upgrade
+gives_upgraded full d room one = rw (one_not_two d.version one, room) refl
+
+pub gives_upgrade_full : (full : Bool) (d : Device) → full ≡ true → d.version ≡ 1 → (Full, closed (Some d)) ≡ answer full none_counted (closed (Some d)) Upgrade
+gives_upgrade_full full d none one = rw (one_not_two d.version one, none) refl
+
+pub gives_already : (full : Bool) (d : Device) → d.version ≡ 2 → (AlreadyUpgraded, closed (Some d)) ≡ answer full none_counted (closed (Some d)) Upgrade
+gives_already full d two = rw (two_is d.version two) refl

@@ -11,7 +11,7 @@ use Rattle.device_session.specs.Open.{is_touched, needed_by}
 use Rattle.device_session.specs.Holds.{Holds}
 use Rattle.device_session.specs.Sessions.{Session}
 use Rattle.script_lang.specs.Commands.{Command}
-use Rattle.script_lang.specs.Commands.{Format, Mount, Drop, Erase, Seize}
+use Rattle.script_lang.specs.Commands.{Format, Mount, Drop, Erase, Upgrade, Seize}
 use Rattle.script_lang.specs.Commands as commands
 use Rattle.script_lang.specs.Replies.{Reply}
 use Rattle.script_lang.specs.Replies.{Formatted, Mounted, Dropped, Erased, Unmounted, AlreadyMounted, NotEmpty, NoDevice, Full, Seized}
@@ -39,7 +39,7 @@ keeps_same old new same =
 
 -- a reply that needed no call
 serves_at : (s now : Option Session) (h : History) (head capacity reads : ℕ) (entry next : State) (command : Command) (reply : Reply) → Represents (world s h head capacity reads) entry
-    → (reply, next) ≡ answer (is_full (world s h head capacity reads) command) none_counted entry command → Represents (world now h head capacity reads) next
+    → (reply, next) ≡ answer (is_full (world s h head capacity reads) entry command) none_counted entry command → Represents (world now h head capacity reads) next
     → Serves (world s h head capacity reads) (world now h head capacity reads) entry command (Ok reply)
 serves_at s now h head capacity reads entry next command reply rep is after =
     (next, (none_counted, is), after, Turns-not h h (Leaves entry.device) (Leaves next.device) (During-start h (Leaves entry.device) (stands_leaves h.present _ rep.device)))
@@ -51,7 +51,7 @@ serves_unmounted s now h head capacity reads entry command none none_now gives r
     let old = world s h head capacity reads in
     without_session old entry none rep (λ state. Serves old (world now h head capacity reads) state command (Ok Unmounted))
     (λ stands. serves_at s now h head capacity reads (closed entry.device) (closed entry.device) command Unmounted (has_none old entry.device none stands)
-    (gives (is_full old command) entry.device) (has_none (world now h head capacity reads) entry.device none_now stands))
+    (gives (is_full old (closed entry.device) command) entry.device) (has_none (world now h head capacity reads) entry.device none_now stands))
 
 pub serves_drop : (s now : Option Session) (h : History) (head capacity reads : ℕ) (entry : State) (session : Session) → s ≡ Some session → now ≡ None
     → Represents (world s h head capacity reads) entry → Serves (world s h head capacity reads) (world now h head capacity reads) entry Drop (Ok Dropped)
@@ -69,7 +69,7 @@ serves_stat s h head capacity reads entry session mapped number some tells rep =
     with_session old session entry some rep (λ state. Serves old old state commands.Stat (Ok (replies.Stat mapped number)))
     (λ d t holds touched. let both = tells d t holds in
     let there = has_session old session d t some holds touched in
-    serves_at s s h head capacity reads (at d t) (at d t) commands.Stat (replies.Stat mapped number) there (gives_stat (is_full old commands.Stat) d t mapped number both.0 both.1) there)
+    serves_at s s h head capacity reads (at d t) (at d t) commands.Stat (replies.Stat mapped number) there (gives_stat (is_full old (at d t) commands.Stat) d t mapped number both.0 both.1) there)
 
 pub serves_already : (s : Option Session) (h : History) (head capacity reads : ℕ) (entry : State) (session : Session) → s ≡ Some session → Represents (world s h head capacity reads) entry
     → Serves (world s h head capacity reads) (world s h head capacity reads) entry Mount (Ok AlreadyMounted)
@@ -78,6 +78,14 @@ serves_already s h head capacity reads entry session some rep =
     with_session old session entry some rep (λ state. Serves old old state Mount (Ok AlreadyMounted))
     (λ d t holds touched. let there = has_session old session d t some holds touched in
     serves_at s s h head capacity reads (at d t) (at d t) Mount AlreadyMounted there refl there)
+
+pub serves_not_upgraded : (s : Option Session) (h : History) (head capacity reads : ℕ) (entry : State) (session : Session) → s ≡ Some session → Represents (world s h head capacity reads) entry
+    → Serves (world s h head capacity reads) (world s h head capacity reads) entry Upgrade (Ok AlreadyMounted)
+serves_not_upgraded s h head capacity reads entry session some rep =
+    let old = world s h head capacity reads in
+    with_session old session entry some rep (λ state. Serves old old state Upgrade (Ok AlreadyMounted))
+    (λ d t holds touched. let there = has_session old session d t some holds touched in
+    serves_at s s h head capacity reads (at d t) (at d t) Upgrade AlreadyMounted there refl there)
 
 -- a session on what is there
 serves_mounted_at : (old new : World) (there : Option Device) (session : Session) (number : ℕ) → old.session ≡ None → StandsFor old.history.present there
@@ -148,7 +156,7 @@ erase_next full (Some d) opened = refl
 
 pub halts_erase : (old new : World) (entry : State) → Turns old.history new.history (Leaves entry.device) (Leaves None) → Halts old new entry Erase device.Platform
 halts_erase old new entry turns =
-    subst (λ (there : Option Device). Turns old.history new.history (Leaves entry.device) (Leaves there)) (sym (erase_next (is_full old Erase) entry.device entry.session)) turns
+    subst (λ (there : Option Device). Turns old.history new.history (Leaves entry.device) (Leaves there)) (sym (erase_next (is_full old entry Erase) entry.device entry.session)) turns
 
 -- a seizure
 pub serves_seized : (old new : World) (entry : State) (pages nodes blocks : ℕ) → new.session ≡ old.session → new.history.present ≡ old.history.present
@@ -184,7 +192,7 @@ serves_formatted old new entry blocks order empty session within room stands tur
     with_nothing old entry empty rep (λ state. Serves old new state (Format blocks order) (Ok Formatted))
     (λ none. (
       closed (Some (new_device blocks order)),
-      (none_counted, gives_formatted (is_full old (Format blocks order)) None blocks order (is_full_false old (Format blocks order) room) within),
+      (none_counted, gives_formatted (is_full old entry (Format blocks order)) None blocks order (is_full_false old entry (Format blocks order) room) within),
       has_none new (Some (new_device blocks order)) (session ∙ none) stands,
       turns None empty,
     ))
@@ -194,7 +202,7 @@ pub serves_format_full : (old new : World) (entry : State) (blocks order : ℕ) 
 serves_format_full old new entry blocks order empty session image within none_free keeps rep =
     with_nothing old entry empty rep (λ state. Serves old new state (Format blocks order) (Ok Full))
     (λ none. serves_still old new (closed None) (closed None) (Format blocks order) Full (has_none old None none empty)
-    (gives_format_full (is_full old (Format blocks order)) None blocks order (is_full_true old (Format blocks order) none_free) within)
+    (gives_format_full (is_full old entry (Format blocks order)) None blocks order (is_full_true old entry (Format blocks order) none_free) within)
     (has_none new None (session ∙ none) (subst (λ (i : Image). i.cell ≡ None) (sym image) empty)) keeps)
 
 serves_not_empty_at : (old new : World) (there : Option Device) (opened : Option OpenSession) (blocks order : ℕ) → old.history.present.cell ≢ None → StandsFor old.history.present there
@@ -218,7 +226,7 @@ serves_refused old new entry blocks order reply given session image keeps gives 
 serves_refused old new entry blocks order reply given session image keeps gives (inr (e, empty)) rep =
     subst (λ (r : Reply). Serves old new entry (Format blocks order) (Ok r)) (sym e)
     (with_nothing old entry empty rep (λ state. Serves old new state (Format blocks order) (Ok given))
-    (λ none. serves_still old new (closed None) (closed None) (Format blocks order) given (has_none old None none empty) (gives (is_full old (Format blocks order)) None)
+    (λ none. serves_still old new (closed None) (closed None) (Format blocks order) given (has_none old None none empty) (gives (is_full old entry (Format blocks order)) None)
     (has_none new None (session ∙ none) (subst (λ (i : Image). i.cell ≡ None) (sym image) empty)) keeps))
 
 -- a format at which the platform failed: where it would have made a device, it may have
@@ -228,14 +236,14 @@ pub halts_format : (old new : World) (entry : State) (blocks order : ℕ) → in
     → Represents old entry → Halts old new entry (Format blocks order) device.Platform
 halts_format old new entry blocks order within keeps turns rep = cases entry.device entry.session rep
   where
-    made : (opened : Option OpenSession) → is_full old (Format blocks order) ≡ false → (answer (is_full old (Format blocks order)) none_counted (on None opened) (Format blocks order)).1.device ≡ Some (new_device blocks order)
-    made opened room = sym (ap (λ (p : Reply × State). p.1.device) (gives_formatted (is_full old (Format blocks order)) opened blocks order room within))
+    made : (opened : Option OpenSession) → is_full old entry (Format blocks order) ≡ false → (answer (is_full old entry (Format blocks order)) none_counted (on None opened) (Format blocks order)).1.device ≡ Some (new_device blocks order)
+    made opened room = sym (ap (λ (p : Reply × State). p.1.device) (gives_formatted (is_full old entry (Format blocks order)) opened blocks order room within))
 
     cases : (there : Option Device) (opened : Option OpenSession) → Represents old (on there opened) → Halts old new (on there opened) (Format blocks order) device.Platform
     cases (Some d) opened r = halts_still old new (on (Some d) opened) (Format blocks order) device.Platform tt r (keeps (inl (λ e. let c = r.device.2.cell in cc)))
     cases None opened r = elim (cases_lt (old.capacity - old.head) 1) [
       | inl few ↦ halts_still old new (on None opened) (Format blocks order) device.Platform tt r (keeps (inr few))
-      | inr many ↦ subst (λ (there : Option Device). Turns old.history new.history (Leaves None) (Leaves there)) (sym (made opened (is_full_false old (Format blocks order) many))) (turns None r.device)
+      | inr many ↦ subst (λ (there : Option Device). Turns old.history new.history (Leaves None) (Leaves there)) (sym (made opened (is_full_false old entry (Format blocks order) many))) (turns None r.device)
     ]
 
 -- what a commit of the session needs

@@ -1,7 +1,8 @@
 -- From the serving of a script in memory to what the word `work` says of it.
-use Rattle.std.proofs.Common.{◌≡◌, ℕ, ◌+◌, ◌-◌, ◌*◌, ◌≤◌, List, [], ◌++◌, Option, None, Some, Ok, Err, length, drop, ◌⊎◌, inl, inr, refl, sym, ◌∙◌, subst, ap, arith}
+use Rattle.std.proofs.Common.{◌≡◌, ℕ, ◌+◌, ◌-◌, ◌*◌, ◌≤◌, List, [], ◌∷◌, ◌++◌, Option, None, Some, Ok, Err, length, drop, ◌⊎◌, inl, inr, refl, sym, ◌∙◌, subst, ap, arith}
 use Rattle.std.proofs.lemmas.List.{append-nil}
-use Rattle.std.specs.Prelude.{IfErr, flat_map}
+use Rattle.std.specs.Prelude.{IfErr, flat_map, map}
+use Rattle.std.specs.List.{AllByRecursion}
 use Rattle.sdbt_base.specs.Arrays.{Device, closed}
 use Rattle.platform.specs.History.{History}
 use Rattle.device_course.specs.Course.{Made}
@@ -11,11 +12,19 @@ use Rattle.device_course.proofs.MadeLaws.{made_start, shut}
 use Rattle.device_course.proofs.ProgramLaws.{Ended}
 use Rattle.script_lang.specs.Replies.{Reply, line_of}
 use Rattle.workload.specs.Summaries.{refused, heading, summary}
-use Rattle.workload.proofs.ScriptLaws.{script_has_lines, script_is_short}
+use Rattle.workload.proofs.ScriptLaws.{lines_of-commands, script_has_lines, script_is_plain, script_is_short}
+use Rattle.workload.proofs.GeneratedLaws.{generated_are_ordinary}
+use Rattle.workload.specs.Lines.{text_of}
+use Rattle.workload.specs.Scripts.{IsOrdinary, commands_of, generated_commands}
+use Rattle.text_lines.specs.Lines.{lines_of}
+use Rattle.script_lang.specs.Commands.{Command, Format, Mount, Read, Write, Trim, Commit, Drop, Erase, Upgrade, Seize}
+use Rattle.script_lang.specs.Commands as commands
 use Rattle.device_terms.specs.Served.{IsServedImage}
 use Rattle.device_cli.specs.World.{World, drew_by, world}
 use Rattle.device_cli.specs.Represents.{StandsFor}
 use Rattle.device_cli.specs.Ran.{Ran, AnswersScript, IsAmple}
+use Rattle.device_cli.specs.Pages.{upgrade_lines}
+use Rattle.device_cli.specs.Seen.{mapped_of}
 use Rattle.line_run.specs.Stops.{Ending, exit_of, HasCause, status_of}
 use Rattle.line_run.specs.Puts.{HasPut, damage_line}
 use Rattle.device_cli.specs.Drawing.{DrewUntil}
@@ -26,6 +35,7 @@ use Rattle.session_calls.specs.declared.stops.DeviceStop.{DeviceStop}
 use Rattle.session_calls.specs.declared.stops.DeviceStop.TheVariants as device
 use Rattle.line_run.specs.declared.stop.Stop.TheVariants as stops
 use Rattle.device_cli.proofs.CompleteLaws.{complete_with}
+use Rattle.device_cli.proofs.TurnLaws.{spelled}
 use Rattle.device_cli.proofs.EndLaws.{ended_run}
 use Rattle.device_cli.proofs.ScriptLaws.{answers_with}
 use Rattle.device_session.specs.Sessions.{Session}
@@ -69,6 +79,53 @@ ended_work tells old new Going seed count was drawn drawn_now session reads writ
 ended_work tells old new Going seed count was drawn drawn_now session reads written written_now ending alone history head capacity room (inr w) keeps =
     ended_run tells old new Going was drawn drawn_now session reads w.serving (Some (script_of seed count)) w.left (Some []) w.told alone history head capacity w.ran keeps
 
+-- ---- no line of a script spells `upgrade`
+
+-- the command is no upgrade
+abbrev IsOther : Command → Type 0
+IsOther Upgrade = ⊥
+IsOther _ = Unit {0}
+
+ordinary_is : (command : Command) → IsOrdinary command → IsOther command
+ordinary_is (Read block) h = tt
+ordinary_is (Write block content) h = tt
+ordinary_is (Trim block) h = tt
+ordinary_is Commit h = tt
+ordinary_is (Format blocks order) h = tt
+ordinary_is Mount h = tt
+ordinary_is Drop h = tt
+ordinary_is Erase h = tt
+ordinary_is Upgrade h = h
+ordinary_is commands.Stat h = tt
+ordinary_is Seize h = tt
+
+others_are : (first : List Command) → AllByRecursion IsOrdinary first → AllByRecursion IsOther (first ++ Commit ∷ commands.Stat ∷ Seize ∷ [])
+others_are [] h = (tt, (tt, (tt, tt)))
+others_are (command ∷ first) h = (ordinary_is command h.0, others_are first h.1)
+
+none_spelled : (command : Command) → IsOther command → spelled (text_of command) ≡ 0
+unfolding text_of
+none_spelled (Format blocks order) h = refl
+none_spelled Mount h = refl
+none_spelled (Read block) h = refl
+none_spelled (Write block content) h = refl
+none_spelled (Trim block) h = refl
+none_spelled Commit h = refl
+none_spelled Drop h = refl
+none_spelled Erase h = refl
+none_spelled Upgrade h = absurd h
+none_spelled commands.Stat h = refl
+none_spelled Seize h = refl
+
+none_of : (commands : List Command) → AllByRecursion IsOther commands → upgrade_lines (map text_of commands) ≡ 0
+none_of [] h = refl
+none_of (command ∷ commands) h = omega (arith, none_spelled command h.0, none_of commands h.1)
+
+no_upgrades : (seed count : ℕ) → upgrade_lines (lines_of (script_of seed count)) ≡ 0
+no_upgrades seed count =
+    ap (λ (l : List (List ℕ)). upgrade_lines l) (lines_of-commands (commands_of seed count) (script_is_plain seed count))
+    ∙ none_of (commands_of seed count) (tt, (tt, others_are (generated_commands seed count) (generated_are_ordinary seed count)))
+
 -- ---- completeness
 
 -- with room for 42 pages a line and no fault
@@ -82,12 +139,12 @@ work_complete tells old new seed count serving ending before now left told writt
     text : List ℕ
     text = script_of seed count
 
-    ample : IsAmple (Some text) text old.head old.capacity
-    ample = record { text_is = refl; short = omega (arith, script_is_short text seed count refl, few); room = omega (arith, room, script_has_lines text seed count refl) }
+    ample : IsAmple (Some text) text (mapped_of there) old.head old.capacity
+    ample = record { text_is = refl; short = omega (arith, script_is_short text seed count refl, few); room = rw (no_upgrades seed count) (omega (arith, room, script_has_lines text seed count refl)) }
 
     all : (s : AnswersScript tells old new 0 (Some text) left (Some []) told) → HasPut (summary seed count s.replies) (Ok tt) written written_now → ServesAll seed count there written written_now (Ok tt)
     all s put =
-        let complete = complete_with tells old new (Some text) left (Some []) told text there s (s.answered holds there stands served) ample in
+        let complete = complete_with tells old new (Some text) left (Some []) told text there s (s.answered holds there stands served) stands ample in
         record { told = told; all = complete.0; put = subst (λ (replies : List Reply). HasPut (summary seed count replies) (Ok tt) written written_now) (sym complete.1) put }
 
     go : (serving ending : Ending) → (s : AnswersScript tells old new (exit_of serving) (Some text) left (Some []) told) → Says seed count s.replies serving written written_now ending

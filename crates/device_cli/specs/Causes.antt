@@ -5,6 +5,7 @@ use Rattle.platform.specs.History.{History, Extends, image_at, moment}
 use Rattle.root_codec.specs.declared.root.Root.{Root}
 use Rattle.root_codec.specs.RootRecord.{FitsRoot, root_bytes}
 use Rattle.page_store.specs.Roots.{IsBadCell, IsRootWithin}
+use Rattle.device_core.specs.Upgrading.{Begins}
 use Rattle.device_session.specs.Damage.{IsFound, HasRoom}
 use Rattle.device_session.specs.Open.{blocks_of, is_touched, number_of, root_of}
 use Rattle.device_session.specs.Reading.{FindsContent}
@@ -23,17 +24,19 @@ use Rattle.device_cli.specs.World.{World}
 
 -- ---- stops
 
--- the command seals a page, and so draws a key
+-- the command seals pages, and so draws keys
 abbrev pub Draws : Command → Type 0
 Draws (commands.Format blocks order) = Unit {0}
 Draws (commands.Write block content) = Unit {0}
 Draws commands.Commit = Unit {0}
+Draws commands.Upgrade = Unit {0}
 Draws _ = ⊥
 
 -- it replaces the root record, and so puts an entry to the ledger
 abbrev pub PutsEntry : Command → Type 0
 PutsEntry (commands.Format blocks order) = Unit {0}
 PutsEntry commands.Commit = Unit {0}
+PutsEntry commands.Upgrade = Unit {0}
 PutsEntry _ = ⊥
 
 -- it calls the platform
@@ -45,15 +48,17 @@ CallsPlatform _ = Unit {0}
 -- it looks at the root record in the cell before it does anything with it
 abbrev pub JudgesRoot : Command → Type 0
 JudgesRoot commands.Mount = Unit {0}
+JudgesRoot commands.Upgrade = Unit {0}
 JudgesRoot commands.Seize = Unit {0}
 JudgesRoot _ = ⊥
 
--- it comes to the record at this address, which doesn't fit: a read to a place below the root record in the cell, and an update to such a one, or to the root node of a tree that is
--- miscounted
+-- it comes to the record at this address, which doesn't fit: a read to a place below the root record in the cell, and an update and an upgrade to such a one, or to the root node of a
+-- tree that is miscounted
 abbrev pub MeetsRecord : Type 0 → Image → Command → ℕ → Type 0
 MeetsRecord tells image (commands.Read block) addr = tells → IsWrongPlace image addr
 MeetsRecord tells image (commands.Write block content) addr = tells → IsWrongPage image addr
 MeetsRecord tells image (commands.Trim block) addr = tells → IsWrongPage image addr
+MeetsRecord tells image commands.Upgrade addr = tells → IsWrongPage image addr
 MeetsRecord tells image _ addr = ⊥
 
 -- there is a session, and it has this
@@ -66,13 +71,15 @@ abbrev pub OnMounted : Type 0 → Image → Option Session → (Session → Type
 OnMounted tells image held P = OnHeld held (λ session. (tells → image.cell ≡ Some (root_bytes (root_of session))) × P session)
 
 -- memory may lack at the command: none of its refusals comes before that. The numbers of a format are those of a device, and the cell is empty; a mount has no session, and the root record in the cell can be
--- served; an update is of a block of the device; a commit is of changes; the cell can be seized; and where a page is wanted, one is free. No other command takes memory
+-- served; an update is of a block of the device; a commit is of changes; an upgrade has no session, and the root record in the cell is of version 1, with as many pages free as it needs; the cell can be
+-- seized; and where a page is wanted, one is free. No other command takes memory
 abbrev pub LacksMemory : Type 0 → Option Session → Image → ℕ → ℕ → Command → Type 0
 LacksMemory tells held image head capacity (commands.Format blocks order) = (in_limits blocks order ≡ true) × (head < capacity) × (tells → image.cell ≡ None)
 LacksMemory tells held image head capacity commands.Mount = (held ≡ None) × (tells → (root : Root) × IsRootWithin head root × (image.cell ≡ Some (root_bytes root)))
 LacksMemory tells held image head capacity (commands.Write block content) = (head < capacity) × OnMounted tells image held (λ session. block < blocks_of session)
 LacksMemory tells held image head capacity (commands.Trim block) = OnMounted tells image held (λ session. block < blocks_of session)
 LacksMemory tells held image head capacity commands.Commit = (head < capacity) × OnMounted tells image held (λ session. is_touched session ≡ true)
+LacksMemory tells held image head capacity commands.Upgrade = (held ≡ None) × (root : Root) × Begins tells image head capacity root
 LacksMemory tells held image head capacity commands.Seize = tells → IsBadCell head image.cell → ⊥
 LacksMemory tells held image head capacity _ = ⊥
 
@@ -113,6 +120,14 @@ CanBeDone tells image held _ = ⊥
 abbrev pub HasNumber : Image → ℕ → Type 0
 HasNumber image number = (root : Root) × FitsRoot root × (image.cell ≡ Some (root_bytes root)) × (number ≡ root.commit)
 
+-- it has one of this version, which can be read
+abbrev pub HasVersion : Image → ℕ → Type 0
+HasVersion image version = (root : Root) × FitsRoot root × (image.cell ≡ Some (root_bytes root)) × (root.version ≡ version)
+
+-- it has one of version 1, whose next commit number this is
+abbrev pub IsNumberBehind : Image → ℕ → Type 0
+IsNumberBehind image number = (root : Root) × FitsRoot root × (image.cell ≡ Some (root_bytes root)) × (root.version ≡ 1) × (number ≡ root.commit + 1)
+
 -- the number of a commit of the session: the next one, if something was changed
 abbrev pub number_behind : Session → ℕ
 number_behind session = if is_touched session then number_of session + 1 else number_of session
@@ -132,12 +147,17 @@ IsOwnReply held commands.Commit given.Full = OnHeld held (λ session. is_touched
 IsOwnReply held commands.Drop given.Dropped = held ≢ None
 IsOwnReply held commands.Erase given.Erased = Unit {0}
 IsOwnReply held commands.Erase given.NoDevice = Unit {0}
+IsOwnReply held commands.Upgrade (given.Upgraded number) = held ≡ None
+IsOwnReply held commands.Upgrade given.AlreadyMounted = held ≢ None
+IsOwnReply held commands.Upgrade given.NoDevice = held ≡ None
+IsOwnReply held commands.Upgrade given.AlreadyUpgraded = held ≡ None
+IsOwnReply held commands.Upgrade given.Full = held ≡ None
 IsOwnReply held commands.Stat (given.Stat mapped number) = OnHeld held (λ session. (mapped ≡ session.mapped) × (number ≡ number_of session))
 IsOwnReply held commands.Seize (given.Seized pages nodes blocks) = Unit {0}
 IsOwnReply held _ _ = ⊥
 
 -- and it is so of the image: the cell is full where there is a device to be erased or in the way of a format, and empty where there is none or one is made; the number of a mount is that of the root record in
--- it; and a seizure of the image counts so many
+-- it; the root record is of version 1 where an upgrade is done, whose number is the next one, or pages lack for it, and of version 2 where it was done already; and a seizure of the image counts so many
 abbrev pub IsOfImage : Image → Command → Reply → Type 0
 IsOfImage image (commands.Format blocks order) given.Formatted = image.cell ≡ None
 IsOfImage image (commands.Format blocks order) given.NotEmpty = image.cell ≢ None
@@ -146,6 +166,10 @@ IsOfImage image commands.Mount (given.Mounted number) = HasNumber image number
 IsOfImage image commands.Mount given.NoDevice = image.cell ≡ None
 IsOfImage image commands.Erase given.Erased = image.cell ≢ None
 IsOfImage image commands.Erase given.NoDevice = image.cell ≡ None
+IsOfImage image commands.Upgrade (given.Upgraded number) = IsNumberBehind image number
+IsOfImage image commands.Upgrade given.NoDevice = image.cell ≡ None
+IsOfImage image commands.Upgrade given.AlreadyUpgraded = HasVersion image 2
+IsOfImage image commands.Upgrade given.Full = HasVersion image 1
 IsOfImage image commands.Seize (given.Seized pages nodes blocks) = IsCounted image pages nodes blocks
 IsOfImage image _ _ = Unit {0}
 

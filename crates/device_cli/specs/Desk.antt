@@ -1,13 +1,12 @@
 -- What a run may rely on between lines.
-use Rattle.std.specs.Prelude.{◌≡◌, ◌<◌, ◌≤◌, ◌+◌, ◌-◌, ℕ, Result, IfSome, IfOk, IfErr, OnOk, IsErrOf}
+use Rattle.std.specs.Prelude.{◌≡◌, ◌≤◌, ℕ, Result, IfSome, IfOk, IfErr, OnOk, IsErrOf}
 use Rattle.platform.specs.declared.platforms.Platform.{Ghosts}
 use Rattle.device_terms.specs.Served.{IsServedImage}
 use Rattle.script_lang.specs.Replies.{CanWrite, FitsBlock, said}
 use Rattle.script_lang.specs.declared.replies.Reply.{Reply as Given}
 use Rattle.script_lang.specs.declared.replies.Reply.TheVariants as given
 use Rattle.script_lang.specs.Commands.{Command}
-use Rattle.device_cli.specs.Added.{left_by}
-use Rattle.device_cli.specs.Pages.{needed_for}
+use Rattle.device_cli.specs.Added.{LacksPages, LeavesFew}
 use Rattle.device_cli.specs.World.{needed_of}
 use Rattle.line_run.specs.Stops.{IsOfLine}
 use Rattle.line_run.specs.declared.stop.Stop.{Stop}
@@ -44,8 +43,8 @@ pub record After {S : Type 0} (P : Ghosts S) (before desk : Desk) (old new : S) 
   pub bad_root : P.tells → IsErrOf result stops.BadRoot → ⊥
   pub capacity : P.capacity new ≡ P.capacity old
   pub rises : P.head old ≤ P.head new
-  pub added : IfErr result (λ stop. P.head new ≤ P.head old + left_by stop command (needed_of before.session))
-  pub full : IfOk result (λ reply. reply ≡ given.Full → P.capacity new - P.head new < needed_for command (needed_of before.session))
+  pub added : IfErr result (λ stop. LeavesFew P.tells (P.history old).present stop command (needed_of before.session) (P.head old) (P.head new))
+  pub full : IfOk result (λ reply. reply ≡ given.Full → LacksPages P.tells (P.history old).present command (needed_of before.session) (P.head new) (P.capacity new))
 
 -- what each line leaves for the next one; it stops neither for the input nor for a root record that can't be served
 pub record AfterLine {S : Type 0} (P : Ghosts S) (desk : Desk) (platform : S) (result : Result (Unit {0}) Stop) : Type 0 where

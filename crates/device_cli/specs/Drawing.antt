@@ -10,11 +10,12 @@ use Rattle.session_calls.specs.declared.stops.DeviceStop.{DeviceStop}
 use Rattle.device_cli.specs.Causes.{Draws, IsOf, PutsEntry}
 use Rattle.device_cli.specs.Pages.{IfNext}
 
--- a command with this reply drew these keys: a write that was done one, and a format and a commit that was done some; and else none
+-- a command with this reply drew these keys: a write that was done one, and a format, a commit and an upgrade that was done some; and else none
 abbrev pub AreDrawnFor : Command → Reply → List (List ℕ) → Type 0
 AreDrawnFor (commands.Format blocks order) given.Formatted keys = Unit {0}
 AreDrawnFor (commands.Write block content) given.Done keys = length keys ≡ 1
 AreDrawnFor commands.Commit (given.Committed number) keys = Unit {0}
+AreDrawnFor commands.Upgrade (given.Upgraded number) keys = Unit {0}
 AreDrawnFor _ _ keys = keys ≡ []
 
 -- the keys drawn now are those drawn before, and those of such a command

@@ -1,27 +1,34 @@
 -- Which replies belong to the lines of a script, on a medium of so many pages.
-use Rattle.std.specs.Prelude.{◌≡◌, ℕ, ◌+◌, ◌-◌, ◌*◌, ◌<◌, ◌≤◌, true, false, nat_lt, List, [], ◌∷◌, ◌⊎◌}
+use Rattle.std.specs.Prelude.{if◌then◌else◌, ◌≡◌, ℕ, ◌+◌, ◌-◌, ◌*◌, ◌<◌, ◌≤◌, ◌==◌, ◌&&◌, Bool, true, false, nat_lt, List, [], ◌∷◌, ◌⊎◌, codes}
 use Rattle.script_lang.specs.Grammar.{Spells, IsBad}
-use Rattle.script_lang.specs.Arrays.{needs_room}
+use Rattle.script_lang.specs.Arrays.{needs_room, on_device}
 use Rattle.sdbt_base.specs.Arrays.{State}
 use Rattle.script_lang.specs.Answers.{IsAnswer}
 use Rattle.script_lang.specs.Commands.{Command}
-use Rattle.script_lang.specs.Commands.{Format, Write, Commit}
+use Rattle.script_lang.specs.Commands.{Format, Write, Commit, Upgrade}
 use Rattle.script_lang.specs.Replies.{Reply}
-use Rattle.script_lang.specs.Replies.{Formatted, Mounted, Done, Committed, Bad, Full}
+use Rattle.script_lang.specs.Replies.{Formatted, Mounted, Done, Committed, Upgraded, Bad, Full}
+use Rattle.device_core.specs.Upgrading.{needed_of_device}
 
--- how many pages a command needs that is accepted, where a commit needs so many
-abbrev pub needed_for : Command → ℕ → ℕ
-needed_for (Format blocks order) changes = 1
-needed_for (Write block content) changes = 1
-needed_for Commit changes = changes
-needed_for _ changes = 0
+-- how many pages an upgrade of the state's device needs
+abbrev pub upgrade_of : State → ℕ
+upgrade_of state = on_device state.device 0 needed_of_device
+
+-- how many pages a command needs that is accepted, where a commit needs so many, and an upgrade so many
+abbrev pub needed_for : Command → ℕ → ℕ → ℕ
+needed_for (Format blocks order) changes upgrade = 1
+needed_for (Write block content) changes upgrade = 1
+needed_for Commit changes upgrade = changes
+needed_for Upgrade changes upgrade = upgrade
+needed_for _ changes upgrade = 0
 
 -- after so many updates a command needs so many pages: one where it is a format or a write that is accepted, at least one and at most 41 for each update
--- where it is a commit of changes, and else none
+-- where it is a commit of changes, exactly those of the device where it is an upgrade that is accepted, and else none
 pub record Needs (state : State) (command : Command) (updates needed : ℕ) : Type 0 where
-  pub within : needed ≤ needed_for command (41 * updates)
+  pub within : needed ≤ needed_for command (41 * updates) (upgrade_of state)
   pub some : needs_room state command ≡ true → 1 ≤ needed
   pub none : needs_room state command ≡ false → needed ≡ 0
+  pub exact : command ≡ Upgrade → needs_room state command ≡ true → needed ≡ upgrade_of state
 
 -- how many pages there are after a reply to a command that needs so many
 abbrev pub pages_after : Reply → ℕ → ℕ → ℕ
@@ -66,9 +73,23 @@ abbrev pub accepted : List Reply → ℕ
 accepted [] = 0
 accepted (reply ∷ replies) = accepted_by reply + accepted replies
 
--- too few pages are free for a command: none for a format or a write, and fewer than 41 for each update for a commit
+-- how many upgrades were accepted
+abbrev pub upgraded_by : Reply → ℕ
+upgraded_by (Upgraded number) = 1
+upgraded_by _ = 0
+
+abbrev pub upgrades : List Reply → ℕ
+upgrades [] = 0
+upgrades (reply ∷ replies) = upgraded_by reply + upgrades replies
+
+-- how many pages an upgrade needs at most, where so many blocks are mapped at most
+abbrev pub most_upgrade : ℕ → ℕ
+most_upgrade mapped = 2 * mapped + 1
+
+-- too few pages are free for a command: none for a format or a write, fewer than 41 for each update for a commit, and fewer than some upgrade of a device needs
 abbrev pub IsShort : Command → ℕ → ℕ → ℕ → Type 0
 IsShort Commit updates head capacity = capacity - head < 41 * updates
+IsShort Upgrade updates head capacity = capacity - head < most_upgrade 1048576
 IsShort _ updates head capacity = head ≡ capacity
 
 -- what the replies to these lines say that are `full`, holds with so many pages, where so many updates came before
@@ -78,6 +99,26 @@ AreShort head capacity updates [] (reply ∷ replies) = ⊥
 AreShort head capacity updates (line ∷ lines) (reply ∷ replies) =
     (reply ≡ Full → (command : Command) × Spells line command × IsShort command updates head capacity)
     × AreShort head capacity (updates_after reply updates) lines replies
+
+-- and what those to `upgrade` lines say, where so many blocks were mapped at most before: fewer pages are free than an upgrade needs of a device with these,
+-- and one more for each line before
+abbrev pub AreFew : ℕ → ℕ → ℕ → List (List ℕ) → List Reply → Type 0
+AreFew head capacity mapped lines [] = Unit {0}
+AreFew head capacity mapped [] (reply ∷ replies) = ⊥
+AreFew head capacity mapped (line ∷ lines) (reply ∷ replies) =
+    (Spells line Upgrade → reply ≡ Full → capacity - head < most_upgrade mapped) × AreFew head capacity (mapped + 1) lines replies
+
+-- whether two texts are the same
+abbrev pub is_same : List ℕ → List ℕ → Bool
+is_same [] [] = true
+is_same [] (byte ∷ bytes) = false
+is_same (byte ∷ bytes) [] = false
+is_same (byte ∷ bytes) (other ∷ others) = (byte == other) && is_same bytes others
+
+-- how many of these lines spell `upgrade`
+abbrev pub upgrade_lines : List (List ℕ) → ℕ
+upgrade_lines [] = 0
+upgrade_lines (line ∷ lines) = (if is_same line (codes "upgrade") then 1 else 0) + upgrade_lines lines
 
 -- the line after those that have replies
 abbrev pub IfNext : List Reply → List (List ℕ) → (List ℕ → Type 0) → Type 0

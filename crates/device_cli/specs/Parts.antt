@@ -3,11 +3,14 @@ use Rattle.std.specs.Prelude.{◌≡◌, ℕ, ◌+◌, ◌≤◌, List, Option, 
 use Rattle.sdbt_base.specs.Arrays.{State}
 use Rattle.sdbt_base.specs.declared.sinks.Sink.{Ghosts as SinkGhosts}
 use Rattle.sdbt_base.specs.declared.tapes.Tape.{Ghosts as TapeGhosts}
+use Rattle.platform.specs.Image.{Image}
 use Rattle.platform.specs.History.{moment}
 use Rattle.platform.specs.declared.platforms.Platform.{Ghosts as PlatformGhosts}
-use Rattle.script_lang.specs.Commands.{Command, Format, Write, Commit}
-use Rattle.script_lang.specs.Replies.{Reply, Formatted, Done, Committed}
+use Rattle.script_lang.specs.Commands.{Command, Format, Write, Commit, Upgrade}
+use Rattle.script_lang.specs.Replies.{Reply, Formatted, Done, Committed, Upgraded}
 use Rattle.script_lang.specs.declared.replies.Reply.{Reply as Given}
+use Rattle.root_codec.specs.declared.root.Root.{Root}
+use Rattle.device_core.specs.Upgrading.{IsOn, needed_of_root}
 use Rattle.device_course.specs.Keys.{KeepsOn}
 use Rattle.device_course.specs.States.{IsListed}
 use Rattle.device_cli.specs.Looks.{IsLook, IsWarmFor, block_read, most_reads}
@@ -54,17 +57,23 @@ abbrev pub ServesAny : {S : Type 0} → PlatformGhosts S → Desk → Desk → S
 ServesAny P desk now platform platform_now command result = (entry : State) → Represents (world_at P desk platform) entry
     → Serves (world_at P desk platform) (world_at P now platform_now) entry command (outcome result now.buffer)
 
--- how many pages a command adds that has a reply, where a commit needs so many
-abbrev pub added_by : Command → Reply → ℕ → ℕ
-added_by (Format blocks order) Formatted changes = 1
-added_by (Write block content) Done changes = 1
-added_by Commit (Committed number) changes = changes
-added_by _ _ changes = 0
+-- how many pages a command adds that has a reply, where a commit needs so many, and an upgrade so many
+abbrev pub added_by : Command → Reply → ℕ → ℕ → ℕ
+added_by (Format blocks order) Formatted changes upgrade = 1
+added_by (Write block content) Done changes upgrade = 1
+added_by Commit (Committed number) changes upgrade = changes
+added_by Upgrade (Upgraded number) changes upgrade = upgrade
+added_by _ _ changes upgrade = 0
+
+-- a command that has a reply led from so many pages to so many, on any image: an upgrade that is done added those that the root record in the cell needs
+abbrev pub Adds : Type 0 → Image → Command → Reply → ℕ → ℕ → ℕ → Type 0
+Adds tells image Upgrade (Upgraded number) changes head now = (root : Root) × IsOn tells image head root × (now ≡ head + needed_of_root root)
+Adds tells image command reply changes head now = now ≡ head + added_by command reply changes 0
 
 -- where a command has a reply, it added so many pages
 abbrev pub AddsPages : {S : Type 0} → PlatformGhosts S → Desk → Desk → S → S → Command → Result Given DeviceStop → Type 0
 AddsPages P desk now platform platform_now command result =
-    IfOk (outcome result now.buffer) (λ reply. P.head platform_now ≡ P.head platform + added_by command reply (needed_of desk.session))
+    IfOk (outcome result now.buffer) (λ reply. Adds P.tells (P.history platform).present command reply (needed_of desk.session) (P.head platform) (P.head platform_now))
 
 -- and as many updates as there are then are enough for a commit, if they were before
 abbrev pub StaysEnough : Desk → Desk → Result Given DeviceStop → Type 0

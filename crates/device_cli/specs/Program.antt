@@ -16,7 +16,7 @@ use Rattle.device_cli.specs.Represents.{StandsFor}
 use Rattle.session_calls.specs.Handed.{IsBlamedAt}
 use Rattle.device_cli.specs.Run.{IsStatus, Took}
 use Rattle.sdbt_base.specs.Counts.{NoneRose}
-use Rattle.device_cli.specs.Seen.{SeizesMaps}
+use Rattle.device_cli.specs.Seen.{SeizesMaps, mapped_of}
 use Rattle.session_calls.specs.Cells.{IsUntouched}
 use Rattle.session_calls.specs.declared.stops.DeviceStop.TheVariants as device
 use Rattle.device_cli.specs.Words.{AreWords, AreServingWords, AreLineWords, AreCheckWords, AreSeizeWords, AreSomeWorkWords, records_of}
@@ -47,14 +47,14 @@ pub record Refuses {S R I O L : Type 0} (tells : Type 0) (words : List (List ℕ
   pub other_words : status ≡ 2 → (new.platform ≡ old.platform) × (new.tape ≡ old.tape) × (new.input ≡ old.input) × (new.output ≡ old.output) × (new.ledger ≡ old.ledger)
 
 -- a run: the bytes put are the lines of replies, one for each line in turn, and perhaps a part behind them; on a device that stands they are the replies of an array of
--- blocks, and at each moment a loss of power leaves a device that they passed. With room for 42 pages a line, a short input and no fault each line has its reply, unless
--- no memory is given to one that takes some, and is not refused
+-- blocks, and at each moment a loss of power leaves a device that they passed. With room for 42 pages a line and for each upgrade, a short input and no fault each line has its reply,
+-- unless no memory is given to one that takes some, and is not refused
 pub record ServesScript {S R I O L : Type 0} (tells : Type 0) (status : ℕ) (old new : Handed S R I O L) : Type 0 where
   pub answers : AnswersScript tells old.world new.world status old.left new.left old.written new.written
-  -- no line draws a key but a `format`, `write` or `commit` that is done, of which a write draws one; and perhaps one of these that was cut short
+  -- no line draws a key but a `format`, `write`, `commit` or `upgrade` that is done, of which a write draws one; and perhaps one of these that was cut short
   pub drew : DrewUntil old.drawn answers.lines answers.replies new.drawn
   pub complete : tells → (there : Option Device) → StandsFor old.world.history.present there → IsServedImage old.world.history.present
-      → (text : List ℕ) → IsAmple old.left text old.world.head old.world.capacity → NoneRose old.counts new.counts
+      → (text : List ℕ) → IsAmple old.left text (mapped_of there) old.world.head old.world.capacity → NoneRose old.counts new.counts
       → ((status ≡ 11) × IfNext answers.replies answers.lines (IsOf (HasLacked tells new.world.history.present new.world.head new.world.capacity))) ⊎ ((status ≡ 0) × IsComplete (closed there) text old.written new.written)
 
 -- chains of opening from the root key reach at each moment exactly the device's records, and what was deleted never; and under the premises on keys a seizure counts at each

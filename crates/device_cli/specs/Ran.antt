@@ -7,13 +7,15 @@ use Rattle.text_lines.specs.Lines.{whole_lines_of, lines_of}
 use Rattle.script_lang.specs.Replies.{line_of, Reply, Full}
 use Rattle.sdbt_base.specs.Arrays.{State, Device, closed}
 use Rattle.script_lang.specs.Answers.{Answers}
+use Rattle.script_lang.specs.Commands.{Upgrade}
+use Rattle.script_lang.specs.Grammar.{Spells}
 use Rattle.device_cli.specs.Causes.{Draws, PutsEntry, HasLacked, MeetsRecord, IsOf, AreSo}
 use Rattle.device_cli.specs.Looks.{AreLooks}
 use Rattle.device_cli.specs.World.{World}
 use Rattle.device_cli.specs.Represents.{StandsFor}
-use Rattle.device_cli.specs.Pages.{needed_for, updates_of, accepted, AnswersOn, AreShort, IfNext}
+use Rattle.device_cli.specs.Pages.{needed_for, updates_of, upgrade_of, accepted, upgrades, most_upgrade, upgrade_lines, AnswersOn, AreShort, AreFew, IfNext}
 use Rattle.device_cli.specs.Added.{left_by, HasAdded}
-use Rattle.device_cli.specs.Seen.{SeenOn}
+use Rattle.device_cli.specs.Seen.{SeenOn, mapped_of}
 use Rattle.platform.specs.History.{moment}
 use Rattle.line_run.specs.Runs as lines
 use Rattle.line_run.specs.Stops.{Ending}
@@ -31,6 +33,10 @@ replies_in tells last old new ending lines a b handled = length handled.replied.
 abbrev pub Ran : Type 0 → World → World → (DeviceStop → List ℕ) → Ending → Option (List ℕ) → Option (List ℕ) → Option (List ℕ) → Option (List ℕ) → Type 0
 Ran tells old new last ending left left_now written written_now = lines.Ran (λ before now. Handled tells before now last) (replies_in tells last) old new ending left left_now written written_now
 
+-- how many pages there are at most after these replies, from a state at entry with so many on
+abbrev pub most_pages : ℕ → State → List Reply → ℕ
+most_pages pages entry replies = pages + 42 * accepted replies + upgrades replies * most_upgrade (mapped_of entry.device + length replies)
+
 -- the replies are those of the array, from the state at entry on, where a run ends with this status: at 0, 3 and 12 the
 -- image at the exit stands for the state after them; at 4 for the one that one more reply leads to, of whose line a first
 -- part was put; never does damage end it
@@ -45,12 +51,17 @@ pub record AnswersFrom (old new : World) (status : ℕ) (entry : State) (lines :
   pub next : status ≡ 4 → (reply : Reply) × (then : State) × AnswersOn old.capacity entry old.head 0 lines (replies ++ reply ∷ []) then new.head
       × IsFirstPart (line_of reply) part × StandsFor new.history.present then.device
   pub sound : (status ≢ 8) × (status ≢ 9)
-  -- a command that was cut short may have added the pages that it needs, but none where no memory was given, nor, but for a commit, where no key was
-  pub near : HasAdded (λ command. needed_for command (41 * updates_of 0 replies)) lines replies pages new.head
-  pub keyless : status ≡ 6 → HasAdded (λ command. left_by device.Tape command (41 * updates_of 0 replies)) lines replies pages new.head
+  -- a command that was cut short may have added the pages that it needs, but none where no memory was given, nor, but for a commit and an upgrade, where no key was
+  pub near : HasAdded (λ command. needed_for command (41 * updates_of 0 replies) (upgrade_of now)) lines replies pages new.head
+  pub keyless : status ≡ 6 → HasAdded (λ command. left_by device.Tape command (41 * updates_of 0 replies) (upgrade_of now)) lines replies pages new.head
   pub exact : status ≡ 11 → new.head ≡ pages
-  -- an update adds 42 pages at most: one, and 41 with its commit; and one more may be there of a command that was cut short
-  pub bound : (pages ≤ old.head + 42 * accepted replies) × (new.head ≤ old.head + 42 * accepted replies + 1)
+  -- an update adds 42 pages at most: one, and 41 with its commit; and an upgrade two for each mapped block, and one, where each line maps one more at most. One more may be there of
+  -- a command that was cut short, or as many as an upgrade needs, where it was one
+  pub bound : pages ≤ most_pages old.head entry replies
+  pub cut_bound : (new.head ≤ most_pages old.head entry replies + 1)
+      ⊎ (IfNext replies lines (λ line. Spells line Upgrade) × (new.head ≤ most_pages old.head entry replies + most_upgrade (mapped_of entry.device + length replies)))
+  -- a reply to an `upgrade` line that too few pages were free is true for good, of how many blocks can be mapped then
+  pub few : AreFew new.head old.capacity (mapped_of entry.device) lines replies
   -- at each moment a loss of power leaves a device that the replies passed, in their order; at 4 and 5 perhaps the one
   -- after one more reply. The last moment has the device after all of them, or that one more
   pub ahead : List Reply
@@ -104,8 +115,9 @@ pub record IsComplete (entry : State) (text : List ℕ) (written written_now : O
   pub each : length replies ≡ length (lines_of text)
   pub roomy : All (λ r. r ≢ Full) replies
 
--- the input is a text of less than 2^32 bytes, and at least 42 pages are free for each of its lines
-pub record IsAmple (left : Option (List ℕ)) (text : List ℕ) (head capacity : ℕ) : Type 0 where
+-- the input is a text of less than 2^32 bytes, and at least 42 pages are free for each of its lines, and as many for each that spells `upgrade` as one needs at most, where so
+-- many blocks are mapped at the start
+pub record IsAmple (left : Option (List ℕ)) (text : List ℕ) (mapped head capacity : ℕ) : Type 0 where
   pub text_is : left ≡ Some text
   pub short : length text < 2 ^ 32
-  pub room : head + 42 * length (lines_of text) ≤ capacity
+  pub room : head + 42 * length (lines_of text) + upgrade_lines (lines_of text) * most_upgrade (mapped + length (lines_of text)) ≤ capacity

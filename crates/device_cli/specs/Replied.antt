@@ -17,7 +17,7 @@ use Rattle.device_cli.specs.World.{World, is_full, AreEnough, IsLater}
 use Rattle.device_course.specs.Marks.{Leaves, mark_at, last_mark}
 use Rattle.device_course.specs.Course.{Made}
 use Rattle.device_cli.specs.Represents.{Represents, Stood, StandsFor}
-use Rattle.device_cli.specs.Pages.{updates_of, AnswersOn, AreShort, IfNext}
+use Rattle.device_cli.specs.Pages.{updates_of, upgrade_of, AnswersOn, AreShort, IfNext}
 use Rattle.device_cli.specs.Seen.{SeenOn}
 use Rattle.device_cli.specs.Added.{IsNear}
 use Rattle.line_run.specs.declared.stop.Stop.TheVariants as stops
@@ -94,7 +94,7 @@ pub record Answered (old new : World) (ending : Ending) (entry : State) (updates
   pub answers : AnswersOn old.capacity entry old.head updates lines replies now pages
   pub seen : SeenOn old.capacity new.history (moment old.history) entry old.head updates lines replies now pages
   pub ends : EndsIn old new entry updates lines replies part now pages ending
-  pub near : IsNear ending (updates_of updates replies) lines replies pages new.head
+  pub near : IsNear ending (updates_of updates replies) (upgrade_of now) lines replies pages new.head
   pub ahead : List Reply
   pub is_ahead : IsAhead ending ahead
   pub marks : List (Option Device)
@@ -133,7 +133,7 @@ outcome (Err stop) buffer = Err stop
 -- from which on it leaves the device after the command
 abbrev pub Halts : World → World → State → Command → DeviceStop → Type 0
 Halts old new entry command device.Platform =
-    Turns old.history new.history (Leaves entry.device) (Leaves (answer (is_full old command) none_counted entry command).1.device)
+    Turns old.history new.history (Leaves entry.device) (Leaves (answer (is_full old entry command) none_counted entry command).1.device)
 Halts old new entry command device.Tape = During old.history new.history (Leaves entry.device)
 Halts old new entry command device.Ledger = During old.history new.history (Leaves entry.device)
 Halts old new entry command device.Memory = During old.history new.history (Leaves entry.device)
@@ -144,6 +144,6 @@ Halts old new entry command (device.BadRecord addr) = ⊥
 -- free, and the state after it; or a stop without damage
 abbrev pub Serves : World → World → State → Command → Result Reply DeviceStop → Type 0
 Serves old new entry command (Ok reply) =
-    (now : State) × IsAnswer (is_full old command) entry command reply now × Represents new now
+    (now : State) × IsAnswer (is_full old entry command) entry command reply now × Represents new now
     × Turns old.history new.history (Leaves entry.device) (Leaves now.device)
 Serves old new entry command (Err stop) = Halts old new entry command stop

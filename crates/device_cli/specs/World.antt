@@ -1,12 +1,13 @@
 -- What a run works on.
 use Rattle.std.specs.Prelude.{◌≡◌, ℕ, ◌-◌, ◌*◌, ◌≤◌, Bool, nat_lt, List, Option, None, Some}
+use Rattle.sdbt_base.specs.Arrays.{State}
 use Rattle.sdbt_base.specs.declared.tapes.Tape.{Ghosts as TapeGhosts}
 use Rattle.platform.specs.History.{History}
 use Rattle.platform.specs.declared.platforms.Platform.{Ghosts}
 use Rattle.device_session.specs.Open.{needed_by}
 use Rattle.device_session.specs.Sessions.{Session}
 use Rattle.script_lang.specs.Commands.{Command}
-use Rattle.device_cli.specs.Pages.{needed_for}
+use Rattle.device_cli.specs.Pages.{needed_for, upgrade_of}
 
 -- the session, if one is open; the moments of the platform; how many pages it has, and how many it can have; how many page reads were made; and the keys that the tape drew
 pub record World : Type 0 where
@@ -36,9 +37,9 @@ abbrev pub needed_of : Option Session → ℕ
 needed_of None = 0
 needed_of (Some session) = needed_by session
 
--- whether fewer pages are free than a command needs
-abbrev pub is_full : World → Command → Bool
-is_full w command = nat_lt (w.capacity - w.head) (needed_for command (needed_of w.session))
+-- whether fewer pages are free than a command needs, in a state that the world stands for
+abbrev pub is_full : World → State → Command → Bool
+is_full w state command = nat_lt (w.capacity - w.head) (needed_for command (needed_of w.session) (upgrade_of state))
 
 -- 41 pages for each of so many updates are enough for a commit of the session's changes
 abbrev pub AreEnough : Option Session → ℕ → Type 0

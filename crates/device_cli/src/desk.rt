@@ -20,7 +20,8 @@ use script_lang::{Command, Reply, ReplyWriter, is_in_limits, reply_with_content}
 use sdbt_base::{BLOCK, ROOT, Sink, Tape};
 use seizure::{Report, SeizeRefusal};
 use session_calls::{
-    DeviceStop, commit_session, mount_session, read_block, trim_block, write_block,
+    DeviceStop, UpgradeReply, commit_session, mount_session, read_block, trim_block,
+    upgrade_device, write_block,
 };
 use std::alloc::Global;
 
@@ -89,6 +90,7 @@ impl Desk {
             Command::Commit => self.commit(platform, tape, ledger),
             Command::Drop => self.give_up(platform),
             Command::Erase => self.erase(platform),
+            Command::Upgrade => self.upgrade(platform, tape, ledger),
             Command::Stat => self.stat(platform),
             Command::Seize => self.seize(platform),
         }
@@ -289,6 +291,36 @@ impl Desk {
             }
             Err(EraseRefusal::NoDevice) => Ok(Reply::NoDevice),
             Err(EraseRefusal::PlatformFault) => Err(DeviceStop::Platform),
+        }
+    }
+
+    /// Makes a device of version 1 one of version 2, where no session is open on it.
+    fn upgrade<P: Platform, T: Tape, L: Sink>(
+        &self,
+        platform: &mut P,
+        tape: &mut T,
+        ledger: &mut L,
+    ) -> Result<Reply, DeviceStop>
+        requires { Before P.Platform self.now platform.old }
+        ensures after { After P.Platform self.now self.now platform.old platform.new commands.Upgrade result }
+        ensures blame { IsBlamed (counts (P.faults platform.old) (T.faults tape.old) 0 0 (L.faults ledger.old))
+            (counts (P.faults platform.new) (T.faults tape.new) 0 0 (L.faults ledger.new)) result }
+        ensures any { AnswersAny P.tells (world_of P.Platform self.now.session platform.old) (world_of P.Platform self.now.session platform.new) commands.Upgrade (outcome result self.now.buffer) }
+        ensures pages { AddsPages P.Platform self.now self.now platform.old platform.new commands.Upgrade result }
+        ensures drew { IfOk (outcome result self.now.buffer) (λ reply. DrewFor (T.drawn tape.old) commands.Upgrade reply (T.drawn tape.new)) }
+        ensures enough { StaysEnough self.now self.now result }
+        ensures keeps { Keeps P.Platform T.Tape L.Sink self.now self.now platform.old platform.new tape.old tape.new ledger.old ledger.new result }
+        ensures answered { P.tells → ServesAny P.Platform self.now self.now platform.old platform.new commands.Upgrade result }
+    {
+        if self.session.is_some() {
+            return Ok(Reply::AlreadyMounted);
+        }
+        let reply = upgrade_device(self.alloc, platform, tape, ledger)?;
+        match reply {
+            UpgradeReply::Upgraded { number } => Ok(Reply::Upgraded { number }),
+            UpgradeReply::NoDevice => Ok(Reply::NoDevice),
+            UpgradeReply::AlreadyUpgraded => Ok(Reply::AlreadyUpgraded),
+            UpgradeReply::Full => Ok(Reply::Full),
         }
     }
 

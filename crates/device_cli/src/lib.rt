@@ -33,7 +33,7 @@ use working::work;
 /// Serves what the words ask for, and answers the exit status.
 ///
 /// With no words, or `run`, it serves the script that `input` gives: each whole line before more input is
-/// taken, and one reply put to `output` for each line. `ledger` gets an entry before each format and each commit of changes is done:
+/// taken, and one reply put to `output` for each line. `ledger` gets an entry before each format, each commit of changes and each upgrade is done:
 /// a certificate, which says what it adds and what it deletes. With `check` it judges the ledger that `input` gives for the root record
 /// in the cell, and puts one line. With `seize` it takes nothing, and puts a line for each body that the root record in the cell opens,
 /// and one with their numbers; behind that word come up to 64 earlier root records of 256 hex digits each, and what they open is told too.

@@ -67,6 +67,7 @@ told_record tells image commands.Mount addr told meets = meets
 told_record tells image commands.Commit addr told meets = meets
 told_record tells image commands.Drop addr told meets = meets
 told_record tells image commands.Erase addr told meets = meets
+told_record tells image commands.Upgrade addr told meets = λ _. meets told
 told_record tells image commands.Stat addr told meets = meets
 told_record tells image commands.Seize addr told meets = meets
 

@@ -28,6 +28,7 @@ told_content tells image held (commands.Trim block) bytes told h = absurd h
 told_content tells image held commands.Commit bytes told h = absurd h
 told_content tells image held commands.Drop bytes told h = absurd h
 told_content tells image held commands.Erase bytes told h = absurd h
+told_content tells image held commands.Upgrade bytes told h = absurd h
 told_content tells image held commands.Stat bytes told h = absurd h
 told_content tells image held commands.Seize bytes told h = absurd h
 
@@ -40,6 +41,7 @@ told_done tells image held (commands.Read block) told h = absurd h
 told_done tells image held commands.Commit told h = absurd h
 told_done tells image held commands.Drop told h = absurd h
 told_done tells image held commands.Erase told h = absurd h
+told_done tells image held commands.Upgrade told h = absurd h
 told_done tells image held commands.Stat told h = absurd h
 told_done tells image held commands.Seize told h = absurd h
 
@@ -53,12 +55,14 @@ told_reply tells image held command (given.Mounted number) told h = (h.0, λ _. 
 told_reply tells image held command (given.Committed number) told h = (h.0, λ _. h.1 told)
 told_reply tells image held command given.Dropped told h = (h.0, λ _. h.1 told)
 told_reply tells image held command given.Erased told h = (h.0, λ _. h.1 told)
+told_reply tells image held command (given.Upgraded number) told h = (h.0, λ _. h.1 told)
 told_reply tells image held command (given.Stat mapped number) told h = (h.0, λ _. h.1 told)
 told_reply tells image held command (given.Seized pages nodes blocks) told h = (h.0, λ _. h.1 told)
 told_reply tells image held command given.Bad told h = (h.0, λ _. h.1 told)
 told_reply tells image held command given.AlreadyMounted told h = (h.0, λ _. h.1 told)
 told_reply tells image held command given.NotEmpty told h = (h.0, λ _. h.1 told)
 told_reply tells image held command given.NoDevice told h = (h.0, λ _. h.1 told)
+told_reply tells image held command given.AlreadyUpgraded told h = (h.0, λ _. h.1 told)
 told_reply tells image held command given.Full told h = (h.0, λ _. h.1 told)
 
 told_line : (tells : Type 0) (history : History) (from : ℕ) (line : List ℕ) (reply : Reply) → tells → (IsBad line × (reply ≡ given.Bad)) ⊎ IsOf (λ command. WasSo tells history from command reply) line
@@ -95,6 +99,8 @@ told_lacks tells held image head capacity commands.Mount told h = (h.0, λ _. h.
 told_lacks tells held image head capacity (commands.Write block content) told h = (h.0, told_mounted tells image held (λ (s : Session). block < blocks_of s) told h.1)
 told_lacks tells held image head capacity (commands.Trim block) told h = told_mounted tells image held (λ (s : Session). block < blocks_of s) told h
 told_lacks tells held image head capacity commands.Commit told h = (h.0, told_mounted tells image held (λ (s : Session). is_touched s ≡ true) told h.1)
+told_lacks tells held image head capacity commands.Upgrade told h =
+    (h.0, h.1, record { on = record { within = h.2.on.within; cell = λ _. h.2.on.cell told }; version = h.2.version; room = h.2.room })
 told_lacks tells held image head capacity commands.Seize told h = λ _ bad. h told bad
 told_lacks tells held image head capacity (commands.Read block) told h = absurd h
 told_lacks tells held image head capacity commands.Drop told h = absurd h

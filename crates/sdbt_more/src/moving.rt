@@ -5,6 +5,7 @@ use crate::{FAULTY, NO_DEVICE, NOT_READY};
 use folder_files::{LockFile, StdFiles, open_in_folders};
 use folder_objects::{Ended, NotReady, Watched, open_keys, open_ledger, reason_of, tell_open_cell};
 use folder_platform::{FolderPlatform, InFolder};
+use page_store::current;
 use platform::Platform;
 use sdbt_base::{Tape, WriteSink};
 use std::alloc::Global;
@@ -286,6 +287,7 @@ where
     let mut ledger = open_ledger(rt, to.folder)?;
     let mut source = Watched::new(source, rt, NAME, at_terminal);
     let mut output = WriteSink::new(io::writer(rt));
+    let was_upgraded = has_upgraded(&mut source);
     let status = run_transfer(
         rt.alloc(),
         &[],
@@ -295,5 +297,19 @@ where
         &mut output,
         &mut ledger,
     );
+    if status == 0 && was_upgraded && !has_upgraded(&mut target) {
+        let _ = eprintln!(rt;
+            "{NAME}: {}: the device is of version 1 here; upgrade makes it 2",
+            to.folder
+        );
+    }
     Ok((status, source.into_inner(), target))
+}
+
+/// Whether a platform has a device of version 2, as far as its root record can be read.
+fn has_upgraded<P: Platform>(platform: &mut P) -> bool {
+    match current(platform) {
+        Ok(Some(root)) => root.version == 2,
+        _ => false,
+    }
 }

@@ -26,7 +26,9 @@ A transfer copies all blocks to TO, commits them there, and then clears the root
 pages stay, and no root record leads to them any more. TO has no device before, or one of the same
 size that was never written, or one with the same blocks: then nothing is copied. It may be stopped
 at any time and run again: FROM is as it was until TO has all. A stopped copy begins anew, and its
-pages stay on TO. For 2^20 blocks it takes 4.5 GB on TO and 330 MB of memory.
+pages stay on TO. For 2^20 blocks it takes 4.5 GB on TO and 330 MB of memory. The device on TO is of
+version 1; where that on FROM was of version 2, a line on standard error says so, and sdbt's line
+upgrade makes it 2.
 
 Without a word it serves the script on standard input over a device in memory, as sdbt does, and
 then moves that device to a second one in memory.
@@ -91,4 +93,4 @@ EXAMPLE
 ";
 
 /// The version of the program.
-pub const VERSION: &str = "sdbt_more 0.2.6\n";
+pub const VERSION: &str = "sdbt_more 0.2.7\n";

@@ -37,6 +37,7 @@ full_as_said given.Done buffer X full e = cc
 full_as_said (given.Committed number) buffer X full e = cc
 full_as_said given.Dropped buffer X full e = cc
 full_as_said given.Erased buffer X full e = cc
+full_as_said (given.Upgraded number) buffer X full e = cc
 full_as_said (given.Stat mapped number) buffer X full e = cc
 full_as_said (given.Seized pages nodes blocks) buffer X full e = cc
 full_as_said given.Bad buffer X full e = cc
@@ -44,6 +45,7 @@ full_as_said given.Unmounted buffer X full e = cc
 full_as_said given.AlreadyMounted buffer X full e = cc
 full_as_said given.NotEmpty buffer X full e = cc
 full_as_said given.NoDevice buffer X full e = cc
+full_as_said given.AlreadyUpgraded buffer X full e = cc
 full_as_said given.Range buffer X full e = cc
 
 pub returns-in-Ok-clause-handled : goal.returns-in-Ok-clause-handled
@@ -60,9 +62,9 @@ returns-in-Ok-clause-handled g c text kept =
     Handled-line P.tells old new no_line text reply c.put_reply-in-Ok.result (written c.args.output.now) (written c.put_reply-in-Ok.new.output)
     later (until_line old.drawn new.drawn text reply spent.0 (inr (command, c.in-Some.ensures.found text kept, spent.1)) spent.2)
     (until_cut old.drawn new.drawn text command spent.0 (c.in-Some.ensures.found text kept) (λ none. ap g.T.Tape.drawn (c.in-Ok.ensures.still.undrawn none)) spent.2) (so_line P.tells old.history new.history text reply (λ told. extended told) (so_there P.tells c.args.desk.now.session _ old.history new.history text command reply (c.in-Some.ensures.found text kept) c.requires.ready c.requires.mounted (λ told. extended told) c.in-Ok.ensures.any))
-    (tells_short old new text command reply (c.in-Some.ensures.found text kept) later (full_as_said c.in-Ok.reply c.serve.new.self.buffer _ c.in-Ok.ensures.after.full)) c.in-Ok.ensures.enough
+    (tells_short P.tells old.history.present old new text command reply (c.in-Some.ensures.found text kept) later (full_as_said c.in-Ok.reply c.serve.new.self.buffer _ c.in-Ok.ensures.after.full)) c.in-Ok.ensures.enough
     (looks_line P.tells old new text command _ (c.in-Some.ensures.found text kept) (λ told before warm look. let few = c.in-Ok.ensures.looks told before warm look in (few.0, λ done. few.1 refl)))
-    (λ told entry updates rep enough. turned_command old new entry updates text command reply (c.in-Some.ensures.found text kept) c.requires.ready
+    (λ told entry updates rep enough. turned_command P.tells old new entry updates text command reply told (c.in-Some.ensures.found text kept) c.requires.ready
     (served_at _ _ (c.serve.ensures.keeps.serves told (c.requires.cell told))) c.in-Ok.ensures.pages
     (c.in-Ok.ensures.seen told entry rep.there) rep enough (c.in-Ok.ensures.answered told entry rep.there))
     c.put_reply-in-Ok.ensures.put

@@ -154,7 +154,7 @@ returns-then-not-is_in_limits-clause-enough g c updates enough =
 
 pub returns-then-not-is_in_limits-clause-pages : goal.returns-then-not-is_in_limits-clause-pages
 returns-then-not-is_in_limits-clause-pages g c =
-    pages_refused c.refuse_format.result c.args.self.now.buffer c.args.blocks c.args.order (needed_of c.args.self.now.session) _ _ c.refuse_format.ensures.either c.refuse_format.ensures.head
+    pages_refused g.P.Platform.tells (g.P.Platform.history c.args.platform.now).present c.refuse_format.result c.args.self.now.buffer c.args.blocks c.args.order (needed_of c.args.self.now.session) _ _ c.refuse_format.ensures.either c.refuse_format.ensures.head
 
 pub returns-in-Ok-clause-after : goal.returns-in-Ok-clause-after
 returns-in-Ok-clause-after g c = record {

@@ -45,7 +45,7 @@ returns-then-block-blocks-clause-answered g c told entry rep =
     let new : World = world_of g.P.Platform (Some c.in-Some.session) c.args.platform.now in
     let past : blocks_of c.in-Some.session ≤ c.args.block = omega (arith, c.if-block-blocks.true, c.blocks-2.ensures) in
     serves_led old new c.in-Some.session c.in-Some.session entry (Read c.args.block) replies.Range (λ t. t) c.in-Some.is refl (c.requires.cell told)
-    (λ d t at. (at, gives_read_range (is_full old (Read c.args.block)) d t c.args.block (past_device _ c.in-Some.session d t c.args.block at past))) (keeps_same old new refl) rep
+    (λ d t at. (at, gives_read_range (is_full old entry (Read c.args.block)) d t c.args.block (past_device _ c.in-Some.session d t c.args.block at past))) (keeps_same old new refl) rep
 
 pub returns-then-block-blocks-clause-keeps : goal.returns-then-block-blocks-clause-keeps
 returns-then-block-blocks-clause-keeps g c = λ drawn written. on_held _ _ _ _ _ c.args.self.now.session (Some c.in-Some.session) _ _ _ _ _ _ c.in-Some.is (on_start _ drawn written (Some c.in-Some.session) _ (Unit {0})) (λ going. tt) (λ keys h. h)
@@ -74,7 +74,7 @@ pub returns-clause-pages : goal.returns-clause-pages
 returns-clause-pages g c =
     let P = g.P.Platform in
     let along = (c.in_ok-read_block.ensures.goes (no_draw None)).along in
-    subst (λ (r : Reply). P.head c.read_block.new.platform ≡ P.head c.args.platform.now + added_by (Read c.args.block) r (needed_of c.args.self.now.session)) (sym c.reply_with_content.ensures.value) (omega (arith, along.rises, along.adds))
+    subst (λ (r : Reply). P.head c.read_block.new.platform ≡ P.head c.args.platform.now + added_by (Read c.args.block) r (needed_of c.args.self.now.session) 0) (sym c.reply_with_content.ensures.value) (omega (arith, along.rises, along.adds))
 
 pub returns-clause-enough : goal.returns-clause-enough
 returns-clause-enough g c updates enough =
@@ -94,7 +94,7 @@ returns-clause-answered g c told entry rep =
     subst (λ (r : Reply). Serves old new entry (Read c.args.block) (Ok r)) (sym c.reply_with_content.ensures.value)
     (serves_led old new c.in-Some.session c.read_block.new.session entry (Read c.args.block) (content_reply c.read_block.new.out) (λ t. t) c.in-Some.is refl (c.requires.cell told)
     (λ d t at. let led = c.in_ok-read_block.ensures.leads told d t at in
-    (led.0, gives_content (is_full old (Read c.args.block)) d t c.args.block c.read_block.new.out (within_device _ c.in-Some.session d t c.args.block at within) led.1))
+    (led.0, gives_content (is_full old entry (Read c.args.block)) d t c.args.block c.read_block.new.out (within_device _ c.in-Some.session d t c.args.block at within) led.1))
     ((c.in_ok-read_block.ensures.goes (no_draw None)).along.cell told) rep)
 
 pub returns-clause-any : goal.returns-clause-any

@@ -1,6 +1,6 @@
 use Rattle.std.specs.Prelude.{IfOk}
-use Rattle.device_cli.specs.Parts.{added_by}
-use Rattle.std.proofs.Common.{◌≡◌, ◌+◌, refl, sym, subst, take}
+use Rattle.device_cli.specs.Parts.{Adds}
+use Rattle.std.proofs.Common.{refl, sym, subst, take}
 use Rattle.device_cli.specs.World.{World, needed_of, world_of}
 use Rattle.device_cli.specs.Replied.{Serves, outcome}
 use Rattle.script_lang.specs.Commands.{asked}
@@ -43,7 +43,7 @@ pub returns-in-Write-clause-pages : goal.returns-in-Write-clause-pages
 returns-in-Write-clause-pages g c =
     let P = g.P.Platform in
     let buffer = c.args.self.now.buffer in
-    subst (λ (command : Parsed). IfOk (outcome c.write.result c.write.new.self.buffer) (λ reply. P.head c.write.new.platform ≡ P.head c.args.platform.now + added_by (asked command buffer) reply (needed_of c.args.self.now.session))) (sym c.in-Write.is)
+    subst (λ (command : Parsed). IfOk (outcome c.write.result c.write.new.self.buffer) (λ reply. Adds P.tells (P.history c.args.platform.now).present (asked command buffer) reply (needed_of c.args.self.now.session) (P.head c.args.platform.now) (P.head c.write.new.platform))) (sym c.in-Write.is)
     c.write.ensures.pages
 
 pub returns-in-Drop-clause-keeps : goal.returns-in-Drop-clause-keeps
@@ -190,3 +190,26 @@ returns-in-Commit-clause-still g c =
     let buffer = c.args.self.now.buffer in
     subst (λ (command : Parsed). Spends c.args.tape.now c.commit.new.tape c.args.ledger.now c.commit.new.ledger (g.T.Tape.drawn c.args.tape.now) (g.T.Tape.drawn c.commit.new.tape) (asked command buffer) (outcome c.commit.result c.commit.new.self.buffer)) (sym c.in-Commit.is)
     (record { undrawn = λ none. absurd (none tt); unput = λ none. absurd (none tt); drew = c.commit.ensures.drew })
+
+-- ---- an upgrade
+
+pub returns-in-Upgrade-clause-answered : goal.returns-in-Upgrade-clause-answered
+returns-in-Upgrade-clause-answered g c told entry rep =
+    let P = g.P.Platform in
+    let old : World = world_of P c.args.self.now.session c.args.platform.now in
+    let new : World = world_of P c.args.self.now.session c.upgrade.new.platform in
+    let buffer = c.args.self.now.buffer in
+    subst (λ (command : Parsed). Serves old new entry (asked command buffer) (outcome c.upgrade.result buffer)) (sym c.in-Upgrade.is)
+    (c.upgrade.ensures.answered told entry rep)
+
+pub returns-in-Upgrade-clause-seen : goal.returns-in-Upgrade-clause-seen
+returns-in-Upgrade-clause-seen g c told entry rep =
+    let P = g.P.Platform in
+    saw_of (world_of P c.args.self.now.session c.args.platform.now) (world_of P c.args.self.now.session c.upgrade.new.platform) entry commands.Upgrade (outcome c.upgrade.result c.args.self.now.buffer) (λ e. cc)
+    (c.upgrade.ensures.answered told entry rep)
+
+pub returns-in-Upgrade-clause-still : goal.returns-in-Upgrade-clause-still
+returns-in-Upgrade-clause-still g c =
+    let buffer = c.args.self.now.buffer in
+    subst (λ (command : Parsed). Spends c.args.tape.now c.upgrade.new.tape c.args.ledger.now c.upgrade.new.ledger (g.T.Tape.drawn c.args.tape.now) (g.T.Tape.drawn c.upgrade.new.tape) (asked command buffer) (outcome c.upgrade.result buffer)) (sym c.in-Upgrade.is)
+    (record { undrawn = λ none. absurd (none tt); unput = λ none. absurd (none tt); drew = c.upgrade.ensures.drew })

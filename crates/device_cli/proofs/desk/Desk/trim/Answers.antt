@@ -38,7 +38,7 @@ returns-then-block-blocks-clause-answered g c told entry rep =
     let new : World = world_of g.P.Platform (Some c.in-Some.session) c.args.platform.now in
     let past : blocks_of c.in-Some.session ≤ c.args.block = omega (arith, c.if-block-blocks.true, c.blocks-2.ensures) in
     serves_led old new c.in-Some.session c.in-Some.session entry (Trim c.args.block) replies.Range (λ t. t) c.in-Some.is refl (c.requires.cell told)
-    (λ d t at. (at, gives_trim_range (is_full old (Trim c.args.block)) d t c.args.block (past_device _ c.in-Some.session d t c.args.block at past))) (keeps_same old new refl) rep
+    (λ d t at. (at, gives_trim_range (is_full old entry (Trim c.args.block)) d t c.args.block (past_device _ c.in-Some.session d t c.args.block at past))) (keeps_same old new refl) rep
 
 pub returns-then-block-blocks-clause-keeps : goal.returns-then-block-blocks-clause-keeps
 returns-then-block-blocks-clause-keeps g c = λ drawn written. on_held _ _ _ _ _ c.args.self.now.session (Some c.in-Some.session) _ _ _ _ _ _ c.in-Some.is (on_start _ drawn written (Some c.in-Some.session) _ (Unit {0})) (λ going. tt) (λ keys h. h)
@@ -77,7 +77,7 @@ returns-clause-answered g c told entry rep =
     let new : World = world_of g.P.Platform (Some c.trim_block.new.session) c.trim_block.new.platform in
     let within : c.args.block < blocks_of c.in-Some.session = omega (arith, c.if-block-blocks.false, c.blocks-2.ensures) in
     serves_led old new c.in-Some.session c.trim_block.new.session entry (Trim c.args.block) replies.Done (λ t. unmapped t c.args.block) c.in-Some.is refl (c.requires.cell told)
-    (λ d t at. (c.in_ok-trim_block.ensures.leads told d t at, gives_trimmed (is_full old (Trim c.args.block)) d t c.args.block (within_device _ c.in-Some.session d t c.args.block at within)))
+    (λ d t at. (c.in_ok-trim_block.ensures.leads told d t at, gives_trimmed (is_full old entry (Trim c.args.block)) d t c.args.block (within_device _ c.in-Some.session d t c.args.block at within)))
     ((c.in_ok-trim_block.ensures.goes (no_draw None)).along.cell told) rep
 
 pub returns-clause-any : goal.returns-clause-any

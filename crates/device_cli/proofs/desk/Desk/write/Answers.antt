@@ -41,7 +41,7 @@ returns-then-block-blocks-clause-answered g c told entry rep =
     let bytes : List ℕ = take c.args.count c.args.self.now.buffer in
     let past : blocks_of c.in-Some.session ≤ c.args.block = omega (arith, c.if-block-blocks.true, c.blocks-2.ensures) in
     serves_led old new c.in-Some.session c.in-Some.session entry (Write c.args.block bytes) replies.Range (λ t. t) c.in-Some.is refl (c.requires.before.cell told)
-    (λ d t at. (at, gives_write_range (is_full old (Write c.args.block bytes)) d t c.args.block bytes (past_device _ c.in-Some.session d t c.args.block at past))) (keeps_same old new refl) rep
+    (λ d t at. (at, gives_write_range (is_full old entry (Write c.args.block bytes)) d t c.args.block bytes (past_device _ c.in-Some.session d t c.args.block at past))) (keeps_same old new refl) rep
 
 pub returns-then-block-blocks-clause-keeps : goal.returns-then-block-blocks-clause-keeps
 returns-then-block-blocks-clause-keeps g c = λ ledger. on_held _ _ _ _ _ c.args.self.now.session (Some c.in-Some.session) _ _ _ _ _ _ c.in-Some.is (on_start _ _ ledger (Some c.in-Some.session) _ (Unit {0})) (λ going. tt) (λ keys h. h)
@@ -54,9 +54,9 @@ returns-then-head-capacity-clause-answered g c told entry rep =
     let new : World = world_of g.P.Platform (Some c.in-Some.session) c.args.platform.now in
     let bytes : List ℕ = take c.args.count c.args.self.now.buffer in
     let within : c.args.block < blocks_of c.in-Some.session = omega (arith, c.if-block-blocks.false, c.blocks-2.ensures) in
-    let full = is_full_true old (Write c.args.block bytes) (omega (arith, c.if-head-capacity.true, c.head.ensures.value, c.capacity.ensures.value)) in
+    let full = is_full_true old entry (Write c.args.block bytes) (omega (arith, c.if-head-capacity.true, c.head.ensures.value, c.capacity.ensures.value)) in
     serves_led old new c.in-Some.session c.in-Some.session entry (Write c.args.block bytes) replies.Full (λ t. t) c.in-Some.is refl (c.requires.before.cell told)
-    (λ d t at. (at, gives_write_full (is_full old (Write c.args.block bytes)) d t c.args.block bytes full (within_device _ c.in-Some.session d t c.args.block at within))) (keeps_same old new refl) rep
+    (λ d t at. (at, gives_write_full (is_full old entry (Write c.args.block bytes)) d t c.args.block bytes full (within_device _ c.in-Some.session d t c.args.block at within))) (keeps_same old new refl) rep
 
 pub returns-then-head-capacity-clause-keeps : goal.returns-then-head-capacity-clause-keeps
 returns-then-head-capacity-clause-keeps g c = λ ledger. on_held _ _ _ _ _ c.args.self.now.session (Some c.in-Some.session) _ _ _ _ _ _ c.in-Some.is (on_start _ _ ledger (Some c.in-Some.session) _ (Unit {0})) (λ going. tt) (λ keys h. h)
@@ -95,9 +95,9 @@ returns-clause-answered g c told entry rep =
     let new : World = world_of g.P.Platform (Some c.write_block.new.session) c.write_block.new.platform in
     let bytes : List ℕ = take c.args.count c.args.self.now.buffer in
     let within : c.args.block < blocks_of c.in-Some.session = omega (arith, c.if-block-blocks.false, c.blocks-2.ensures) in
-    let room = is_full_false old (Write c.args.block bytes) (omega (arith, g.met.P.Platform.has_room c.args.platform.now, c.if-head-capacity.false, c.head.ensures.value, c.capacity.ensures.value)) in
+    let room = is_full_false old entry (Write c.args.block bytes) (omega (arith, g.met.P.Platform.has_room c.args.platform.now, c.if-head-capacity.false, c.head.ensures.value, c.capacity.ensures.value)) in
     serves_led old new c.in-Some.session c.write_block.new.session entry (Write c.args.block bytes) replies.Done (λ t. written t c.args.block bytes) c.in-Some.is refl (c.requires.before.cell told)
-    (λ d t at. (c.in_ok-write_block.ensures.leads told d t at, gives_written (is_full old (Write c.args.block bytes)) d t c.args.block bytes room (within_device _ c.in-Some.session d t c.args.block at within)))
+    (λ d t at. (c.in_ok-write_block.ensures.leads told d t at, gives_written (is_full old entry (Write c.args.block bytes)) d t c.args.block bytes room (within_device _ c.in-Some.session d t c.args.block at within)))
     (c.in_ok-write_block.ensures.goes.along.cell told) rep
 
 pub returns-clause-any : goal.returns-clause-any
