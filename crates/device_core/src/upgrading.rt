@@ -45,7 +45,7 @@ pub fn upgrade<P: Platform, T: Tape, L: Sink>(
     ensures time { P.tells → (device : Option Device) → Stands (P.history platform.old).present device
         → Turns (P.history platform.old) (P.history platform.new)
         (LeavesOnly (λ left. Stands left device)) (LeavesOnly (λ left. Stands left (option_map upgraded device))) }
-    // All records of the new tree came in this call: what the old root record led to is deleted.
+    // Below the old root record's head the new tree has only places of the old one, and what was deleted before stays deleted.
     ensures discloses { Discloses P.tells (T.drawn tape.old) (T.drawn tape.new) (P.history platform.old) (P.history platform.new)
         (λ keys. IsSound (P.history platform.old).present) (λ keys. ⊤) }
     ensures certifies { CertifiesUpgrade P.tells (L.written ledger.old) (L.written ledger.new) (P.history platform.old) (P.history platform.new) (IsOk result) }
