@@ -1,3 +1,4 @@
 pub mod TreeTraces
 pub mod OrderLaws
 pub mod CertLaws
+pub mod SaidLaws

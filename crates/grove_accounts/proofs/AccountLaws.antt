@@ -10,8 +10,8 @@ use Rattle.key_graph.proofs.ChainLaws.{map_contains}
 use Rattle.sdbt_base.specs.Traces.{DataOf, NodeOver}
 use Rattle.sdbt_base.specs.declared.lists.Unkept.{Unkept}
 use Rattle.page_store.specs.Tree.{Place}
+use Rattle.page_store.proofs.ApartLaws.{AreApart, all_right, apart_from}
 use Rattle.grove_accounts.specs.Accounts.{Accounts, IsOwn, LacksAddress, HasAddress}
-use Rattle.grove_accounts.proofs.ListLaws.{AreApart, all_right, apart_from}
 use Rattle.grove_accounts.proofs.PartsLaws.{IsInner}
 
 -- ---- the tree of a root record itself

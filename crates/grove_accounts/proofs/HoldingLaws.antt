@@ -16,6 +16,7 @@ use Rattle.page_store.specs.Places.{root_want}
 use Rattle.page_store.specs.Tree.{Tree, Parts, Place, Mapped, Subtree, joined, data_parts}
 use Rattle.page_store.specs.Stands.{StandsBy}
 use Rattle.page_store.proofs.TreeLaws.{subtree_kept}
+use Rattle.page_store.proofs.ApartLaws.{AreApart, all_left, all_right, apart_permutation, apart_right}
 use Rattle.btree_twigs.specs.Stubs.{Stub, Tiles, Puts, Takes, datum, stubs}
 use Rattle.btree_twigs.proofs.Finds.{kept_stub}
 use Rattle.btree_twigs.specs.Updates.{IsOpen}
@@ -29,7 +30,7 @@ use Rattle.btree_update.proofs.GroveLaws.{above_it}
 use Rattle.grove_accounts.specs.Below.{HaveParts, GroveHas}
 use Rattle.grove_accounts.specs.Accounts.{Accounts, IsOwn}
 use Rattle.grove_accounts.specs.Holding.{IsAccounted, HoldsTree, Arrives, Turns, IsSameSize, IsTreeOf, root_stub, data_place}
-use Rattle.grove_accounts.proofs.ListLaws.{AreApart, past, all_left, all_right, each_left, each_right, each_append, each_weaker, apart_permutation, apart_right}
+use Rattle.grove_accounts.proofs.ListLaws.{past, each_left, each_right, each_append, each_weaker}
 use Rattle.grove_accounts.proofs.PartsLaws.{OpensParts, opens_parts, opens_all, parts_split, parts_append, parts_from, parts_each, places_between, mapped_between, joined_places, joined_mapped, IsInner}
 use Rattle.grove_accounts.proofs.AccountLaws.{accounts_start, accounts_permuted, accounts_later, accounts_gone, accounts_never, accounts_come, inner_committed}
 use Rattle.grove_accounts.proofs.PlaceLaws.{IsUnder, AreBelowRoot, IsPlaceOf, under_root, places_below, open_below, puts_no_root, takes_no_root, mid_at}

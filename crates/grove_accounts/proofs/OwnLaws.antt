@@ -9,6 +9,7 @@ use Rattle.platform.specs.Image.{Image}
 use Rattle.node_codec.specs.declared.body.Entry.{Entry}
 use Rattle.root_codec.specs.declared.root.Root.{Root}
 use Rattle.page_store.specs.Tree.{Parts, Place, Subtree, joined}
+use Rattle.page_store.proofs.ApartLaws.{all_left, all_right}
 use Rattle.btree_twigs.specs.Stubs.{Stub, Puts, Takes, datum}
 use Rattle.btree_update.specs.declared.groves.Grove.{Grove}
 use Rattle.btree_update.specs.GroveTree.{stubs_at, want_in}
@@ -19,7 +20,7 @@ use Rattle.btree_update.proofs.Readings.{read_same}
 use Rattle.grove_accounts.specs.Below.{HaveParts}
 use Rattle.grove_accounts.specs.Holding.{HoldsTree, Turns}
 use Rattle.grove_accounts.specs.Certs.{IsOwnStub, page_at, AreWritten}
-use Rattle.grove_accounts.proofs.ListLaws.{all_left, all_right, each_left, each_right, each_append}
+use Rattle.grove_accounts.proofs.ListLaws.{each_left, each_right, each_append}
 use Rattle.grove_accounts.proofs.CertLaws.{IsOldNode, old_nodes}
 use Rattle.grove_accounts.proofs.PlaceLaws.{IsPlaceOf, mid_at}
 

@@ -1,13 +1,12 @@
 -- The laws of records: the parts decide the bytes, and the bytes decide the parts.
-use Rattle.std.proofs.Common.{◌≡◌, ℕ, ◌+◌, ◌-◌, ◌*◌, ◌<◌, ◌≤◌, ◌^◌, List, [], ◌∷◌, ◌++◌, map, length, take, drop, replicate, refl, sym, ap, subst, ◌∙◌, arith, length-append, inl, inr, lit<}
+use Rattle.std.proofs.Common.{◌≡◌, ℕ, zero, suc, ◌↔◌, ◌+◌, ◌-◌, ◌*◌, ◌<◌, ◌≤◌, ◌^◌, List, [], ◌∷◌, ◌++◌, map, length, take, drop, replicate, refl, sym, ap, subst, ◌∙◌, arith, length-append, lit<}
 use Rattle.std.specs.Prelude.{All, Option, Some, None, IfSome, IfNone, codes, slice_index, slice_index_or}
 use Rattle.std.specs.Int.{w16, w64, to_be_bytes}
 use Rattle.std.specs.List.{concat, flat_map}
 use Rattle.std.specs.List.Sorted.{IsStrictlyIncreasing}
-use Rattle.std.proofs.lemmas.Bool.{cases_lt}
-use Rattle.std.proofs.lemmas.List.{take_at, drop_at, take-append-drop, drop-drop, append-nil, length-drop, length-replicate, get_or-map, get_or_default, length-map, flat_map_more}
+use Rattle.std.proofs.lemmas.List.{take_at, drop_at, take-append-drop, drop-drop, append-nil, length-drop, length-replicate, drop_more, drop_all, flat_map_more}
 use Rattle.std.proofs.Math.Seq.{take-add}
-use Rattle.std.proofs.lemmas.List.Elements.{All-head, All-tail}
+use Rattle.std.proofs.lemmas.List.Elements.{All-head, All-tail, All-nil, All-cons}
 use Rattle.sdbt_base.specs.Bytes.{IsBytes}
 use Rattle.sdbt_base.specs.Keys.{key_size, entry_size, most_entries}
 use Rattle.record_versions.specs.Versions.{IsVersion}
@@ -15,8 +14,8 @@ use Rattle.record_versions.specs.Laws.{by_version, entries_within}
 use Rattle.record_fields.specs.Fields.{fields_from, fields_whole, fields_again, pieces_same, append_same, number_same_2, number_same_8}
 use Rattle.node_codec.specs.declared.body.Entry.{Entry}
 use Rattle.node_codec.specs.declared.head.Head.{Head}
-use Rattle.node_codec.specs.Record.{Record, DataRecord, NodeRecord, FitsNode, FitsRecord, AreSized, head_fields, head_bytes, entry_fields, entry_bytes, entries_bytes, kind_of_node, record_bytes}
-use Rattle.node_codec.specs.Parts.{part, bytes_of_head, IsFramed, SpellsHead, IsEntry, FitsEntries, HasParts, AscendBelow}
+use Rattle.node_codec.specs.Record.{Record, DataRecord, NodeRecord, FitsNode, FitsRecord, head_fields, head_bytes, entry_fields, entry_bytes, entries_bytes, kind_of_node, record_bytes}
+use Rattle.node_codec.specs.Parts.{part, bytes_of_head, IsFramed, SpellsHead, IsEntry, IsWithin, RangeFrom, FitsEntries, HasParts}
 
 -- ---- heads
 
@@ -118,11 +117,26 @@ entries_fit version addr entries addr-below fits = λ k d inside. record {
   key = fits.keys k d inside;
 }
 
-pub entries_sized : (version addr : ℕ) (entries : List Entry) → FitsEntries version addr entries → AreSized version entries
-entries_sized version addr entries fits = λ k d inside. (fits.keys k d inside).0
+pub all_within : (version addr : ℕ) (entries : List Entry) → FitsEntries version addr entries → All (IsWithin version addr) entries
+all_within version addr entries fits = λ k d inside. record { low = fits.lows k d inside; below = fits.below k d inside; sized = (fits.keys k d inside).0 }
 
-pub fits_read : (version addr : ℕ) (entries : List Entry) → All (IsEntry version) entries → IsStrictlyIncreasing (map (λ (e : Entry). e.low) entries) → All (λ e. e.low < 1048576) entries × All (λ e. e.addr < addr) entries × AreSized version entries → FitsEntries version addr entries
-fits_read version addr entries are ascend within = record { ascend = ascend; lows = within.0; below = within.1; keys = λ k d inside. (are k d inside).key }
+pub fits_read : (version addr : ℕ) (entries : List Entry) → All (IsEntry version) entries → IsStrictlyIncreasing (map (λ (e : Entry). e.low) entries) → All (IsWithin version addr) entries → FitsEntries version addr entries
+fits_read version addr entries are ascend within = record { ascend = ascend; lows = λ k d inside. (within k d inside).low; below = λ k d inside. (within k d inside).below; keys = λ k d inside. (are k d inside).key }
+
+pub fits_within : (version addr level : ℕ) (entries : List Entry) → IsVersion version → 1 ≤ level → level ≤ 20 → length entries ≤ most_entries version → IsStrictlyIncreasing (map (λ (e : Entry). e.low) entries) → All (IsWithin version addr) entries → FitsNode version addr level entries
+fits_within version addr level entries known least most count ascend within = record {
+  version_known = known;
+  level_least = least;
+  level_most = most;
+  count = count;
+  ascend = ascend;
+  lows = λ k d inside. (within k d inside).low;
+  below = λ k d inside. (within k d inside).below;
+  sized = λ k d inside. (within k d inside).sized;
+}
+
+pub within_fits : (version addr level : ℕ) (entries : List Entry) → FitsNode version addr level entries → All (IsWithin version addr) entries
+within_fits version addr level entries fits = λ k d inside. record { low = fits.lows k d inside; below = fits.below k d inside; sized = fits.sized k d inside }
 
 -- the entries that were read are those whose bytes the payload has, and zeros follow
 pub entries_known : (version addr : ℕ) (payload : List ℕ) (read entries : List Entry) (count : ℕ) → addr < 2 ^ 64 → length read ≡ count → All (IsEntry version) read → take (entry_size version * count) payload ≡ flat_map entry_bytes read → length entries ≡ count → payload ≡ entries_bytes version entries → FitsEntries version addr entries → (read ≡ entries) × (drop (entry_size version * count) payload ≡ replicate (length (drop (entry_size version * count) payload)) 0)
@@ -145,34 +159,66 @@ most_at_most version count is = by_version (λ (v : ℕ). count ≤ most_entries
 
 -- ---- ascending lows
 
-low_at : (entries : List Entry) (i : ℕ) → i < length entries → slice_index (map (λ (e : Entry). e.low) entries) i ≡ (slice_index_or entries i (record { low = 0; addr = 0; key = [] })).low
-low_at entries i inside = get_or-map (λ (e : Entry). e.low) entries i (record { low = 0; addr = 0; key = [] }) 0 inside
+ascends_at : (version addr least : ℕ) (entries : List Entry) → RangeFrom version addr least entries → (k : ℕ) → k + 1 < length (map (λ (e : Entry). e.low) entries)
+    → slice_index (map (λ (e : Entry). e.low) entries) k < slice_index (map (λ (e : Entry). e.low) entries) (k + 1)
+unfolding RangeFrom
+ascends_at version addr least [] from k within = absurd (omega (arith, within))
+ascends_at version addr least (a ∷ []) from k within = absurd (omega (arith, within))
+ascends_at version addr least (a ∷ b ∷ rest) from zero within = omega (arith, from.2.0)
+ascends_at version addr least (a ∷ b ∷ rest) from (suc k) within =
+    let one : suc (k + 1) ≡ suc k + 1 = omega arith in
+    subst (λ (n : ℕ). slice_index (map (λ (e : Entry). e.low) (b ∷ rest)) k < slice_index (map (λ (e : Entry). e.low) (a ∷ b ∷ rest)) n) one
+    (ascends_at version addr (a.low + 1) (b ∷ rest) from.2 k (omega (arith, within)))
 
--- one more pair of neighbours is in order
-pub ascend_more : (entries : List Entry) (a b : Entry) (i : ℕ) → i < length entries → a ≡ slice_index_or entries (i - 1) a → b ≡ slice_index_or entries i b → a.low < b.low → AscendBelow entries i → AscendBelow entries (i + 1)
-ascend_more entries a b i inside at-a at-b below before = λ k inside-k.
-    let none : Entry = record { low = 0; addr = 0; key = [] } in
-    elim (cases_lt (k + 1) i) [
-      | inl lt ↦ before k lt
-      | inr ge ↦
-          let is-k : k ≡ i - 1 = omega arith in
-          let here = low_at entries k (omega arith) in
-          let next = low_at entries (k + 1) (omega arith) in
-          let is-a : a ≡ slice_index_or entries k none = at-a ∙ get_or_default entries (i - 1) a none (omega arith) ∙ ap (λ (n : ℕ). slice_index_or entries n none) (sym is-k) in
-          let is-b : b ≡ slice_index_or entries (k + 1) none = at-b ∙ get_or_default entries i b none inside ∙ ap (λ (n : ℕ). slice_index_or entries n none) (omega arith) in
-          omega (arith, here, next, ap (λ (e : Entry). e.low) is-a, ap (λ (e : Entry). e.low) is-b, below)
-    ]
+each_within : (version addr least : ℕ) (entries : List Entry) → RangeFrom version addr least entries → All (IsWithin version addr) entries
+unfolding RangeFrom
+each_within version addr least [] from = All-nil (IsWithin version addr)
+each_within version addr least (a ∷ rest) from = All-cons (IsWithin version addr) a rest from.1 (each_within version addr (a.low + 1) rest from.2)
 
--- two neighbours that are out of order
-pub not_ascending : (entries : List Entry) (a b : Entry) (i : ℕ) → 1 ≤ i → i < length entries → a ≡ slice_index_or entries (i - 1) a → b ≡ slice_index_or entries i b → b.low ≤ a.low → IsStrictlyIncreasing (map (λ e. e.low) entries) → ⊥
-not_ascending entries a b i least inside at-a at-b not-below increasing =
-    let none : Entry = record { low = 0; addr = 0; key = [] } in
-    let next : i - 1 + 1 ≡ i = omega arith in
-    let above = increasing (i - 1) (omega (arith, length-map entries (λ (e : Entry). e.low))) in
-    let at-next : slice_index (map (λ (e : Entry). e.low) entries) (i - 1 + 1) ≡ slice_index (map (λ (e : Entry). e.low) entries) i = ap (slice_index (map (λ (e : Entry). e.low) entries)) next in
-    let is-a : a ≡ slice_index_or entries (i - 1) none = at-a ∙ get_or_default entries (i - 1) a none (omega arith) in
-    let is-b : b ≡ slice_index_or entries i none = at-b ∙ get_or_default entries i b none inside in
-    omega (arith, above, at-next, low_at entries (i - 1) (omega arith), low_at entries i inside, ap (λ (e : Entry). e.low) is-a, ap (λ (e : Entry). e.low) is-b, not-below)
+-- an entry begins at a number or behind it, if there is one
+abbrev BeginsFrom : ℕ → List Entry → Type 0
+BeginsFrom least [] = Unit {0}
+BeginsFrom least (entry ∷ entries) = least ≤ entry.low
+
+next_begins : (a : Entry) (rest : List Entry) → IsStrictlyIncreasing (map (λ (e : Entry). e.low) (a ∷ rest)) → BeginsFrom (a.low + 1) rest
+next_begins a [] up = tt
+next_begins a (b ∷ rest) up = let less = up 0 (omega arith) in omega (arith, less)
+
+tail_ascends : (a : Entry) (rest : List Entry) → IsStrictlyIncreasing (map (λ (e : Entry). e.low) (a ∷ rest)) → IsStrictlyIncreasing (map (λ (e : Entry). e.low) rest)
+tail_ascends a rest up k within =
+    let one : suc k + 1 ≡ suc (k + 1) = omega arith in
+    let next : slice_index (map (λ (e : Entry). e.low) (a ∷ rest)) (suc k) < slice_index (map (λ (e : Entry). e.low) (a ∷ rest)) (suc k + 1) = up (suc k) (omega (arith, within)) in
+    subst (λ (n : ℕ). slice_index (map (λ (e : Entry). e.low) rest) k < slice_index (map (λ (e : Entry). e.low) (a ∷ rest)) n) one next
+
+ranges_from : (version addr least : ℕ) (entries : List Entry) → BeginsFrom least entries → IsStrictlyIncreasing (map (λ (e : Entry). e.low) entries) → All (IsWithin version addr) entries → RangeFrom version addr least entries
+unfolding RangeFrom
+ranges_from version addr least [] begins up within = tt
+ranges_from version addr least (a ∷ rest) begins up within =
+    (begins, All-head (IsWithin version addr) a rest within, ranges_from version addr (a.low + 1) rest (next_begins a rest up) (tail_ascends a rest up) (All-tail (IsWithin version addr) a rest within))
+
+begins_from_zero : (entries : List Entry) → BeginsFrom 0 entries
+begins_from_zero [] = tt
+begins_from_zero (a ∷ rest) = omega arith
+
+-- from 0 on: their lows ascend strictly, and each is in range
+pub in_range : (version addr : ℕ) (entries : List Entry) → RangeFrom version addr 0 entries ↔ (IsStrictlyIncreasing (map (λ (e : Entry). e.low) entries) × All (IsWithin version addr) entries)
+in_range version addr entries = (
+  λ from. (ascends_at version addr 0 entries from, each_within version addr 0 entries from),
+  λ h. ranges_from version addr 0 entries (begins_from_zero entries) h.0 h.1,
+)
+
+-- from a place on they are in range exactly where the entry there is, and those behind it
+pub range_at : (version addr least i : ℕ) (a : Entry) (entries : List Entry) → i < length entries → a ≡ slice_index_or entries i a
+    → RangeFrom version addr least (drop i entries) ↔ ((least ≤ a.low) × IsWithin version addr a × RangeFrom version addr (a.low + 1) (drop (i + 1) entries))
+unfolding RangeFrom
+range_at version addr least i a entries inside here =
+    let split : drop i entries ≡ a ∷ drop (i + 1) entries = drop_more entries i a inside ∙ ap (λ (e : Entry). e ∷ drop (i + 1) entries) (sym here) in
+    (λ h. subst (RangeFrom version addr least) split h, λ h. subst (RangeFrom version addr least) (sym split) h)
+
+-- behind all of them there is none that is not
+pub range_behind : (version addr least i : ℕ) (entries : List Entry) → length entries ≤ i → RangeFrom version addr least (drop i entries)
+unfolding RangeFrom
+range_behind version addr least i entries behind = subst (RangeFrom version addr least) (sym (drop_all i entries behind)) tt
 
 -- ---- whole records
 

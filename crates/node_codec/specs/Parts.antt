@@ -1,8 +1,8 @@
 -- The parts of a record, as the code reads and writes them.
-use Rattle.std.specs.Prelude.{◌≡◌, ℕ, ◌+◌, ◌^◌, ◌<◌, ◌≤◌, List, [], ◌∷◌, All, length, map, take, drop, replicate, codes, slice_index}
+use Rattle.std.specs.Prelude.{◌≡◌, ℕ, ◌+◌, ◌^◌, ◌<◌, ◌≤◌, List, [], ◌∷◌, All, length, map, take, drop, replicate, codes}
 use Rattle.std.specs.List.Sorted.{IsStrictlyIncreasing}
 use Rattle.std.specs.Int.{w16, w64, to_be_bytes}
-use Rattle.sdbt_base.specs.Keys.{most_entries, IsKeyOf}
+use Rattle.sdbt_base.specs.Keys.{key_size, most_entries, IsKeyOf}
 use Rattle.node_codec.specs.declared.body.Entry.{Entry}
 use Rattle.node_codec.specs.declared.head.Head.{Head}
 use Rattle.node_codec.specs.Record.{Record, DataRecord, NodeRecord, head_bytes, entries_bytes, kind_of_node}
@@ -66,6 +66,13 @@ abbrev pub HasParts : ℕ → ℕ → List ℕ → List ℕ → Record → Type 
 HasParts version addr front payload (DataRecord block content) = (front ≡ head_bytes addr 1 0 0 block) × (payload ≡ content)
 HasParts version addr front payload (NodeRecord level entries) = (front ≡ head_bytes addr (kind_of_node version) level (length entries) 0) × (payload ≡ entries_bytes version entries)
 
--- the lows of the first entries ascend strictly
-abbrev pub AscendBelow : List Entry → ℕ → Type 0
-AscendBelow entries i = (k : ℕ) → k + 1 < i → slice_index (map (λ e. e.low) entries) k < slice_index (map (λ e. e.low) entries) (k + 1)
+-- an entry is one of a node of a version at an address, beside its neighbours
+pub record IsWithin (version addr : ℕ) (entry : Entry) : Type 0 where
+  pub low : entry.low < 1048576
+  pub below : entry.addr < addr
+  pub sized : length entry.key ≡ key_size version
+
+-- the entries are in range, and their lows ascend strictly from a number on
+unfoldable pub RangeFrom : ℕ → ℕ → ℕ → List Entry → Type 0
+RangeFrom version addr least [] = Unit {0}
+RangeFrom version addr least (entry ∷ entries) = (least ≤ entry.low) × IsWithin version addr entry × RangeFrom version addr (entry.low + 1) entries

@@ -4,7 +4,7 @@ ghost use Rattle.record_versions.specs.Versions.{IsVersion};
 ghost use Rattle.node_codec.specs.Record.{DataRecord, NodeRecord, record_bytes, FitsNode, FitsRecord};
 
 use crate::body::Entry;
-use crate::entries::{are_ascending, are_within, put_entries, put_zeros_before};
+use crate::entries::{are_in_range, put_entries, put_zeros_before};
 use crate::head::{DATA, HEAD, Head, kind_of_node, put_head};
 use record_versions::{is_version, most_entries};
 use sdbt_base::{MAX_LEVEL, RECORD};
@@ -54,8 +54,7 @@ pub fn fits_node(addr: u64, level: u8, version: u8, entries: &[Entry]) -> bool
     is_version(version)
         && (1..=MAX_LEVEL).contains(&level)
         && entries.len() <= most_entries(version) as usize
-        && are_ascending(entries)
-        && are_within(entries, addr, version)
+        && are_in_range(entries, addr, version)
 }
 
 /// Writes the node of `level` and `entries` at `addr`, in the version, over the 4,128 bytes of `out`, whatever they were.

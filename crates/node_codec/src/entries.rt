@@ -5,7 +5,7 @@ ghost use Rattle.sdbt_base.specs.Bytes.{IsBytes};
 ghost use Rattle.sdbt_base.specs.Keys.{IsKeyOf, entry_size, key_size, most_entries};
 ghost use Rattle.record_versions.specs.Versions.{IsVersion};
 ghost use Rattle.node_codec.specs.Record.{entry_bytes, entries_bytes, AreSized};
-ghost use Rattle.node_codec.specs.Parts.{IsEntry, FitsEntries};
+ghost use Rattle.node_codec.specs.Parts.{IsEntry, IsWithin, FitsEntries};
 ghost use Rattle.node_codec.specs.declared.body.Entry.{Entry};
 
 use crate::body::Entry;
@@ -129,10 +129,7 @@ pub(crate) fn entries_in(
 {
     read_entries(payload, count, version, entries);
     let rest = rest_behind(payload, count, version);
-    if are_zero(rest)
-        && are_ascending(entries.as_slice())
-        && are_within(entries.as_slice(), addr, version)
-    {
+    if are_zero(rest) && are_in_range(entries.as_slice(), addr, version) {
         true
     } else {
         entries.clear();
@@ -209,21 +206,24 @@ fn put_zeros_behind(count: usize, version: u8, out: &mut [u8])
     put_zeros(rest);
 }
 
-/// Whether the lows ascend strictly.
-pub(crate) fn are_ascending(entries: &[Entry]) -> bool
-    ensures { IsTrue result ↔ IsStrictlyIncreasing (map (λ e. e.low) entries.now) }
+/// Whether the lows ascend strictly and are those of blocks, and the children stand before the address of the node under keys
+/// of the version.
+pub(crate) fn are_in_range(entries: &[Entry], addr: u64, version: u8) -> bool
+    ensures { IsTrue result ↔ IsStrictlyIncreasing (map (λ e. e.low) entries.now) × All (IsWithin version addr) entries.now }
 {
-    for i in 1..entries.len() {
-        if entries[i - 1].low >= entries[i].low {
+    let mut least = 0;
+    for entry in entries.iter() {
+        if entry.low < least || !is_within(entry, addr, version) {
             return false;
         }
+        least = entry.low + 1;
     }
     true
 }
 
-/// Whether the lows are those of blocks, and the children stand before the address of the node under keys of the version.
-pub(crate) fn are_within(entries: &[Entry], addr: u64, version: u8) -> bool
-    ensures { IsTrue result ↔ All (λ e. e.low < 1048576) entries.now × All (λ e. e.addr < addr) entries.now × AreSized version entries.now }
+/// Whether the low is that of a block, and the child stands before the address of the node under a key of the version.
+fn is_within(entry: &Entry, addr: u64, version: u8) -> bool
+    ensures { IsTrue result ↔ IsWithin version addr entry.now }
 {
-    entries.iter().all(|e| e.low < MAX_BLOCKS && e.addr < addr && is_of_version(&e.key, version))
+    entry.low < MAX_BLOCKS && entry.addr < addr && is_of_version(&entry.key, version)
 }

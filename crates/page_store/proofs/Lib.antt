@@ -13,3 +13,6 @@ pub mod DisclosingLaws
 pub mod FetchLaws
 pub mod AppendLaws
 pub mod ChangeLaws
+pub mod AscendLaws
+pub mod ApartLaws
+pub mod EndLaws

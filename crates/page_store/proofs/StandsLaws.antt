@@ -96,16 +96,16 @@ stands_later image later (Some device) earlier cell (root, parts, stands) = (
       (front_alike (length image.recorded) image.recorded later.recorded parts.places earlier.recorded (places_recorded image device root parts stands)),
 )
 
--- what a loss of power leaves stands for the same device
+-- what a loss of power leaves stands for the same device, by the same tree
+pub stands_by_left : (image left : Image) (device : Device) (root : Root) (parts : Parts) → MayLeave image left → StandsBy image device root parts → StandsBy left device root parts
+stands_by_left image left device root parts leaves stands =
+    stands_kept image left device root parts stands leaves.cell (omega (arith, stands.head, leaves.synced))
+    (All-weaker (λ (p : Place). p.addr < root.head) (ReadsAlike image.readable left.readable) (λ place below. synced-stays image left place.addr leaves (omega (arith, stands.head))) parts.places stands.below)
+    (λ k d inside. ap (λ (pages : List (List ℕ)). slice_get pages (get_or parts.places k d).addr) leaves.recorded)
+
 pub stands_left : (image left : Image) (device : Option Device) → MayLeave image left → Stands image device → Stands left device
 stands_left image left None leaves stands = leaves.cell ∙ stands
-stands_left image left (Some device) leaves (root, parts, stands) = (
-  root,
-  parts,
-  stands_kept image left device root parts stands leaves.cell (omega (arith, stands.head, leaves.synced))
-      (All-weaker (λ (p : Place). p.addr < root.head) (ReadsAlike image.readable left.readable) (λ place below. synced-stays image left place.addr leaves (omega (arith, stands.head))) parts.places stands.below)
-      (λ k d inside. ap (λ (pages : List (List ℕ)). slice_get pages (get_or parts.places k d).addr) leaves.recorded),
-)
+stands_left image left (Some device) leaves (root, parts, stands) = (root, parts, stands_by_left image left device root parts leaves stands)
 
 pub stands_leaves : (image : Image) (device : Option Device) → Stands image device → LeavesOnly (λ left. Stands left device) image
 stands_leaves image device stands left leaves = stands_left image left device leaves stands

@@ -1,4 +1,5 @@
-ghost use Rattle.std.specs.Prelude.{◌≡◌, ◌↔◌, ◌<◌, ◌≤◌, All, IfSome, IsTrue, slice_get};
+ghost use Rattle.std.specs.Prelude.{◌≡◌, ◌↔◌, ◌<◌, ◌≤◌, ◌-◌, All, IfSome, IsTrue, length, map, slice_get};
+ghost use Rattle.std.specs.List.Sorted.{IsStrictlyIncreasing};
 ghost use Rattle.page_store.specs.Places.{root_want, child_want, block_want, IsNodeWanted};
 
 use node_codec::Entry;
@@ -71,6 +72,7 @@ impl Want {
 
     /// Whether a node of this level and these entries is what is wanted.
     pub fn is_met_by(&self, level: u8, entries: &[Entry]) -> bool
+        requires { IsStrictlyIncreasing (map (λ e. e.low) entries.now) }
         ensures { IsTrue result ↔ IsNodeWanted self.now level entries.now }
     {
         let count = entries.len();
@@ -81,14 +83,27 @@ impl Want {
             && (level < 2 || self.begins(entries))
     }
 
-    /// Whether each low is within the bounds.
+    /// Whether each low is within the bounds: where they ascend the first and the last one tell.
     fn bounds(&self, entries: &[Entry]) -> bool
+        requires { IsStrictlyIncreasing (map (λ e. e.low) entries.now) }
         ensures { IsTrue result ↔
             (All (λ e. self.now.low ≤ e.low) entries.now × All (λ e. e.low < self.now.high) entries.now) }
     {
-        entries
-            .iter()
-            .all(|e| self.low <= e.low && e.low < self.high)
+        self.starts(entries) && self.ends(entries)
+    }
+
+    /// Whether the first low, if there is one, is not below the lower bound.
+    fn starts(&self, entries: &[Entry]) -> bool
+        ensures { IsTrue result ↔ IfSome (slice_get entries.now 0) (λ e. self.now.low ≤ e.low) }
+    {
+        entries.first().is_none_or(|e| self.low <= e.low)
+    }
+
+    /// Whether the last low, if there is one, is below the upper bound.
+    fn ends(&self, entries: &[Entry]) -> bool
+        ensures { IsTrue result ↔ IfSome (slice_get entries.now (length entries.now - 1)) (λ e. e.low < self.now.high) }
+    {
+        entries.last().is_none_or(|e| e.low < self.high)
     }
 
     /// Whether the first low, if there is one, is the lower bound.

@@ -5,5 +5,4 @@ pub mod SearchLaws
 pub mod LooksLaws
 pub mod ReadsLaws
 pub mod CountLaws
-pub mod AscendLaws
 pub mod MappedLaws

@@ -1,5 +1,5 @@
 -- The entries before it end where it begins.
-use Rattle.std.proofs.Common.{◌-◌, arith}
+use Rattle.std.proofs.Common.{arith}
 use Rattle.record_versions.specs.Laws.{entry_room}
 use Rattle.node_codec.proofs.entries.place_of.Goals as goal
 

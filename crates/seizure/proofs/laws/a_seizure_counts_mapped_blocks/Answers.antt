@@ -1,4 +1,4 @@
-use Rattle.seizure.proofs.AscendLaws.{mapped_len}
+use Rattle.page_store.proofs.AscendLaws.{mapped_len}
 use Rattle.seizure.proofs.MappedLaws.{mapped_counted}
 use Rattle.seizure.proofs.laws.a_seizure_counts_mapped_blocks.Goals as goal
 

@@ -1,5 +1,0 @@
-use Rattle.node_codec.specs.Parts.{AscendBelow}
-use Rattle.node_codec.proofs.entries.are_ascending.Given as goal
-
-abbrev pub invariant-loop-i : goal.invariant-loop-i
-invariant-loop-i l = AscendBelow l.entries l.i
