@@ -5,3 +5,4 @@ pub mod Search
 pub mod Removal
 pub mod Top
 pub mod Levels
+pub mod Wiped

@@ -10,8 +10,10 @@ mod lists;
 mod putting;
 mod taking;
 mod twigs;
+mod wiping;
 
 pub use finding::find;
 pub use putting::{put, put_top};
 pub use taking::{take, take_top};
 pub use twigs::{Child, Spot, Twig, addr_of, end_of, level_of, low_of, place};
+pub use wiping::{blank, wipe};

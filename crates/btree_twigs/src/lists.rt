@@ -3,6 +3,7 @@ ghost use Rattle.std.specs.List.{insert as insert_at};
 ghost use Rattle.btree_twigs.specs.Updates.{HasSpares};
 
 use crate::twigs::Child;
+use crate::wiping::cover;
 
 /// Inserts a child where there is room.
 pub(crate) fn insert(children: &mut Vec<Child>, at: usize, child: Child)
@@ -45,6 +46,7 @@ pub(crate) fn lend_last(left: &mut Vec<Child>, right: &mut Vec<Child>)
         Some(child) => insert(right, 0, child),
         None => unreachable!(),
     }
+    cover(left);
 }
 
 /// Moves the children from a place on into an empty list that has room for them.
@@ -60,6 +62,7 @@ pub(crate) fn move_tail(from: &mut Vec<Child>, at: usize, to: &mut Vec<Child>)
         if let Some(child) = from.pop() {
             push(to, child);
         }
+        cover(from);
     }
     to.reverse();
 }

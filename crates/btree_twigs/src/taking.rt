@@ -6,10 +6,13 @@ ghost use Rattle.std.specs.Option.{option_to_list};
 ghost use Rattle.btree_twigs.specs.Removal.{below_in, IsTaken, MendsAt, AreMended, CanTake, CanTakeBelow, IsTwigTaken, IsChildTaken, CanMendBeside};
 ghost use Rattle.btree_twigs.specs.Top.{child_level, CanTakeTop, IsTopTaken, HasOnly};
 ghost use Rattle.btree_twigs.specs.declared.twigs.Child.{out-Child};
+ghost use Rattle.btree_twigs.specs.declared.twigs.Twig.{out-Twig};
+ghost use Rattle.btree_twigs.specs.Wiped.{IsBlankRoom};
 ghost use Rattle.std.specs.Bool.{OnTrue, OnFalse};
 
 use crate::lists::{append, insert, lend_last, push};
 use crate::twigs::{Child, Twig, low_of, place};
+use crate::wiping::{cover, wipe_room};
 
 /// Takes the data record of a block out of a leaf.
 fn take_datum(children: &mut Vec<Child>, block: u64)
@@ -27,6 +30,7 @@ fn take_datum(children: &mut Vec<Child>, block: u64)
         return;
     }
     let _child = children.remove(at - 1);
+    cover(children);
 }
 
 /// Evens out two neighbours of which one has a child fewer than it must have: its neighbour lends it
@@ -46,6 +50,7 @@ fn even_out(left: &mut Vec<Child>, right: &mut Vec<Child>, order: usize) -> bool
     let half = order / 2;
     if right.len() > half {
         push(left, right.remove(0));
+        cover(right);
         return true;
     }
     if left.len() > half {
@@ -93,6 +98,7 @@ fn mend_pair(left: &mut Child, right: Child, order: usize) -> Option<Child>
         unreachable!()
     };
     if !even_twigs(left, &mut right, order) {
+        wipe_room(&mut right.children);
         return None;
     }
     Some(Child::Grown {
@@ -111,7 +117,7 @@ fn mend_at(children: &mut Vec<Child>, left: usize, order: usize)
 {
     let right = children.remove(left + 1);
     match mend_pair(&mut children[left], right, order) {
-        None => {}
+        None => cover(children),
         Some(part) => insert(children, left + 1, part),
     }
 }
@@ -204,13 +210,16 @@ fn give_way(top: &mut Child)
     *top = child;
 }
 
-/// Takes the only child of a node.
+/// Takes the only child of a node. Nothing of its keys is left in the room that it had.
 fn only(twig: &mut Twig) -> Child
     requires { length (children_of twig.old) ≡ 1 }
-    ensures { children_of twig.old ≡ result ∷ [] }
+    ensures only { children_of twig.old ≡ result ∷ [] }
+    ensures wiped { IsBlankRoom (vec_capacity (out-Twig twig.old).children) (children_of twig.new) }
 {
-    match twig.children.pop() {
+    let child = match twig.children.pop() {
         Some(child) => child,
         None => unreachable!(),
-    }
+    };
+    wipe_room(&mut twig.children);
+    child
 }

@@ -10,6 +10,7 @@ ghost use Rattle.btree_twigs.specs.Levels.{Node, Reshape, ReshapeDown};
 ghost use Rattle.btree_update.specs.Opens.{HasWay};
 ghost use Rattle.btree_twigs.specs.Updates.{IsOpen, HasSpares};
 ghost use Rattle.btree_twigs.specs.Top.{IsTop};
+ghost use Rattle.btree_twigs.specs.Wiped.{blank as zeros};
 ghost use Rattle.btree_update.specs.Maps.{MapPuts, MapTakes, HasBlock, LacksBlock};
 ghost use Rattle.sdbt_base.specs.Faults.{TellsOf};
 ghost use Rattle.std.specs.Bool.{OnTrue, OnFalse};
@@ -33,7 +34,7 @@ use crate::holding::{hold_way, least_of_root};
 use crate::opening::{note, open_root};
 use crate::refusals::ReadyRefusal;
 use crate::siblings::is_mapped;
-use btree_twigs::{Child, Spot, Twig, find, level_of, put_top, take_top};
+use btree_twigs::{Child, Spot, Twig, blank, find, level_of, put_top, take_top, wipe};
 use btree_walk::NodeReader;
 use node_codec::Entry;
 use page_store::FetchRefusal;
@@ -196,8 +197,7 @@ impl Grove {
         ensures looks { Looks P.Platform (2 * self.old.level) platform.old platform.new }
         ensures cause { TellsOf ReadyRefusal.PlatformFault result (P.faults platform.old) (P.faults platform.new) }
     {
-        self.held.clear();
-        self.beside.clear();
+        let_go_held(&mut self.held, &mut self.beside);
         let least = least_of_root(self.level);
         let left = hold_way(
             alloc,
@@ -301,6 +301,41 @@ impl Grove {
         take_top(&mut self.top, self.order as usize, block);
         self.level = level_of(&self.top);
     }
+
+    /// Leaves nothing of the keys that the tree has: for one that is given up. No node is in memory then, or held.
+    pub fn clear(&mut self)
+        ensures top { self.new.top ≡ zeros }
+        ensures none_held { (self.new.held.items ≡ []) × (self.new.beside.items ≡ []) }
+    {
+        let_go_held(&mut self.held, &mut self.beside);
+        clear_top(&mut self.top);
+    }
+}
+
+/// Writes zeros over a root, and over the rooms of the nodes in memory.
+fn clear_top(top: &mut Child)
+    ensures { top.new ≡ zeros }
+{
+    if let Child::Grown { twig, .. } = top {
+        wipe(twig);
+    }
+    *top = blank();
+}
+
+/// Lets the nodes go that are held, once zeros are written over their rooms.
+fn let_go_held(held: &mut Vec<Twig>, beside: &mut Vec<Option<Twig>>)
+    ensures { (held.new.items ≡ []) × (beside.new.items ≡ []) }
+{
+    for twig in held.iter_mut() {
+        wipe(twig);
+    }
+    for node in beside.iter_mut() {
+        if let Some(twig) = node {
+            wipe(twig);
+        }
+    }
+    held.clear();
+    beside.clear();
 }
 
 /// The address of a block's data record below a root in memory whose way to the block is in memory, or `None`.

@@ -73,11 +73,11 @@ fn in_memory(alloc: Global, node: &NodeBody) -> Result<Twig, ReadyRefusal>
 {
     let mut children = Vec::with_capacity(alloc, 65)?;
     for entry in node.entries.iter() {
-        children.push(Child::Kept {
+        children.push_reserved(Child::Kept {
             low: entry.low,
             addr: entry.addr,
             key: entry.key,
-        })?;
+        });
     }
     Ok(Twig {
         level: node.level,

@@ -15,6 +15,7 @@ use Rattle.page_store.specs.Keeping.{KeepsKeys}
 use Rattle.node_codec.specs.declared.body.NodeBody.{NodeBody}
 use Rattle.page_store.specs.Buffer.{Held}
 use Rattle.page_store.proofs.KeptLaws.{root_of_stands}
+use Rattle.page_store.proofs.ApartLaws.{all_left, all_right}
 use Rattle.btree_twigs.specs.Stubs.{Stub}
 use Rattle.node_cache.specs.Cached.{Cached}
 use Rattle.btree_walk.specs.Sights.{StandsOver}
@@ -27,7 +28,6 @@ use Rattle.btree_update.specs.GroveTree.{want_in}
 use Rattle.grove_accounts.specs.Below.{HaveParts}
 use Rattle.grove_accounts.specs.Certs.{IsOwnStub}
 use Rattle.grove_accounts.proofs.CertLaws.{IsOldNode, old_nodes}
-use Rattle.grove_accounts.proofs.ListLaws.{all_left, all_right}
 use Rattle.shadow_commit.specs.Handing.{KnowsPlaces}
 use Rattle.device_session.specs.Sessions.{Session}
 use Rattle.device_session.specs.Open.{AreDataPages}

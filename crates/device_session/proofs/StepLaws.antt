@@ -4,6 +4,7 @@ use Rattle.std.specs.Prelude.{Some, IfOk, IfErr, OnOk, IsOk}
 use Rattle.sdbt_base.specs.Arrays.{Device, Blocks, committed_with}
 use Rattle.sdbt_base.specs.Counts.{Counts, counts}
 use Rattle.sdbt_base.specs.Faults.{Rose}
+use Rattle.sdbt_base.specs.Keys.{bare}
 use Rattle.sdbt_base.specs.declared.sinks.Sink.{Ghosts as SinkGhosts}
 use Rattle.sdbt_base.specs.declared.tapes.Tape.{Ghosts as TapeGhosts}
 use Rattle.std.specs.List.{AllByRecursion}
@@ -22,6 +23,7 @@ use Rattle.node_codec.specs.Record.{NodeRecord}
 use Rattle.page_store.proofs.RecordLaws.{record_stays}
 use Rattle.node_cache.specs.Cached.{Cached, without_all, forgotten}
 use Rattle.node_cache.proofs.CacheLaws.{All-without_all, none-without_all}
+use Rattle.std.proofs.lemmas.List.{length-map}
 use Rattle.std.proofs.lemmas.List.Elements.{All-weaker}
 use Rattle.shadow_commit.proofs.OrderLaws.{records_at}
 use Rattle.shadow_commit.proofs.CachingLaws.{All-sealed, capacity_sealed}
@@ -333,6 +335,12 @@ commits_raised P T L platform mid new tape tape_now ledger ledger_now session no
       cached = record { nodes = is.adds.nodes; from = is.over.order.from; many = omega (arith, is.grown, is.adds.head); is = taken.cached ∙ ap (forgotten session.grove.gone.items) is.cached };
       forgot = subst (λ (k : Cached). All (λ addr. All (λ node. node.addr ≢ addr) k.nodes) session.grove.gone.items) (sym taken.cached) (none-without_all session.grove.gone.items r.cache.nodes);
       head = all.swaps.head ∙ is.grown;
+      drew =
+          let nodes = is.adds.nodes in
+          let keys = map (λ (n : Sealed). bare n.key) nodes in
+          let many : length keys ≡ length nodes = length-map nodes (λ (n : Sealed). bare n.key) in
+          (keys, omega (arith, many, is.grown, is.adds.head), is.adds.drew);
+      reads = λ told. all.swaps.reads told ∙ all.adds.reads told;
       names = subst (NamesLast (T.drawn tape) (T.drawn tape_now) (P.head new)) (sym taken.root_is) (record {
         earlier = last.earlier;
         drew = subst (λ (keys : List (List ℕ)). DrewAll (T.drawn tape) keys (T.drawn tape_now)) last.keys is.adds.drew;

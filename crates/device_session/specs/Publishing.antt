@@ -8,6 +8,7 @@ use Rattle.platform.specs.declared.platforms.Platform.{Ghosts as PlatformGhosts}
 use Rattle.platform.specs.Image.{LeavesOnly}
 use Rattle.platform.specs.History.{Turns, CellStays}
 use Rattle.root_codec.specs.RootRecord.{root_bytes}
+use Rattle.page_store.specs.Keeping.{DrewAll}
 use Rattle.page_store.specs.Stands.{Stands}
 use Rattle.page_store.specs.Tree.{Parts, Tree}
 use Rattle.btree_walk.specs.Among.{IsAmong, KeepsAmong}
@@ -49,7 +50,7 @@ pub record Recaches (head count : ℕ) (gone : List ℕ) (old new : Cached) : Ty
   pub many : length nodes ≡ count
   pub is : new ≡ forgotten gone (with_sealed (forgotten gone old) nodes)
 
--- a commit that raised the number: as many pages were added as there were nodes in memory, and the root record in the cell names the last of them with
+-- a commit that raised the number: as many pages were added, and as many keys drawn, as there were nodes in memory, no page was read, and the root record in the cell names the last of them with
 -- the key that was drawn last, and says how many blocks the session counts; the session has no data pages that weren't told of, and its tree is the new one, with no node in memory. Its cache
 -- has what it had but for the nodes that are gone, none of which is left, and the new tree's nodes that were in memory; nothing of what was read or sealed is left in its buffers, and no entry in the room of
 -- the node that was read last; and where it had an array, each key in its fields is of the new tree
@@ -64,6 +65,8 @@ pub record HasRaised {S R : Type 0} (P : PlatformGhosts S) (T : TapeGhosts R) (p
   pub cached : Recaches (P.head platform) (needed_by session) session.grove.gone.items session.cache now.cache
   pub forgot : All (λ addr. All (λ node. node.addr ≢ addr) now.cache.nodes) session.grove.gone.items
   pub head : P.head platform_now ≡ P.head platform + needed_by session
+  pub drew : (keys : List (List ℕ)) × (length keys ≡ needed_by session) × DrewAll (T.drawn tape) keys (T.drawn tape_now)
+  pub reads : P.tells → P.reads platform_now ≡ P.reads platform
   pub names : NamesLast (T.drawn tape) (T.drawn tape_now) (P.head platform_now) (root_of now)
   pub cell : P.tells → (P.history platform_now).present.cell ≡ Some (root_bytes (root_of now))
   pub keys : P.tells → (device : Device) (contents : Blocks) → Holds session (P.history platform).present device contents → HasTreeKeys now (P.history platform_now).present.readable

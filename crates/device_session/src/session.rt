@@ -1,7 +1,8 @@
-ghost use Rattle.std.specs.Prelude.{◌≡◌, ◌≤◌, IfOk, IfErr};
+ghost use Rattle.std.specs.Prelude.{◌≡◌, ◌≤◌, [], IfOk, IfErr};
 ghost use Rattle.sdbt_base.specs.Faults.{TellsOf};
 ghost use Rattle.platform.specs.Calls.{Looks};
 ghost use Rattle.btree_walk.specs.Readers.{IsWiped};
+ghost use Rattle.btree_twigs.specs.Wiped.{blank};
 ghost use Rattle.device_session.specs.Causes.{IsMountCause};
 
 use crate::refusals::MountRefusal;
@@ -115,12 +116,16 @@ impl Session {
         &self.root
     }
 
-    /// Leaves nothing of what was read or sealed in the session's buffers, nor of the node that was read last: for a session
-    /// that is given up.
+    /// Leaves nothing of what was read or sealed in the session's buffers, no node in its cache or in memory, nor anything of the
+    /// node that was read last: for a session that is given up.
     pub fn wipe(&mut self)
         ensures wiped { IsWiped self.new.buffers self.new.node }
-        ensures same { self.new ≡ record self.old { buffers = self.new.buffers; node = self.new.node } }
+        ensures cache { self.new.cache.nodes ≡ [] }
+        ensures top { self.new.grove.top ≡ blank }
+        ensures none_held { (self.new.grove.held.items ≡ []) × (self.new.grove.beside.items ≡ []) }
     {
         self.reader.wipe();
+        self.reader.cache.clear();
+        self.grove.clear();
     }
 }

@@ -1,5 +1,5 @@
 -- What a cache keeps once nodes were put or forgotten.
-use Rattle.std.proofs.Common.{◌≡◌, ◌≢◌, ℕ, ◌+◌, ◌<◌, ◌≤◌, true, false, List, [], ◌∷◌, ◌++◌, All, cond, take, length, get_or, nat_eq, refl, sym, ap, inl, inr, ◌∙◌}
+use Rattle.std.proofs.Common.{◌≡◌, ◌≢◌, ℕ, ◌+◌, ◌<◌, ◌≤◌, true, false, List, [], ◌∷◌, ◌++◌, All, cond, take, length, get_or, nat_eq, refl, sym, ap, arith, inl, inr, ◌∙◌}
 use Rattle.std.proofs.lemmas.Bool.Decides.{eqb_tells}
 use Rattle.std.proofs.lemmas.List.{take_more, take_all}
 use Rattle.std.proofs.lemmas.List.Elements.{All-nil, All-cons, All-head, All-tail, All-take}
@@ -49,6 +49,20 @@ forgotten-more i d addrs old now within is =
 -- all of them
 pub forgotten-all : (i : ℕ) (addrs : List ℕ) (old : Cached) → length addrs ≤ i → forgotten (take i addrs) old ≡ forgotten addrs old
 forgotten-all i addrs old all = ap (λ l. forgotten l old) (take_all i addrs all)
+
+-- of nodes that begin with one of an address fewer are left without it
+pub without-fewer : (addr : ℕ) (ks : List CachedNode) → length (without addr ks) ≤ length ks
+without-fewer addr [] = omega arith
+without-fewer addr (k ∷ ks) = elim (nat_eq k.addr addr) as (λ b. length (cond b (without addr ks) (k ∷ without addr ks)) ≤ length (k ∷ ks)) [
+  | true ↦ omega (arith, without-fewer addr ks)
+  | false ↦ omega (arith, without-fewer addr ks)
+]
+
+pub fewer_behind : (addr : ℕ) (ks others : List CachedNode) (k : CachedNode) → ks ≡ k ∷ others → k.addr ≡ addr → length (without addr ks) < length ks
+fewer_behind addr ks others k is here = elim (eqb_tells k.addr addr) [
+  | inl same ↦ rw (is, same.0) (omega (arith, without-fewer addr others))
+  | inr other ↦ absurd (other.1 here)
+]
 
 -- ---- nodes that are put
 

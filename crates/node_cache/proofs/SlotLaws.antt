@@ -528,3 +528,18 @@ first_slot ((t, Some j) ∷ es) k ks e first kept at = let same : j ≡ k = cc i
 pub some_slot : (es : List (ℕ × Option CachedNode)) (k : CachedNode) (ks : List CachedNode) → nodes_in es ≡ k ∷ ks → slice_get es 0 ≡ None → ⊥
 some_slot [] k ks kept at = cc
 some_slot (e ∷ es) k ks kept at = cc
+
+-- where it has one it is the first, and where it has none there is none
+pub first_of : (es : List (ℕ × Option CachedNode)) (e : ℕ × Option CachedNode) (k : CachedNode) → slice_get es 0 ≡ Some e → e.1 ≡ Some k → (others : List CachedNode) × (nodes_in es ≡ k ∷ others)
+first_of [] e k at is = absurd (let no : None ≡ Some e = at in cc)
+first_of ((t, None) ∷ es) e k at is = absurd (let e' : (t, None) ≡ e = cc in let no : None ≡ Some k = ap (λ (p : ℕ × Option CachedNode). p.1) e' ∙ is in cc)
+first_of ((t, Some j) ∷ es) e k at is = let e' : (t, Some j) ≡ e = cc in let s : Some j ≡ Some k = ap (λ (p : ℕ × Option CachedNode). p.1) e' ∙ is in let same : j ≡ k = cc in (nodes_in es, ap (λ (n : CachedNode). n ∷ nodes_in es) same)
+
+pub none_first : (es : List (ℕ × Option CachedNode)) → slice_get es 0 ≡ None → nodes_in es ≡ []
+none_first [] at = refl
+none_first (e ∷ es) at = cc
+
+pub none_in_first : (es : List (ℕ × Option CachedNode)) (e : ℕ × Option CachedNode) → IsFullFirst es → slice_get es 0 ≡ Some e → e.1 ≡ None → nodes_in es ≡ []
+none_in_first [] e first at is = refl
+none_in_first ((t, None) ∷ es) e first at is = first
+none_in_first ((t, Some j) ∷ es) e first at is = let e' : (t, Some j) ≡ e = cc in let no : Some j ≡ None = ap (λ (p : ℕ × Option CachedNode). p.1) e' ∙ is in cc

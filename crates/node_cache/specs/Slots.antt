@@ -1,9 +1,14 @@
 -- The slots behind a cache: which node stands in which, and in which order they were used.
-use Rattle.std.specs.Prelude.{◌≡◌, ◌≢◌, ◌<◌, ◌⊎◌, ℕ, List, [], ◌∷◌, Option, None, Some, All, IsSome, length, nat_eq, slice_get}
+use Rattle.std.specs.Prelude.{◌≡◌, ◌≢◌, ◌<◌, ◌⊎◌, ℕ, List, [], ◌∷◌, Option, None, Some, All, IsSome, length, nat_eq, replicate, slice_get}
 use Rattle.std.specs.List.{IsDistinct}
 use Rattle.std.specs.Map.{keys_of, lookup}
 use Rattle.lru.specs.LruCache.{last_entry}
 use Rattle.node_cache.specs.declared.slots.CachedNode.{CachedNode}
+
+-- nothing is left of a node: its key is zeros, and it has no entries
+pub record IsWipedOut (kept : CachedNode) : Type 0 where
+  pub key : kept.key ≡ replicate 32 0
+  pub entries : kept.node.entries.items ≡ []
 
 -- the nodes in slots, in their order
 abbrev pub nodes_in : List (ℕ × Option CachedNode) → List CachedNode

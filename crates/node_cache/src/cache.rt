@@ -183,6 +183,32 @@ impl NodeCache {
             self.forget(*addr);
         }
     }
+
+    /// Forgets all that is cached. Nothing of it is left in the slots.
+    pub fn clear(&mut self)
+        ensures { self.new ≡ record {
+          capacity = self.old.capacity;
+          nodes = [];
+        } }
+    {
+        'nodes: while let Some(addr) = self.first_address() {
+            self.forget(addr);
+        }
+    }
+
+    /// The address of the most recent node, if there is one.
+    fn first_address(&self) -> Option<u64>
+        ensures some { IfSome result (λ addr. (first : CachedNode) × (others : List CachedNode) × (self.now.nodes ≡ first ∷ others) × (first.addr ≡ addr)) }
+        ensures none { IfNone result (self.now.nodes ≡ []) }
+    {
+        let Some((_, slot)) = self.slots.peek_mru() else {
+            return None;
+        };
+        match slot.node() {
+            Some(kept) => Some(kept.addr),
+            None => None,
+        }
+    }
 }
 
 /// How many slots the map is to have room for: one at least, which stays unused at a capacity of 0.

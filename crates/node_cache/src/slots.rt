@@ -30,14 +30,16 @@ pub struct Slot {
 }
 
 impl Model for Slot {
-    ghost use Rattle.std.specs.Prelude.{◌≤◌, None, Option, cond, slice_get, vec_capacity};
+    ghost use Rattle.std.specs.Prelude.{◌≡◌, ◌≤◌, None, Option, IfSome, cond, false, slice_get, vec_capacity};
     ghost use Rattle.node_cache.specs.declared.slots.CachedNode.{CachedNode};
+    ghost use Rattle.node_cache.specs.Slots.{IsWipedOut};
 
     ghost Value = { Option CachedNode };
 
     ghost view = { λ s. cond s.is_full (slice_get s.room.items 0) None };
 
-    ghost invariant = { λ s. 1 ≤ vec_capacity s.room };
+    // In a slot in which no node stands nothing is left of one.
+    ghost invariant = { λ s. (1 ≤ vec_capacity s.room) × (s.is_full ≡ false → IfSome (slice_get s.room.items 0) IsWipedOut) };
 }
 
 impl CachedNode {

@@ -5,7 +5,7 @@ use Rattle.std.specs.List.{AllByRecursion}
 use Rattle.std.proofs.lemmas.List.Elements.{All-append, All-from_recursion}
 use Rattle.std.proofs.lemmas.List.Kept.{AllPairs-cons}
 use Rattle.page_store.specs.Tree.{Place}
-use Rattle.grove_accounts.proofs.ListLaws.{AreApart}
+use Rattle.page_store.proofs.ApartLaws.{AreApart}
 use Rattle.shadow_commit.specs.Sealed.{Sealed}
 use Rattle.shadow_commit.specs.NewTree.{place_of, AreFrom}
 

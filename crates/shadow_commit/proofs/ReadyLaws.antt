@@ -32,6 +32,7 @@ use Rattle.cert_maker.specs.Cert.{Cert}
 use Rattle.sdbt_base.specs.Traces.{Traced}
 use Rattle.sdbt_base.specs.declared.lists.Unkept.{Unkept}
 use Rattle.page_store.proofs.TreeLaws.{one_tree}
+use Rattle.page_store.proofs.ApartLaws.{apart_permutation}
 use Rattle.shadow_commit.specs.Sealed.{Sealed, page_of, with_nodes, SealsNode, Seals}
 use Rattle.btree_update.specs.Held.{bound, AreBelow}
 use Rattle.shadow_commit.specs.CanSeal.{CanSeal}
@@ -43,7 +44,6 @@ use Rattle.shadow_commit.proofs.KeyLaws.{AreKnown, keys_in, append_within, known
 use Rattle.shadow_commit.specs.Ready.{CanPrepare, CanSealTop, Stand, IsNextRoot, StandsWith, CertifiesBy, IsSealed, ListsNewTree}
 use Rattle.shadow_commit.proofs.TreeLaws.{node_tree, has_stays, all_append}
 use Rattle.shadow_commit.proofs.OrderLaws.{node_in_order, records_at}
-use Rattle.grove_accounts.proofs.ListLaws.{apart_permutation}
 use Rattle.shadow_commit.proofs.ApartLaws.{IsWithin, ReadsAs, with_fresh, fresh_within, kept_reads, fresh_reads}
 
 -- the root node in memory

@@ -1,5 +1,5 @@
 //! How the nodes in memory are sealed.
-ghost use Rattle.std.specs.Prelude.{◌≡◌, ◌<◌, ◌≤◌, ◌+◌, ◌*◌, ◌++◌, [], ◌∷◌, suc, vec_len, vec_capacity, IfOk, IsErr, length};
+ghost use Rattle.std.specs.Prelude.{◌≡◌, ◌<◌, ◌≤◌, ◌+◌, ◌*◌, ◌++◌, [], ◌∷◌, suc, vec_len, vec_capacity, IfOk, IsErr, length, take};
 ghost use Rattle.sdbt_base.specs.Keys.{key_size, IsKeyOf};
 ghost use Rattle.sdbt_base.specs.Faults.{TellsOf};
 ghost use Rattle.record_versions.specs.Versions.{IsVersion};
@@ -58,7 +58,7 @@ pub(crate) fn seal_twig<P: Platform, T: Tape>(
     reader
         .cache
         .put_node(placed.addr, &placed.key, twig.level, version, own);
-    entries.truncate(begin);
+    let_go(entries, begin);
     Ok(placed)
 }
 
@@ -106,6 +106,17 @@ fn add(entries: &mut Vec<Entry>, entry: Entry)
     ensures capacity { vec_capacity entries.old ≤ vec_capacity entries.new }
 {
     let _room = entries.push(entry);
+}
+
+/// Lets the entries go from a place on, once zeros are written over their keys: none is left in the room.
+fn let_go(entries: &mut Vec<Entry>, begin: usize)
+    ensures items { entries.new.items ≡ take begin entries.old.items }
+    ensures capacity { vec_capacity entries.old ≤ vec_capacity entries.new }
+{
+    for at in begin..entries.len() {
+        entries[at].key = Key::from_bytes([0; 32]);
+    }
+    entries.truncate(begin);
 }
 
 /// The entry of a child on the medium.

@@ -43,7 +43,7 @@ returns-in-None-clause-mended c m =
     c.remove-right.ensures.value c.remove-right.ensures.items c.index_mut.ensures.value c.mend_pair.ensures.mended in
     record {
       news = c.mend_pair.new.left ∷ [];
-      now = set_is c.args.order c.args.left c.args.children.now.items c.remove-right.new.self.items m c.remove-right.result c.index_mut.result.now c.mend_pair.new.left c.mend_pair.result
+      now = c.cover.ensures.items ∙ set_is c.args.order c.args.left c.args.children.now.items c.remove-right.new.self.items m c.remove-right.result c.index_mut.result.now c.mend_pair.new.left c.mend_pair.result
           c.remove-right.ensures.value c.remove-right.ensures.items c.index_mut.ensures.value c.mend_pair.ensures.mended;
       some = omega arith;
       few = omega arith;

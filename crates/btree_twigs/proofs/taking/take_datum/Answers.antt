@@ -46,7 +46,7 @@ returns-then-low_of-block-clause-take c order least low high h from to =
 
 pub returns-clause-take : goal.returns-clause-take
 returns-clause-take c order least low high h from to =
-    subst (IsTaken order 0 least low high c.args.block c.args.children.now.items) (sym c.remove-child.ensures.items)
+    subst (IsTaken order 0 least low high c.args.block c.args.children.now.items) (sym (c.cover.ensures.items ∙ c.remove-child.ensures.items))
     (there order least low high c.args.block c.place-at.result c.args.children.now.items c.deref.result.now c.index.result.now h c.deref.ensures.value c.if-at-eq0.false c.place-at.ensures.within
     c.place-at.ensures.before c.place-at.ensures.after c.index.ensures to (sym c.low_of.ensures ∙ c.if-low_of-block.false))
 
@@ -61,5 +61,5 @@ returns-clause-lows c =
       map low_of (take (n - 1) cs),
       map low_of (drop (suc (n - 1)) cs),
       ap (map low_of) split ∙ map-append low_of (take (n - 1) cs) (c.index.result.now ∷ drop (suc (n - 1)) cs) ∙ ap (λ x. map low_of (take (n - 1) cs) ++ (x ∷ map low_of (drop (suc (n - 1)) cs))) here,
-      ap (map low_of) c.remove-child.ensures.items ∙ map-append low_of (take (n - 1) cs) (drop (suc (n - 1)) cs),
+      ap (map low_of) (c.cover.ensures.items ∙ c.remove-child.ensures.items) ∙ map-append low_of (take (n - 1) cs) (drop (suc (n - 1)) cs),
     )

@@ -54,8 +54,8 @@ pub returns-clause-can : goal.returns-clause-can
 returns-clause-can g c =
     let spared = c.make_spares.ensures.kept c.args.self.now.order c.requires.sound.most c.requires.sound.spares in
     let few : HoldsFew g.P.Platform c.args.self.now.level (c.args.self.now.level - 1) c.args.platform.now c.hold_way.new.platform [] c.hold_way.new.held.items [] c.hold_way.new.beside.items =
-    subst (λ (held : List Twig). HoldsFew g.P.Platform c.args.self.now.level (c.args.self.now.level - 1) c.args.platform.now c.hold_way.new.platform held c.hold_way.new.held.items [] c.hold_way.new.beside.items) c.clear.ensures.items
-    (subst (λ (beside : List (Option Twig)). HoldsFew g.P.Platform c.args.self.now.level (c.args.self.now.level - 1) c.args.platform.now c.hold_way.new.platform c.clear.new.self.items c.hold_way.new.held.items beside c.hold_way.new.beside.items) c.clear-2.ensures.items
+    subst (λ (held : List Twig). HoldsFew g.P.Platform c.args.self.now.level (c.args.self.now.level - 1) c.args.platform.now c.hold_way.new.platform held c.hold_way.new.held.items [] c.hold_way.new.beside.items) c.let_go_held.ensures.0
+    (subst (λ (beside : List (Option Twig)). HoldsFew g.P.Platform c.args.self.now.level (c.args.self.now.level - 1) c.args.platform.now c.hold_way.new.platform c.let_go_held.new.held.items c.hold_way.new.held.items beside c.hold_way.new.beside.items) c.let_go_held.ensures.1
     c.in_ok-left.ensures.at_hand.1) in
     let at_hand = subst (λ l. HeldFrom AnyRead c.args.self.now.order l c.args.block (c.args.self.now.level - 1) c.args.self.now.blocks c.args.self.now.top c.hold_way.new.held.items) c.least_of_root-least.ensures c.in_ok-left.ensures.at_hand.0 in (
       record {

@@ -1,0 +1,71 @@
+//! Nodes in memory that go: nothing of their keys is left in the rooms that they had.
+ghost use Rattle.std.specs.Prelude.{◌≡◌, vec_capacity};
+ghost use Rattle.btree_twigs.specs.Stubs.{children_of};
+ghost use Rattle.btree_twigs.specs.Wiped.{AreBlank, IsBlankRoom, blank as zeros};
+
+use crate::lists::{insert, push};
+use crate::twigs::{Child, Twig};
+use sdbt_base::Key;
+
+/// Writes zeros over the children of a node, and over those of the nodes in memory below it, which go with it.
+pub fn wipe(twig: &mut Twig)
+    ensures { AreBlank (children_of twig.new) }
+{
+    let level = twig.level;
+    wipe_all(&mut twig.children, level);
+}
+
+/// The same of the children of a node of this level, down to the leaves.
+#[cycle(wipe)]
+fn wipe_all(children: &mut [Child], level: u8)
+    ensures { AreBlank children.new }
+{
+    for child in children.iter_mut() {
+        if level > 1 {
+            wipe_below(child, level - 1);
+        }
+        *child = blank();
+    }
+}
+
+/// The same below a child that may be a node of this level in memory.
+#[cycle(wipe)]
+fn wipe_below(child: &mut Child, level: u8) {
+    if let Child::Grown { twig, .. } = child {
+        wipe_all(&mut twig.children, level);
+    }
+}
+
+/// Writes zeros over a room from which all children were moved away.
+pub(crate) fn wipe_room(children: &mut Vec<Child>)
+    ensures { IsBlankRoom (vec_capacity children.old) children.new.items }
+{
+    children.clear();
+    let room = children.capacity();
+    'places: while children.len() < room {
+        push(children, blank());
+    }
+}
+
+/// Writes zeros over the place behind the last child, where there is one: what was moved away is not left there.
+pub(crate) fn cover(children: &mut Vec<Child>)
+    ensures items { children.new.items ≡ children.old.items }
+    ensures capacity { vec_capacity children.new ≡ vec_capacity children.old }
+{
+    let end = children.len();
+    if end < children.capacity() {
+        insert(children, end, blank());
+        let _blank = children.pop();
+    }
+}
+
+/// A child of zeros.
+pub fn blank() -> Child
+    ensures { result ≡ zeros }
+{
+    Child::Kept {
+        low: 0,
+        addr: 0,
+        key: Key::from_bytes([0; 32]),
+    }
+}
