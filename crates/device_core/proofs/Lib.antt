@@ -14,3 +14,4 @@ pub mod SurveyLaws
 pub mod UpgradeCauseLaws
 pub mod RewriteLaws
 pub mod UpgradingLaws
+pub mod AscendLaws

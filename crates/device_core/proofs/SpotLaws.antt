@@ -1,17 +1,12 @@
 -- Places at consecutive addresses, and in any order.
-use Rattle.std.proofs.Common.{◌≡◌, ◌≢◌, inl, inr, ℕ, suc, ◌+◌, ◌<◌, ◌≤◌, Bool, false, List, [], ◌∷◌, ◌++◌, All, map, length, refl, sym, subst, ◌∙◌, arith}
+use Rattle.std.proofs.Common.{◌≡◌, ℕ, suc, ◌+◌, ◌<◌, ◌≤◌, List, [], ◌∷◌, ◌++◌, All, map, length, subst, arith}
 use Rattle.std.specs.Prelude.{AllPairs}
-use Rattle.std.specs.List.{AllByRecursion, IsDistinct}
-use Rattle.std.specs.List.Sorted.{IsPermutation}
-use Rattle.std.proofs.Math.Dec.{eqb}
-use Rattle.std.proofs.lemmas.Bool.{eqb-false, ne_eqb}
-use Rattle.std.proofs.lemmas.Bool.Decides.{eqb_tells}
-use Rattle.std.proofs.lemmas.List.Elements.{All-nil, All-cons, All-head, All-tail, All-weaker, All-from_recursion, recursion_from_All}
+use Rattle.std.proofs.lemmas.List.Elements.{All-nil, All-cons, All-head, All-tail, All-weaker}
 use Rattle.std.proofs.lemmas.List.Kept.{AllPairs-cons}
-use Rattle.std.proofs.lemmas.Map.Keys.{IsDistinct-IsPermutation}
-use Rattle.platform.specs.Logged.{AllPairs-nil, AllPairs-first, AllPairs-rest}
+use Rattle.platform.specs.Logged.{AllPairs-nil}
 use Rattle.node_codec.specs.declared.body.Entry.{Entry}
 use Rattle.page_store.specs.Tree.{Place}
+use Rattle.page_store.proofs.ApartLaws.{AreApart}
 use Rattle.tree_build.specs.declared.shapes.Span.{Span}
 use Rattle.tree_build.specs.Nodes.{AreFrom, data_place, node_places}
 
@@ -60,54 +55,9 @@ from_within first end (p ∷ ps) from fits =
 
 -- ---- apart
 
--- no place has another one's address
-abbrev pub AreApart : Place → Place → Type 0
-AreApart p q = p.addr ≢ q.addr
-
 pub from_apart : (first : ℕ) (ps : List Place) → StandFrom first ps → AllPairs AreApart ps
 from_apart first [] from = AllPairs-nil AreApart
 from_apart first (p ∷ ps) from =
     AllPairs-cons AreApart p ps
     (All-weaker (IsWithin (suc first) (suc first + length ps)) (AreApart p) (λ q is same. omega (arith, is.0, same, from.0)) ps (from_within (suc first) (suc first + length ps) ps from.1 (omega arith)))
     (from_apart (suc first) ps from.1)
-
-abbrev same_place : Place → Place → Bool
-same_place p q = eqb p.addr q.addr
-
-flips : (p q : Place) → same_place p q ≡ same_place q p
-flips p q = elim (eqb_tells p.addr q.addr) [
-  | inl h ↦ subst (λ n. eqb p.addr n ≡ eqb n p.addr) h.1 refl
-  | inr h ↦ h.0 ∙ sym (ne_eqb q.addr p.addr (λ e. h.1 (sym e)))
-]
-
-to_distinct : (xs : List Place) → AllPairs AreApart xs → IsDistinct same_place xs
-unfolding IsDistinct
-to_distinct [] h = tt
-to_distinct (x ∷ xs) h = (go xs (recursion_from_All (AreApart x) xs (AllPairs-first AreApart x xs h)), to_distinct xs (AllPairs-rest AreApart x xs h))
-  where
-    go : (ys : List Place) → AllByRecursion (AreApart x) ys → AllByRecursion (λ y. same_place x y ≡ false) ys
-    go [] h = tt
-    go (y ∷ ys) h = (ne_eqb x.addr y.addr h.0, go ys h.1)
-
-from_distinct : (xs : List Place) → IsDistinct same_place xs → AllPairs AreApart xs
-unfolding IsDistinct
-from_distinct [] h = AllPairs-nil AreApart
-from_distinct (x ∷ xs) h = AllPairs-cons AreApart x xs (All-from_recursion (AreApart x) xs (go xs h.0)) (from_distinct xs h.1)
-  where
-    go : (ys : List Place) → AllByRecursion (λ y. same_place x y ≡ false) ys → AllByRecursion (AreApart x) ys
-    go [] h = tt
-    go (y ∷ ys) h = (eqb-false x.addr y.addr h.0, go ys h.1)
-
--- places that are apart stay so in another order
-pub apart_permutation : (xs ys : List Place) → IsPermutation xs ys → AllPairs AreApart xs → AllPairs AreApart ys
-apart_permutation xs ys p h = from_distinct ys (IsDistinct-IsPermutation same_place flips xs ys p (to_distinct xs h))
-
--- ---- parts of a list
-
-pub all_left : {A : Type 0} (P : A → Type 0) (xs ys : List A) → All P (xs ++ ys) → All P xs
-all_left P [] ys all = All-nil P
-all_left P (x ∷ xs) ys all = All-cons P x xs (All-head P x (xs ++ ys) all) (all_left P xs ys (All-tail P x (xs ++ ys) all))
-
-pub all_right : {A : Type 0} (P : A → Type 0) (xs ys : List A) → All P (xs ++ ys) → All P ys
-all_right P [] ys all = all
-all_right P (x ∷ xs) ys all = all_right P xs ys (All-tail P x (xs ++ ys) all)

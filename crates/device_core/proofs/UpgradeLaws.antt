@@ -19,7 +19,8 @@ use Rattle.page_store.specs.Kept.{IsRootOf}
 use Rattle.page_store.specs.Stands.{StandsBy, Stands, IsSound}
 use Rattle.page_store.specs.Keeping.{KeepsKeys}
 use Rattle.page_store.specs.Floors.{Forgets, HasPlace, low_of}
-use Rattle.page_store.proofs.StandsLaws.{stands_later}
+use Rattle.page_store.proofs.StandsLaws.{stands_by_left, stands_later}
+use Rattle.page_store.proofs.ApartLaws.{all_left, all_right}
 use Rattle.page_store.proofs.KeptLaws.{one_root_in, root_of_stands, same_during, tree_later}
 use Rattle.page_store.proofs.KeepingLaws.{IsPublished, keeps_idle, keeps_from, keeps_then, keeps_published}
 use Rattle.page_store.proofs.FloorLaws.{forgets_still, forgets_published, low_of_stands, place_at, place_of_stands, succeeds_tree}
@@ -30,15 +31,15 @@ use Rattle.device_terms.specs.Served.{IsServedImage}
 use Rattle.device_terms.specs.Effects.{Discloses}
 use Rattle.device_terms.proofs.MomentLaws.{then_published, once, stays_once, earlier}
 use Rattle.device_terms.proofs.ServedLaws.{serves_still, serves_turned, served_published}
-use Rattle.device_terms.proofs.StandingLaws.{turns_stands}
+use Rattle.device_terms.proofs.StandingLaws.{turns_leaves}
 use Rattle.device_terms.proofs.PuttingLaws.{Published, published_done, puts_entry}
 use Rattle.tree_build.specs.Shape.{shape_of}
 use Rattle.tree_build.specs.Nodes.{data_place, node_places, places_of, planned, traced_of}
 use Rattle.tree_build.proofs.PlanLaws.{planned_places}
-use Rattle.device_core.specs.Upgrading.{order_above, needed_of_root, IsOfUpgrade, CertifiesUpgrade}
+use Rattle.device_core.specs.Upgrading.{order_above, needed_of_root, IsOfUpgrade, CertifiesUpgrade, StandsFrom}
 use Rattle.device_core.specs.UpgradeCalls.{IsUpgrading, IsUpgradeEntry}
 use Rattle.device_core.proofs.FirstLaws.{with_root}
-use Rattle.device_core.proofs.SpotLaws.{IsWithin, node_places_all, all_left, all_right}
+use Rattle.device_core.proofs.SpotLaws.{IsWithin, node_places_all}
 use Rattle.device_core.proofs.RecordLaws.{entry_addrs, place_listed, listed_place}
 use Rattle.device_core.proofs.AnewLaws.{IsAnew, anew_differs}
 use Rattle.device_core.proofs.UpgradedLaws.{shaped, needed, cell_stays, new_tree, new_parts, places_within, places_apart, list_is, upgraded_stands}
@@ -90,6 +91,11 @@ still_discloses tells drawn drawn_now old new Done keeps stays = record {
 
 -- ---- an upgrade
 
+-- what a loss of power leaves stands by the same tree
+from_leaves : (first : ℕ) (device : Option Device) (image : Image) → StandsFrom first device image → LeavesOnly (StandsFrom first device) image
+from_leaves first None image empty left leaves = leaves.cell ∙ empty
+from_leaves first (Some device) image (root, parts, stands, behind) left leaves = (root, parts, stands_by_left image left device root parts leaves stands, behind)
+
 module _ (tells : Type 0) (old looked copied mid new : History) (head : ℕ) (root next : Root) (list copies items : List Entry) (addrs : List ℕ) (u : IsUpgrading tells old looked copied mid new head root next list copies items addrs) where
   abbrev pub made_image : Image
   made_image = with_root mid.present next
@@ -116,24 +122,32 @@ module _ (tells : Type 0) (old looked copied mid new : History) (head : ℕ) (ro
       let by = by_root told device stands in
       upgraded_stands tells old looked copied mid new head root next list copies items addrs u told device by.0 by.1
 
-  -- what the last step makes stands for the upgraded device
-  made_stands : (told : tells) (device : Device) → Stands old.present (Some device) → Stands (with_root mid.present next) (Some (upgraded device))
-  made_stands told device stands = (next, after told, stands_after told device stands)
+  -- what the last step makes stands for the upgraded device, by pages that came in this call
+  made_from : (told : tells) (device : Device) → Stands old.present (Some device) → StandsFrom head (Some (upgraded device)) (with_root mid.present next)
+  made_from told device stands =
+      let within = places_within tells old looked copied mid new head root next list copies items addrs u told in (
+        next,
+        after told,
+        stands_after told device stands,
+        All-weaker (IsWithin head (head + needed_of_root root)) (λ (p : Place). head ≤ p.addr) (λ p is. is.0) (after told).places within,
+      )
 
-  made_of : (told : tells) (device : Option Device) → Stands old.present device → Stands (with_root mid.present next) (option_map upgraded device)
+  made_of : (told : tells) (device : Option Device) → Stands old.present device → StandsFrom head (option_map upgraded device) (with_root mid.present next)
   made_of told None empty = absurd (none_empty told empty)
-  made_of told (Some device) stands = made_stands told device stands
+  made_of told (Some device) stands = made_from told device stands
 
   pub upgrade_time : tells → (device : Option Device) → Stands old.present device
-      → Turns old new (LeavesOnly (λ left. Stands left device)) (LeavesOnly (λ left. Stands left (option_map upgraded device)))
-  upgrade_time told device stands = turns_stands old new (with_root mid.present next) device (option_map upgraded device) stands (made_of told device stands) (upgrade_once told)
+      → Turns old new (LeavesOnly (λ left. Stands left device)) (LeavesOnly (StandsFrom head (option_map upgraded device)))
+  upgrade_time told device stands =
+      let after = option_map upgraded device in
+      turns_leaves old new (with_root mid.present next) device (StandsFrom head after) stands (from_leaves head after (with_root mid.present next) (made_of told device stands)) (upgrade_once told)
 
   -- where the last step was taken, the image stands for the upgraded device
   pub upgrade_made : tells → new.present ≡ with_root mid.present next → (device : Device) → Stands old.present (Some device) → (number : ℕ) → number ≡ root.commit + 1
-      → (number ≡ (upgraded device).number) × Stands new.present (Some (upgraded device))
+      → (number ≡ (upgraded device).number) × StandsFrom head (Some (upgraded device)) new.present
   upgrade_made told published device stands number is = (
     is ∙ ap (λ (n : ℕ). n + 1) (by_root told device stands).1.number,
-    subst (λ (i : Image). Stands i (Some (upgraded device))) (sym published) (made_stands told device stands),
+    subst (StandsFrom head (Some (upgraded device))) (sym published) (made_from told device stands),
   )
 
   -- ---- what is disclosed

@@ -16,6 +16,7 @@ use Rattle.root_codec.specs.declared.root.Root.{Root}
 use Rattle.page_store.specs.Tree.{Place, Mapped, Parts}
 use Rattle.page_store.specs.Stands.{StandsBy, pairs_of}
 use Rattle.page_store.proofs.RecordLaws.{record_stays}
+use Rattle.page_store.proofs.ApartLaws.{AreApart, apart_permutation}
 use Rattle.btree_walk.specs.Mapped.{entry_of}
 use Rattle.btree_walk.proofs.LevelLaws.{tree_entries}
 use Rattle.device_terms.proofs.MomentLaws.{stays_then}
@@ -27,7 +28,7 @@ use Rattle.device_core.specs.Upgrading.{order_above, needed_of_root}
 use Rattle.device_core.specs.UpgradeCalls.{IsUpgrading}
 use Rattle.device_core.proofs.FirstLaws.{with_root}
 use Rattle.device_core.proofs.BeginLaws.{shaped_root}
-use Rattle.device_core.proofs.SpotLaws.{StandFrom, IsWithin, AreApart, data_from_on, node_from_on, few_node_places, from_append, from_within, from_apart, apart_permutation}
+use Rattle.device_core.proofs.SpotLaws.{StandFrom, IsWithin, data_from_on, node_from_on, few_node_places, from_append, from_within, from_apart}
 use Rattle.device_core.proofs.RecordLaws.{pair_of, tree_contents, same_pairs, entry_lows, mapped_many}
 
 -- ---- lists of pages

@@ -1,5 +1,5 @@
 -- What an upgrade is asked and answers: which root record it begins on, how many pages it needs, and why it is refused.
-use Rattle.std.specs.Prelude.{◌≡◌, ◌≢◌, ◌≤◌, ◌<◌, ◌+◌, ◌-◌, ◌⊎◌, min, ℕ, List, [], Option, None, Some, Result, Ok, Err, length}
+use Rattle.std.specs.Prelude.{◌≡◌, ◌≢◌, ◌≤◌, ◌<◌, ◌+◌, ◌-◌, ◌⊎◌, min, ℕ, List, [], All, Option, None, Some, Result, Ok, Err, length}
 use Rattle.std.specs.FinMap as map
 use Rattle.sdbt_base.specs.Arrays.{Device}
 use Rattle.sdbt_base.specs.Counts.{Counts, PlatformRose, TapeRose, LedgerRose}
@@ -11,10 +11,10 @@ use Rattle.platform.specs.History.{History, CellStays}
 use Rattle.root_codec.specs.declared.root.Root.{Root}
 use Rattle.root_codec.specs.RootRecord.{FitsRoot, root_bytes}
 use Rattle.page_store.specs.Roots.{IsRootWithin, IsBadCell}
-use Rattle.page_store.specs.Stands.{StandsBy}
+use Rattle.page_store.specs.Stands.{Stands, StandsBy}
 use Rattle.page_store.specs.Tree.{Parts, Tree, Wrong}
 use Rattle.cert_maker.specs.Cert.{Cert}
-use Rattle.device_terms.specs.Certifying.{IsOfTrees, PutsEntry}
+use Rattle.device_terms.specs.Certifying.{AddsSynced, IsOfTrees, PutsEntry}
 use Rattle.tree_build.specs.Shape.{built}
 use Rattle.device_core.specs.Publishing.{IsUnmade}
 use Rattle.device_core.specs.declared.refusals.UpgradeRefusal.{UpgradeRefusal}
@@ -58,6 +58,11 @@ pub record IsUpgradedRoot (root : Root) (head : ℕ) (next : Root) : Type 0 wher
   pub node : next.addr + 1 ≡ head
   pub head_is : next.head ≡ head
 
+-- the image stands for the device by a tree whose places are all at this address or behind it; or for none
+abbrev pub StandsFrom : ℕ → Option Device → Image → Type 0
+StandsFrom first None image = Stands image None
+StandsFrom first (Some device) image = (root : Root) × (parts : Parts) × StandsBy image device root parts × All (λ p. first ≤ p.addr) parts.places
+
 -- a place at this address of the tree of the root record doesn't fit, or it is the root node's, and the root record says that other blocks are mapped than the tree has
 abbrev pub IsDamaged : List (List ℕ) → Root → ℕ → Type 0
 IsDamaged pages root addr = Wrong pages root addr ⊎ ((addr ≡ root.addr) × ((parts : Parts) → Tree pages root parts → length parts.mapped ≢ root.mapped))
@@ -67,6 +72,11 @@ pub record IsPartly {S : Type 0} (P : PlatformGhosts S) (platform platform_now :
   pub begins : Begins P.tells (P.history platform).present (P.head platform) (P.capacity platform) root
   pub most : P.head platform_now ≤ P.head platform + needed_of_root root
   pub still : P.tells → CellStays (P.history platform) (P.history platform_now)
+
+-- the ledger is as it was; or it got something, and before that the pages that an upgrade of the root record in the cell needs were added and all pages were synced
+abbrev pub PutsUpgrade : {S W : Type 0} → PlatformGhosts S → S → S → W → W → Type 0
+PutsUpgrade P platform platform_now ledger ledger_now =
+    (ledger_now ≡ ledger) ⊎ ((root : Root) × Begins P.tells (P.history platform).present (P.head platform) (P.capacity platform) root × AddsSynced P (needed_of_root root) platform platform_now)
 
 -- a device of version 1 is made one of version 2, with the next number, where as many pages are free as are needed, and these are added then. Else there is no device, or none that can be served, or it is of version 2, or too few pages are
 -- free, exactly so, and nothing comes of it; memory is asked for behind that. Then a record is named that doesn't fit, in the tree or, with the root node, the number of blocks. But for the object that an answer names none failed

@@ -1,9 +1,10 @@
-ghost use Rattle.std.specs.Prelude.{◌≡◌, ◌≢◌, ◌≤◌, ◌⊎◌, ◌%◌, Option, None, Some, OnOk, OnErr, IsOk, IsErrOf, ⊤};
+ghost use Rattle.std.specs.Prelude.{◌≡◌, ◌≢◌, ◌≤◌, ◌⊎◌, ◌%◌, ◌∷◌, [], ℕ, List, Option, None, Some, OnOk, OnErr, IsOk, IsErrOf, ⊤};
 ghost use Rattle.sdbt_base.specs.Counts.{counts};
 ghost use Rattle.platform.specs.Image.{LeavesOnly};
 ghost use Rattle.platform.specs.Calls.{Grows};
 ghost use Rattle.platform.specs.History.{Turns, CellStays};
 ghost use Rattle.sdbt_base.specs.Arrays.{Device, new_device};
+ghost use Rattle.page_store.specs.Keeping.{DrewAll};
 ghost use Rattle.page_store.specs.Stands.{Stands, IsSound};
 ghost use Rattle.root_codec.specs.declared.root.Root.{Root};
 ghost use Rattle.root_codec.specs.RootRecord.{root_bytes};
@@ -46,6 +47,9 @@ pub fn format<P: Platform, T: Tape, L: Sink>(
         × IsServedImage (P.history platform.new).present
         × ((root : Root) × ((P.history platform.new).present.cell ≡ Some (root_bytes root))
         × NamesLast (T.drawn tape.old) (T.drawn tape.new) (P.head platform.new) root)) }
+    // No page is read, and no key drawn but that of the leaf.
+    ensures spends { (P.tells → P.reads platform.new ≡ P.reads platform.old)
+        × OnOk result ((key : List ℕ) × DrewAll (T.drawn tape.old) (key ∷ []) (T.drawn tape.new)) }
     ensures cause { IsFormatCause P.Platform T.Tape platform.old platform.new tape.old tape.new
         (counts (P.faults platform.old) (T.faults tape.old) 0 0 (L.faults ledger.old))
         (counts (P.faults platform.new) (T.faults tape.new) 0 0 (L.faults ledger.new)) result }

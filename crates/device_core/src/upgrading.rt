@@ -7,9 +7,8 @@ ghost use Rattle.platform.specs.Image.{LeavesOnly};
 ghost use Rattle.platform.specs.Calls.{Grows};
 ghost use Rattle.platform.specs.History.{Turns};
 ghost use Rattle.page_store.specs.Stands.{Stands, IsSound};
-ghost use Rattle.device_terms.specs.Certifying.{PutsSynced};
 ghost use Rattle.device_terms.specs.Effects.{Discloses};
-ghost use Rattle.device_core.specs.Upgrading.{CertifiesUpgrade, IsUpgradeCause};
+ghost use Rattle.device_core.specs.Upgrading.{CertifiesUpgrade, IsUpgradeCause, PutsUpgrade, StandsFrom};
 
 use crate::preparing::prepare;
 use crate::publishing::publish;
@@ -33,9 +32,9 @@ pub fn upgrade<P: Platform, T: Tape, L: Sink>(
     tape: &mut T,
     ledger: &mut L,
 ) -> Result<u64, UpgradeRefusal>
-    // Over an image that stands.
+    // Over an image that stands: the new tree has no page of the old one, since all of its pages came in this call.
     ensures made { P.tells → (device : Device) → Stands (P.history platform.old).present (Some device)
-        → IfOk result (λ number. (number ≡ (upgraded device).number) × Stands (P.history platform.new).present (Some (upgraded device))) }
+        → IfOk result (λ number. (number ≡ (upgraded device).number) × StandsFrom (P.head platform.old) (Some (upgraded device)) (P.history platform.new).present) }
     ensures cause { IsUpgradeCause P.Platform T.Tape platform.old platform.new tape.old tape.new
         (counts (P.faults platform.old) (T.faults tape.old) 0 0 (L.faults ledger.old))
         (counts (P.faults platform.new) (T.faults tape.new) 0 0 (L.faults ledger.new)) result }
@@ -44,13 +43,13 @@ pub fn upgrade<P: Platform, T: Tape, L: Sink>(
     // At each moment a loss of power leaves the device as it was, until one from which on it leaves the new one.
     ensures time { P.tells → (device : Option Device) → Stands (P.history platform.old).present device
         → Turns (P.history platform.old) (P.history platform.new)
-        (LeavesOnly (λ left. Stands left device)) (LeavesOnly (λ left. Stands left (option_map upgraded device))) }
+        (LeavesOnly (λ left. Stands left device)) (LeavesOnly (StandsFrom (P.head platform.old) (option_map upgraded device))) }
     // Below the old root record's head the new tree has only places of the old one, and what was deleted before stays deleted.
     ensures discloses { Discloses P.tells (T.drawn tape.old) (T.drawn tape.new) (P.history platform.old) (P.history platform.new)
         (λ keys. IsSound (P.history platform.old).present) (λ keys. ⊤) }
     ensures certifies { CertifiesUpgrade P.tells (L.written ledger.old) (L.written ledger.new) (P.history platform.old) (P.history platform.new) (IsOk result) }
-    // All pages outlast a loss of power before the ledger gets the entry.
-    ensures synced { (added : ℕ) × PutsSynced P.Platform added platform.old platform.new ledger.old ledger.new }
+    // All pages that it needs are added, and outlast a loss of power, before the ledger gets the entry.
+    ensures synced { PutsUpgrade P.Platform platform.old platform.new ledger.old ledger.new }
     ensures grows { (P.head platform.old ≤ P.head platform.new) × (P.capacity platform.new ≡ P.capacity platform.old)
         × (P.faults platform.old ≤ P.faults platform.new) × (T.faults tape.old ≤ T.faults tape.new) × (L.faults ledger.old ≤ L.faults ledger.new) }
 {

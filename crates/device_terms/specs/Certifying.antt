@@ -43,8 +43,11 @@ abbrev pub Certifies : Type 0 → Option (List ℕ) → Option (List ℕ) → Hi
 Certifies tells written written_now old new base commit Is Done =
     ((written_now ≡ written) × (tells → CellStays old new)) ⊎ PutsEntry tells written written_now old new base commit Is Done
 
+-- so many pages were added, and all pages are synced
+abbrev pub AddsSynced : {S : Type 0} → Ghosts S → ℕ → S → S → Type 0
+AddsSynced P added platform platform_now =
+    (P.head platform_now ≡ P.head platform + added) × (P.tells → (P.history platform_now).present.synced ≡ length (P.history platform_now).present.recorded)
+
 -- the ledger is as it was; or it got something, and before that so many pages were added and all pages were synced
 abbrev pub PutsSynced : {S W : Type 0} → Ghosts S → ℕ → S → S → W → W → Type 0
-PutsSynced P added platform platform_now ledger ledger_now =
-    (ledger_now ≡ ledger)
-    ⊎ ((P.head platform_now ≡ P.head platform + added) × (P.tells → (P.history platform_now).present.synced ≡ length (P.history platform_now).present.recorded))
+PutsSynced P added platform platform_now ledger ledger_now = (ledger_now ≡ ledger) ⊎ AddsSynced P added platform platform_now

@@ -8,9 +8,8 @@ use Rattle.platform.specs.declared.platforms.Platform.{Ghosts as PlatformGhosts}
 use Rattle.platform.specs.History.{History}
 use Rattle.root_codec.specs.declared.root.Root.{Root}
 use Rattle.page_store.specs.Stands.{IsSound}
-use Rattle.device_terms.specs.Certifying.{PutsSynced}
 use Rattle.device_terms.specs.Effects.{Discloses}
-use Rattle.device_core.specs.Upgrading.{Begins, CertifiesUpgrade, IsPartly, IsUpgradeCause, needed_of_root}
+use Rattle.device_core.specs.Upgrading.{Begins, CertifiesUpgrade, IsPartly, IsUpgradeCause, PutsUpgrade, needed_of_root}
 use Rattle.device_core.specs.declared.refusals.UpgradeRefusal.{UpgradeRefusal}
 use Rattle.device_core.specs.declared.refusals.UpgradeRefusal.TheVariants as upgrade
 use Rattle.device_course.specs.Certified.{Certified}
@@ -101,14 +100,14 @@ Grows P T L platform platform_now tape tape_now ledger ledger_now =
     (P.head platform ≤ P.head platform_now) × (P.capacity platform_now ≡ P.capacity platform)
     × (P.faults platform ≤ P.faults platform_now) × (T.faults tape ≤ T.faults tape_now) × (L.faults ledger ≤ L.faults ledger_now)
 
-pub refused_goes : {S R W : Type 0} (P : PlatformGhosts S) (T : TapeGhosts R) (L : SinkGhosts W) (platform platform_now : S) (tape tape_now : R) (ledger ledger_now : W) (refusal : UpgradeRefusal) (added : ℕ) (Then : List (List ℕ) → Type 0)
+pub refused_goes : {S R W : Type 0} (P : PlatformGhosts S) (T : TapeGhosts R) (L : SinkGhosts W) (platform platform_now : S) (tape tape_now : R) (ledger ledger_now : W) (refusal : UpgradeRefusal) (Then : List (List ℕ) → Type 0)
     → IsUpgradeCause P T platform platform_now tape tape_now (counts (P.faults platform) (T.faults tape) 0 0 (L.faults ledger)) (counts (P.faults platform_now) (T.faults tape_now) 0 0 (L.faults ledger_now)) (Err refusal)
     → Refuses refusal upgrade.PlatformFault ⊎ (Refuses refusal upgrade.LedgerFault ⊎ (L.written ledger_now ≡ L.written ledger))
     → Discloses P.tells (T.drawn tape) (T.drawn tape_now) (P.history platform) (P.history platform_now) (λ keys. IsSound (P.history platform).present) Then
     → CertifiesUpgrade P.tells (L.written ledger) (L.written ledger_now) (P.history platform) (P.history platform_now) (IsOk {T = ℕ} {E = UpgradeRefusal} (Err refusal))
-    → PutsSynced P added platform platform_now ledger ledger_now → Grows P T L platform platform_now tape tape_now ledger ledger_now
+    → PutsUpgrade P platform platform_now ledger ledger_now → Grows P T L platform platform_now tape tape_now ledger ledger_now
     → UpgradeGoes P T L platform platform_now tape tape_now ledger ledger_now (answer_of_refusal refusal)
-refused_goes P T L platform platform_now tape tape_now ledger ledger_now refusal added Then cause unput discloses certifies synced grows =
+refused_goes P T L platform platform_now tape tape_now ledger ledger_now refusal Then cause unput discloses certifies synced grows =
     let old : History = P.history platform in
     let new : History = P.history platform_now in
     let before : Counts = counts (P.faults platform) (T.faults tape) 0 0 (L.faults ledger) in
@@ -128,19 +127,18 @@ refused_goes P T L platform platform_now tape tape_now ledger ledger_now refusal
         quiet = blamed.0;
         cause = blamed.1;
       };
-      added = added;
       synced = synced;
       puts = puts;
     }
 
-pub upgraded_goes : {S R W : Type 0} (P : PlatformGhosts S) (T : TapeGhosts R) (L : SinkGhosts W) (platform platform_now : S) (tape tape_now : R) (ledger ledger_now : W) (number : ℕ) (root : Root) (added : ℕ) (Then : List (List ℕ) → Type 0)
+pub upgraded_goes : {S R W : Type 0} (P : PlatformGhosts S) (T : TapeGhosts R) (L : SinkGhosts W) (platform platform_now : S) (tape tape_now : R) (ledger ledger_now : W) (number : ℕ) (root : Root) (Then : List (List ℕ) → Type 0)
     → Begins P.tells (P.history platform).present (P.head platform) (P.capacity platform) root → P.head platform_now ≡ P.head platform + needed_of_root root
     → counts (P.faults platform_now) (T.faults tape_now) 0 0 (L.faults ledger_now) ≡ counts (P.faults platform) (T.faults tape) 0 0 (L.faults ledger)
     → Discloses P.tells (T.drawn tape) (T.drawn tape_now) (P.history platform) (P.history platform_now) (λ keys. IsSound (P.history platform).present) Then
     → CertifiesUpgrade P.tells (L.written ledger) (L.written ledger_now) (P.history platform) (P.history platform_now) (IsOk {T = ℕ} {E = UpgradeRefusal} (Ok number))
-    → PutsSynced P added platform platform_now ledger ledger_now → Grows P T L platform platform_now tape tape_now ledger ledger_now
+    → PutsUpgrade P platform platform_now ledger ledger_now → Grows P T L platform platform_now tape tape_now ledger ledger_now
     → UpgradeGoes P T L platform platform_now tape tape_now ledger ledger_now (Ok (replies.Upgraded number))
-upgraded_goes P T L platform platform_now tape tape_now ledger ledger_now number root added Then begins adds quiet discloses certifies synced grows =
+upgraded_goes P T L platform platform_now tape tape_now ledger ledger_now number root Then begins adds quiet discloses certifies synced grows =
     let old : History = P.history platform in
     let new : History = P.history platform_now in
     record {
@@ -155,7 +153,6 @@ upgraded_goes P T L platform platform_now tape tape_now ledger ledger_now number
         quiet = quiet;
         cause = tt;
       };
-      added = added;
       synced = synced;
       puts = tt;
     }

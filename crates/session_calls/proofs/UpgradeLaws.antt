@@ -7,9 +7,9 @@ use Rattle.sdbt_base.specs.Arrays.{Device, Session as OpenSession, State, closed
 use Rattle.sdbt_base.specs.Counts.{Counts}
 use Rattle.sdbt_base.specs.declared.tapes.Tape.{Ghosts as TapeGhosts}
 use Rattle.platform.specs.declared.platforms.Platform.{Ghosts as PlatformGhosts}
-use Rattle.platform.specs.Image.{Image}
+use Rattle.platform.specs.Image.{Image, LeavesOnly}
 use Rattle.platform.specs.History.{History, CellStays, During, Turns}
-use Rattle.platform.proofs.Moments.{During-now, LeavesOnly-now, Extends-earlier}
+use Rattle.platform.proofs.Moments.{During-now, LeavesOnly-now, Extends-earlier, Turns-weaker}
 use Rattle.root_codec.specs.declared.root.Root.{Root}
 use Rattle.root_codec.specs.RootRecord.{FitsRoot, root_bytes}
 use Rattle.root_codec.specs.Laws.{one_root}
@@ -17,9 +17,9 @@ use Rattle.page_store.specs.Stands.{Stands, StandsBy}
 use Rattle.page_store.specs.Tree.{Parts}
 use Rattle.page_store.proofs.StandsLaws.{stands_during}
 use Rattle.page_store.proofs.TreeLaws.{tree_not_wrong}
-use Rattle.seizure.proofs.AscendLaws.{mapped_len}
+use Rattle.page_store.proofs.AscendLaws.{mapped_len}
 use Rattle.device_terms.specs.Served.{IsServedCell, IsServedImage}
-use Rattle.device_core.specs.Upgrading.{Begins, IsDamaged, IsPartly, IsUpgradeCause, needed_of_device, needed_of_root, pages_over}
+use Rattle.device_core.specs.Upgrading.{Begins, IsDamaged, IsPartly, IsUpgradeCause, StandsFrom, needed_of_device, needed_of_root, pages_over}
 use Rattle.device_core.specs.declared.refusals.UpgradeRefusal.{UpgradeRefusal}
 use Rattle.device_core.specs.declared.refusals.UpgradeRefusal.TheVariants as upgrade
 use Rattle.device_course.specs.Course.{Made}
@@ -27,7 +27,7 @@ use Rattle.device_course.specs.Marks.{Leaves}
 use Rattle.device_course.specs.States.{IsAt}
 use Rattle.device_course.proofs.MadeLaws.{made_none, made_one, made_same, made_stopped, shut}
 use Rattle.session_calls.specs.Damage.{IsWrongPage}
-use Rattle.session_calls.specs.Upgrades.{AnswersUpgrade, LeadsNowhere, LeadsUpgraded, ReplyUpgrades, UpgradeLeads, answer_of_refusal}
+use Rattle.session_calls.specs.Upgrades.{AnswersUpgrade, LeadsNowhere, LeadsUpgraded, ReplyUpgrades, TurnsUpgraded, UpgradeLeads, answer_of_refusal}
 use Rattle.session_calls.specs.declared.stops.DeviceStop.{DeviceStop}
 use Rattle.session_calls.specs.declared.stops.DeviceStop.TheVariants as stops
 use Rattle.session_calls.specs.declared.upgrading.UpgradeReply.{UpgradeReply}
@@ -113,8 +113,21 @@ nowhere P platform platform_now device at stays =
 
 -- ---- where it leads
 
+-- where there may be a device: from some moment on the upgraded one, by pages that came since
+abbrev pub TurnsFrom : {S : Type 0} → PlatformGhosts S → S → S → Option Device → Type 0
+TurnsFrom P platform platform_now device =
+    Turns (P.history platform) (P.history platform_now) (Leaves device) (LeavesOnly (StandsFrom (P.head platform) (option_map upgraded device)))
+
+-- that is the upgraded device
+pub turns_upgraded : {S : Type 0} (P : PlatformGhosts S) (platform platform_now : S) (device : Device) → TurnsUpgraded P platform platform_now device
+    → Turns (P.history platform) (P.history platform_now) (Leaves (Some device)) (Leaves (Some (upgraded device)))
+turns_upgraded P platform platform_now device turns =
+    let first : ℕ = P.head platform in
+    Turns-weaker (P.history platform) (P.history platform_now) (Leaves (Some device)) (LeavesOnly (StandsFrom first (Some (upgraded device)))) (Leaves (Some device)) (Leaves (Some (upgraded device))) (λ image is. is)
+    (λ image from left leaves. let by = from left leaves in (by.0, by.1, by.2)) turns
+
 refusal_leads : {S R : Type 0} (P : PlatformGhosts S) (T : TapeGhosts R) (platform platform_now : S) (tape tape_now : R) (before now : Counts) (refusal : UpgradeRefusal) (device : Option Device) → P.tells → length (P.history platform).present.recorded ≡ P.head platform
-    → IsAt (P.history platform).present None (closed device) → Turns (P.history platform) (P.history platform_now) (Leaves device) (Leaves (option_map upgraded device))
+    → IsAt (P.history platform).present None (closed device) → TurnsFrom P platform platform_now device
     → IsUpgradeCause P T platform platform_now tape tape_now before now (Err refusal) → UpgradeLeads P platform platform_now (closed device) (answer_of_refusal refusal)
 refusal_leads P T platform platform_now tape tape_now before now upgrade.NoDevice device told pages at turns cause =
     (ap (λ (d : Option Device). closed d) (no_device (P.history platform).present device at.there.device (cause.0 told)), nowhere P platform platform_now device at (cause.1.1 told))
@@ -146,13 +159,13 @@ refusal_leads P T platform platform_now tape tape_now before now upgrade.Platfor
       was = ap (λ (d : Option Device). closed d) there.is;
       version = sym there.stands.version ∙ begins.version;
       room = omega (arith, begins.room, many);
-      turns = subst (λ (d : Option Device). Turns old new (Leaves d) (Leaves (option_map upgraded d))) there.is turns;
+      turns = subst (TurnsFrom P platform platform_now) there.is turns;
     })
 
 done_leads : {S : Type 0} (P : PlatformGhosts S) (platform platform_now : S) (number : ℕ) (root : Root) (device : Option Device) → P.tells → IsAt (P.history platform).present None (closed device)
     → Begins P.tells (P.history platform).present (P.head platform) (P.capacity platform) root → P.head platform_now ≡ P.head platform + needed_of_root root
-    → ((d : Device) → Stands (P.history platform).present (Some d) → (number ≡ (upgraded d).number) × Stands (P.history platform_now).present (Some (upgraded d))) → IsServedImage (P.history platform_now).present
-    → Turns (P.history platform) (P.history platform_now) (Leaves device) (Leaves (option_map upgraded device)) → LeadsUpgraded P platform platform_now (closed device) number
+    → ((d : Device) → Stands (P.history platform).present (Some d) → (number ≡ (upgraded d).number) × StandsFrom (P.head platform) (Some (upgraded d)) (P.history platform_now).present) → IsServedImage (P.history platform_now).present
+    → TurnsFrom P platform platform_now device → LeadsUpgraded P platform platform_now (closed device) number
 done_leads P platform platform_now number root device told at begins adds made served turns =
     let old : History = P.history platform in
     let new : History = P.history platform_now in
@@ -164,8 +177,8 @@ done_leads P platform platform_now number root device told at begins adds made s
       was = ap (λ (d : Option Device). closed d) there.is;
       version = sym there.stands.version ∙ begins.version;
       is_number = done.0;
-      at = shut new.present (Some (upgraded there.there)) done.1 served;
-      turns = subst (λ (d : Option Device). Turns old new (Leaves d) (Leaves (option_map upgraded d))) there.is turns;
+      at = shut new.present (Some (upgraded there.there)) (done.1.0, done.1.1, done.1.2) served;
+      turns = subst (TurnsFrom P platform platform_now) there.is turns;
       room = omega (arith, begins.room, many);
       adds = omega (arith, adds, many);
     }
@@ -180,7 +193,7 @@ without_session image entry Goal at k = by_session entry.device entry.session at
 
 pub refused_leads : {S R : Type 0} (P : PlatformGhosts S) (T : TapeGhosts R) (platform platform_now : S) (tape tape_now : R) (before now : Counts) (refusal : UpgradeRefusal) (entry : State) → P.tells → length (P.history platform).present.recorded ≡ P.head platform
     → IsAt (P.history platform).present None entry
-    → ((device : Option Device) → Stands (P.history platform).present device → Turns (P.history platform) (P.history platform_now) (Leaves device) (Leaves (option_map upgraded device)))
+    → ((device : Option Device) → Stands (P.history platform).present device → TurnsFrom P platform platform_now device)
     → IsUpgradeCause P T platform platform_now tape tape_now before now (Err refusal) → UpgradeLeads P platform platform_now entry (answer_of_refusal refusal)
 refused_leads P T platform platform_now tape tape_now before now refusal entry told pages at turns cause =
     without_session (P.history platform).present entry (λ e. UpgradeLeads P platform platform_now e (answer_of_refusal refusal)) at
@@ -188,8 +201,8 @@ refused_leads P T platform platform_now tape tape_now before now refusal entry t
 
 pub upgraded_leads : {S : Type 0} (P : PlatformGhosts S) (platform platform_now : S) (number : ℕ) (root : Root) (entry : State) → P.tells → IsAt (P.history platform).present None entry
     → Begins P.tells (P.history platform).present (P.head platform) (P.capacity platform) root → P.head platform_now ≡ P.head platform + needed_of_root root
-    → ((d : Device) → Stands (P.history platform).present (Some d) → (number ≡ (upgraded d).number) × Stands (P.history platform_now).present (Some (upgraded d))) → IsServedImage (P.history platform_now).present
-    → ((device : Option Device) → Stands (P.history platform).present device → Turns (P.history platform) (P.history platform_now) (Leaves device) (Leaves (option_map upgraded device)))
+    → ((d : Device) → Stands (P.history platform).present (Some d) → (number ≡ (upgraded d).number) × StandsFrom (P.head platform) (Some (upgraded d)) (P.history platform_now).present) → IsServedImage (P.history platform_now).present
+    → ((device : Option Device) → Stands (P.history platform).present device → TurnsFrom P platform platform_now device)
     → LeadsUpgraded P platform platform_now entry number
 upgraded_leads P platform platform_now number root entry told at begins adds made served turns =
     without_session (P.history platform).present entry (λ e. LeadsUpgraded P platform platform_now e number) at
@@ -209,7 +222,7 @@ upgrade_made P platform platform_now entry reply at led = cases reply led
     cases (replies.Upgraded number) led =
         let exit : State = closed (Some (upgraded led.device)) in
         let turns : Turns (P.history platform) (P.history platform_now) (Leaves entry.device) (Leaves (Some (upgraded led.device))) =
-        subst (λ (e : State). Turns (P.history platform) (P.history platform_now) (Leaves e.device) (Leaves (Some (upgraded led.device)))) (sym led.was) led.turns in
+        subst (λ (e : State). Turns (P.history platform) (P.history platform_now) (Leaves e.device) (Leaves (Some (upgraded led.device)))) (sym led.was) (turns_upgraded P platform platform_now led.device led.turns) in
         (exit, made_one (P.history platform) (P.history platform_now) None entry exit (Some (upgraded led.device)) at.there.device turns led.at)
     cases replies.NoDevice led = same led.1
     cases replies.AlreadyUpgraded led = same led.1
@@ -231,7 +244,7 @@ upgrade_stopped P platform platform_now entry stop at served led = cases stop le
     cases stops.Platform (inr may) =
         let next : Option Device = Some (upgraded may.device) in
         let turns : Turns (P.history platform) (P.history platform_now) (Leaves entry.device) (Leaves next) =
-        subst (λ (e : State). Turns (P.history platform) (P.history platform_now) (Leaves e.device) (Leaves next)) (sym may.was) may.turns in
+        subst (λ (e : State). Turns (P.history platform) (P.history platform_now) (Leaves e.device) (Leaves next)) (sym may.was) (turns_upgraded P platform platform_now may.device may.turns) in
         elim (made_stopped (P.history platform) (P.history platform_now) entry next at.there.device served turns) [
           | inl one ↦ ([], closed entry.device, one)
           | inr other ↦ (next ∷ [], closed next, other)

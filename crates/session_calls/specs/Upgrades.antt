@@ -5,13 +5,13 @@ use Rattle.sdbt_base.specs.Counts.{counts}
 use Rattle.sdbt_base.specs.declared.sinks.Sink.{Ghosts as SinkGhosts}
 use Rattle.sdbt_base.specs.declared.tapes.Tape.{Ghosts as TapeGhosts}
 use Rattle.platform.specs.declared.platforms.Platform.{Ghosts as PlatformGhosts}
+use Rattle.platform.specs.Image.{LeavesOnly}
 use Rattle.platform.specs.History.{During, Turns}
 use Rattle.root_codec.specs.declared.root.Root.{Root}
 use Rattle.root_codec.specs.RootRecord.{root_bytes}
 use Rattle.page_store.specs.Roots.{IsBadCell}
-use Rattle.device_terms.specs.Certifying.{PutsSynced}
 use Rattle.device_core.specs.Publishing.{IsUnmade}
-use Rattle.device_core.specs.Upgrading.{Begins, IsOn, IsPartly, IsUpgradedRoot, needed_of_device, needed_of_root}
+use Rattle.device_core.specs.Upgrading.{Begins, IsOn, IsPartly, IsUpgradedRoot, PutsUpgrade, StandsFrom, needed_of_device, needed_of_root}
 use Rattle.device_core.specs.declared.refusals.UpgradeRefusal.{UpgradeRefusal}
 use Rattle.device_core.specs.declared.refusals.UpgradeRefusal.TheVariants as upgrade
 use Rattle.device_course.specs.Keys.{KeepsOn}
@@ -56,7 +56,7 @@ PutsFor written written_now (Err stops.BadRoot) = written_now ≡ written
 PutsFor written written_now (Err (stops.BadRecord addr)) = written_now ≡ written
 
 -- what an upgrade does to a run without a session, whatever its answer: it adds at most the pages that it needs; keys are kept, and the ledger gets what belongs to the root record that comes into the
--- cell, and a part of an entry only where it stops; a stop at a fault came where the count of that object rose; and all pages are synced before the ledger gets anything
+-- cell, and a part of an entry only where it stops; a stop at a fault came where the count of that object rose; and the pages that it needs are added, and all pages synced, before the ledger gets anything
 pub record UpgradeGoes {S R W : Type 0} (P : PlatformGhosts S) (T : TapeGhosts R) (L : SinkGhosts W) (platform platform_now : S) (tape tape_now : R) (ledger ledger_now : W) (result : Result UpgradeReply DeviceStop) : Type 0 where
   pub capacity : P.capacity platform_now ≡ P.capacity platform
   pub rises : P.head platform ≤ P.head platform_now
@@ -64,8 +64,7 @@ pub record UpgradeGoes {S R W : Type 0} (P : PlatformGhosts S) (T : TapeGhosts R
   pub keeps : KeepsOn P.tells (T.drawn tape) (T.drawn tape_now) (L.written ledger) (L.written ledger_now) None (P.history platform) (P.history platform_now) (IsOk result)
       (λ keys. IfOk result (λ reply. IsListed None (P.history platform_now).present keys))
   pub blame : IsBlamed (counts (P.faults platform) (T.faults tape) 0 0 (L.faults ledger)) (counts (P.faults platform_now) (T.faults tape_now) 0 0 (L.faults ledger_now)) result
-  pub added : ℕ
-  pub synced : PutsSynced P added platform platform_now ledger ledger_now
+  pub synced : PutsUpgrade P platform platform_now ledger ledger_now
   pub puts : PutsFor (L.written ledger) (L.written ledger_now) result
 
 -- an upgrade of the root record that was in the cell, with the next number: the pages that it needs are added, and the one that came into the cell is of version 2 and speaks of all of them
@@ -104,6 +103,11 @@ abbrev pub AnswersUpgrade : {S R : Type 0} → PlatformGhosts S → TapeGhosts R
 AnswersUpgrade P T platform platform_now tape tape_now (Ok reply) = AnswersReply P T platform platform_now tape tape_now reply
 AnswersUpgrade P T platform platform_now tape tape_now (Err stop) = StopsUpgrade P T platform platform_now tape tape_now stop
 
+-- from some moment on a loss of power leaves the upgraded device in the place of this one, by a tree that has only pages which came since
+abbrev pub TurnsUpgraded : {S : Type 0} → PlatformGhosts S → S → S → Device → Type 0
+TurnsUpgraded P platform platform_now device =
+    Turns (P.history platform) (P.history platform_now) (Leaves (Some device)) (LeavesOnly (StandsFrom (P.head platform) (Some (upgraded device))))
+
 -- the device that there was, of version 1, is upgraded, with the next number and the pages that this needs
 pub record LeadsUpgraded {S : Type 0} (P : PlatformGhosts S) (platform platform_now : S) (entry : State) (number : ℕ) : Type 0 where
   pub device : Device
@@ -111,7 +115,7 @@ pub record LeadsUpgraded {S : Type 0} (P : PlatformGhosts S) (platform platform_
   pub version : device.version ≡ 1
   pub is_number : number ≡ (upgraded device).number
   pub at : IsAt (P.history platform_now).present None (closed (Some (upgraded device)))
-  pub turns : Turns (P.history platform) (P.history platform_now) (Leaves (Some device)) (Leaves (Some (upgraded device)))
+  pub turns : TurnsUpgraded P platform platform_now device
   pub room : needed_of_device device ≤ P.capacity platform - P.head platform
   pub adds : P.head platform_now ≡ P.head platform + needed_of_device device
 
@@ -136,7 +140,7 @@ pub record MayUpgrade {S : Type 0} (P : PlatformGhosts S) (platform platform_now
   pub was : entry ≡ closed (Some device)
   pub version : device.version ≡ 1
   pub room : needed_of_device device ≤ P.capacity platform - P.head platform
-  pub turns : Turns (P.history platform) (P.history platform_now) (Leaves (Some device)) (Leaves (Some (upgraded device)))
+  pub turns : TurnsUpgraded P platform platform_now device
 
 -- a stop leaves the state, or, where the platform failed, perhaps the upgraded device, and that only where nothing else would be answered. A record that doesn't fit is met over none
 abbrev pub UpgradeLeads : {S : Type 0} → PlatformGhosts S → S → S → State → Result UpgradeReply DeviceStop → Type 0

@@ -3,6 +3,7 @@ use Rattle.page_store.specs.Buffer.{Held}
 use Rattle.node_codec.specs.Record.{NodeRecord, record_bytes}
 use Rattle.sdbt_base.specs.Arrays.{new_device}
 use Rattle.sdbt_base.specs.Counts.{Counts, counts}
+use Rattle.sdbt_base.specs.Keys.{bare}
 use Rattle.std.specs.Prelude.{IsTrue, IsSome, ◌↔◌, ◌≢◌}
 use Rattle.std.proofs.lemmas.Grind.{common_steps}
 use Rattle.device_terms.proofs.MomentLaws.{one_look, call_more, stays_then}
@@ -129,6 +130,12 @@ returns-in-Ok-publish-clause-made g c = λ told.
         },
       ),
     )
+
+pub returns-in-Ok-publish-clause-spends : goal.returns-in-Ok-publish-clause-spends
+returns-in-Ok-publish-clause-spends g c = (
+  λ told. c.publish.ensures.reads told ∙ (c.append.ensures.adds.reads told ∙ c.load_root.ensures.reads told),
+  (bare c.in-Ok-append.placed.key, c.in-Ok-append.ensures.placed.drew),
+)
 
 pub returns-in-Ok-publish-clause-time : goal.returns-in-Ok-publish-clause-time
 returns-in-Ok-publish-clause-time g c = λ told device stands. format_time _ _ _ _ _ _ _ _ device (calls g (goal.at.returns-in-Ok-publish-clause-time g c).After-publish (written_first g (goal.at.returns-in-Ok-publish-clause-time g c).In-Ok-append)) told stands

@@ -1,6 +1,6 @@
 -- Two neighbours are compared at a time.
 use Rattle.std.proofs.Common.{◌≤◌, ◌<◌, arith, rules}
-use Rattle.node_codec.specs.Laws.{ascend_more, not_ascending}
+use Rattle.device_core.proofs.AscendLaws.{ascend_more, not_ascending}
 use Rattle.device_core.proofs.surveying.are_ascending.Goals as goal
 
 pub loop-i-preserved : goal.loop-i-preserved

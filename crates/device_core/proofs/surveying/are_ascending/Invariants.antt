@@ -1,4 +1,4 @@
-use Rattle.node_codec.specs.Parts.{AscendBelow}
+use Rattle.device_core.proofs.AscendLaws.{AscendBelow}
 use Rattle.device_core.proofs.surveying.are_ascending.Given as goal
 
 abbrev pub invariant-loop-i : goal.invariant-loop-i

@@ -1,4 +1,4 @@
-use Rattle.std.proofs.Common.{Err, ◌≡◌, ◌∙◌, ◌+◌, ℕ, List, is_ok, refl, ap, sym, subst, inl, arith}
+use Rattle.std.proofs.Common.{Err, ◌≡◌, ◌∙◌, ◌+◌, ℕ, List, is_ok, refl, ap, sym, subst, inl, inr, arith}
 use Rattle.std.specs.Option.{option_map}
 use Rattle.std.proofs.lemmas.Result.{err_from_is_err_and}
 use Rattle.sdbt_base.specs.Arrays.{upgraded}
@@ -8,11 +8,11 @@ use Rattle.platform.specs.History.{CellStays}
 use Rattle.root_codec.specs.declared.root.Root.{Root}
 use Rattle.device_terms.specs.Certifying.{PutsSynced}
 use Rattle.device_terms.proofs.MomentLaws.{stays_then}
-use Rattle.device_terms.proofs.StandingLaws.{during_stands}
+use Rattle.device_terms.proofs.StandingLaws.{during_leaves}
 use Rattle.device_terms.proofs.PuttingLaws.{puts_behind}
 use Rattle.device_core.specs.Rewriting.{Rewrites}
 use Rattle.device_core.specs.Publishing.{IsPublishCause}
-use Rattle.device_core.specs.Upgrading.{IsUpgradedRoot, needed_of_root}
+use Rattle.device_core.specs.Upgrading.{IsUpgradedRoot, PutsUpgrade, StandsFrom, needed_of_root}
 use Rattle.device_core.specs.declared.preparing.Prepared.{Prepared}
 use Rattle.device_core.specs.declared.publishing.PublishFault.{PublishFault}
 use Rattle.device_core.specs.declared.publishing.PublishFault.TheVariants as publish
@@ -44,11 +44,11 @@ still g c told =
 
 pub returns-in_err-root-clause-time : goal.returns-in_err-root-clause-time
 returns-in_err-root-clause-time g c = λ told device stands.
-    during_stands _ _ device (option_map upgraded device) stands ((begun g (goal.at.returns-in_err-root-clause-time g c).After-begin).still told)
+    during_leaves _ _ device (StandsFrom (g.P.Platform.head c.args.platform.now) (option_map upgraded device)) stands ((begun g (goal.at.returns-in_err-root-clause-time g c).After-begin).still told)
 
 pub returns-in_err-prepared-clause-time : goal.returns-in_err-prepared-clause-time
 returns-in_err-prepared-clause-time g c = λ told device stands.
-    during_stands _ _ device (option_map upgraded device) stands ((seen g (goal.at.returns-in_err-prepared-clause-time g c).After-prepare).still told)
+    during_leaves _ _ device (StandsFrom (g.P.Platform.head c.args.platform.now) (option_map upgraded device)) stands ((seen g (goal.at.returns-in_err-prepared-clause-time g c).After-prepare).still told)
 
 pub returns-in_err-root-clause-discloses : goal.returns-in_err-root-clause-discloses
 returns-in_err-root-clause-discloses g c =
@@ -83,7 +83,7 @@ returns-in_err-prepared-clause-cause g c =
 
 pub returns-in_err-next-clause-time : goal.returns-in_err-next-clause-time
 returns-in_err-next-clause-time g c = λ told device stands.
-    during_stands _ _ device (option_map upgraded device) stands (still g (goal.at.returns-in_err-next-clause-time g c).After-rewrite told)
+    during_leaves _ _ device (StandsFrom (g.P.Platform.head c.args.platform.now) (option_map upgraded device)) stands (still g (goal.at.returns-in_err-next-clause-time g c).After-rewrite told)
 
 pub returns-in_err-next-clause-discloses : goal.returns-in_err-next-clause-discloses
 returns-in_err-next-clause-discloses g c =
@@ -154,6 +154,12 @@ behind g c =
     puts_behind g.P.Platform 0 (needed_of_root c.in_ok-root.root) c.args.platform.now c.rewrite.new.platform c.publish.new.platform c.args.ledger.now c.publish.new.ledger
     (omega (arith, (rewrites g c).head_is)) c.publish.ensures.synced
 
+puts_upgrade : (g : Over) (c : After-publish g) → PutsUpgrade g.P.Platform c.args.platform.now c.publish.new.platform c.args.ledger.now c.publish.new.ledger
+puts_upgrade g c = elim (behind g c) [
+  | inl same ↦ inl same
+  | inr added ↦ inr (c.in_ok-root.root, c.in_ok-root.ensures.cause.0, added)
+]
+
 pub returns-clause-made : goal.returns-clause-made
 returns-clause-made g c = λ told device stands.
     let at = (goal.at.returns-clause-made g c).After-publish in
@@ -187,10 +193,10 @@ returns-in_err-publish-clause-certifies g c =
     upgrade_certifies _ _ _ _ _ _ _ _ _ _ _ _ _ (calls g at) _ _ _ _ _ (λ was ok. never_ok c.from_residual-in_err-publish.result p.0 p.1 ok) (entry_is g at) c.publish.ensures.put
 
 pub returns-clause-synced : goal.returns-clause-synced
-returns-clause-synced g c = (needed_of_root c.in_ok-root.root, behind g (goal.at.returns-clause-synced g c).After-publish)
+returns-clause-synced g c = puts_upgrade g (goal.at.returns-clause-synced g c).After-publish
 
 pub returns-in_err-publish-clause-synced : goal.returns-in_err-publish-clause-synced
-returns-in_err-publish-clause-synced g c = (needed_of_root c.in_ok-root.root, behind g (goal.at.returns-in_err-publish-clause-synced g c).After-publish)
+returns-in_err-publish-clause-synced g c = puts_upgrade g (goal.at.returns-in_err-publish-clause-synced g c).After-publish
 
 pub returns-in_err-publish-clause-cause : goal.returns-in_err-publish-clause-cause
 returns-in_err-publish-clause-cause g c =
