@@ -37,8 +37,9 @@ use Rattle.session_calls.specs.Upgrades.{LeadsNowhere, LeadsUpgraded, MayUpgrade
 use Rattle.session_calls.specs.declared.stops.DeviceStop.{DeviceStop}
 use Rattle.session_calls.specs.declared.stops.DeviceStop.TheVariants as stops
 use Rattle.session_calls.proofs.StateLaws.{at_array}
+use Rattle.session_calls.proofs.UpgradeLaws.{turns_upgraded}
 use Rattle.device_cli.specs.Added.{LeavesFew, left_by}
-use Rattle.device_cli.specs.Causes.{LacksMemory, MayStop, OnMounted}
+use Rattle.device_cli.specs.Causes.{MayStop, OnMounted}
 use Rattle.device_cli.specs.Desk.{After}
 use Rattle.device_cli.specs.Replied.{Halts, Serves}
 use Rattle.line_run.specs.Stops.{IsSound}
@@ -154,13 +155,13 @@ mounted_has tells held session old new P is stays mounted h =
 
 -- how a call of the session stops a command
 pub read_stops : (tells Known : Type 0) (held : Option Session) (image : Image) (now : World) (session : Session) (block : ℕ) (bytes : List ℕ) (stop : DeviceStop) → (tells → Known)
-    → ReadsAny Known image now.history.present session block bytes (Err stop) → MayStop tells held now.history.present now.head now.capacity (Read block) stop
-read_stops tells Known held image now session block bytes stops.Platform known any = tt
-read_stops tells Known held image now session block bytes (stops.BadRecord addr) known any = λ told. any (known told)
-read_stops tells Known held image now session block bytes stops.Memory known any = absurd any
-read_stops tells Known held image now session block bytes stops.Tape known any = absurd any
-read_stops tells Known held image now session block bytes stops.Ledger known any = absurd any
-read_stops tells Known held image now session block bytes stops.BadRoot known any = absurd any
+    → OnMounted tells now.history.present held (λ s. block < blocks_of s) → ReadsAny Known image now.history.present session block bytes (Err stop) → MayStop tells held now.history.present now.head now.capacity (Read block) stop
+read_stops tells Known held image now session block bytes stops.Platform known within any = within
+read_stops tells Known held image now session block bytes (stops.BadRecord addr) known within any = λ told. any (known told)
+read_stops tells Known held image now session block bytes stops.Memory known within any = absurd any
+read_stops tells Known held image now session block bytes stops.Tape known within any = absurd any
+read_stops tells Known held image now session block bytes stops.Ledger known within any = absurd any
+read_stops tells Known held image now session block bytes stops.BadRoot known within any = absurd any
 
 -- a wrong place, or the root node
 wrong_one : {A B C : Type 0} → A ⊎ (B × C) → A ⊎ B
@@ -168,27 +169,27 @@ wrong_one (inl place) = inl place
 wrong_one (inr node) = inr node.0
 
 pub write_stops : (tells Known : Type 0) (held : Option Session) (image : Image) (now : World) (session : Session) (block : ℕ) (content : List ℕ) (stop : DeviceStop) → (tells → Known)
-    → (stop ≡ stops.Memory → LacksMemory tells held now.history.present now.head now.capacity (Write block content)) → WritesAny Known image now.history.present session block (Err stop) → MayStop tells held now.history.present now.head now.capacity (Write block content) stop
-write_stops tells Known held image now session block content stops.Platform known lacks any = tt
-write_stops tells Known held image now session block content (stops.BadRecord addr) known lacks any = λ told. wrong_one (any (known told))
-write_stops tells Known held image now session block content stops.Memory known lacks any = lacks refl
-write_stops tells Known held image now session block content stops.Tape known lacks any = tt
-write_stops tells Known held image now session block content stops.Ledger known lacks any = absurd any
-write_stops tells Known held image now session block content stops.BadRoot known lacks any = absurd any
+    → OnMounted tells now.history.present held (λ s. block < blocks_of s) → (stop ≡ stops.Memory → now.head < now.capacity) → WritesAny Known image now.history.present session block (Err stop) → MayStop tells held now.history.present now.head now.capacity (Write block content) stop
+write_stops tells Known held image now session block content stops.Platform known within lacks any = within
+write_stops tells Known held image now session block content (stops.BadRecord addr) known within lacks any = λ told. wrong_one (any (known told))
+write_stops tells Known held image now session block content stops.Memory known within lacks any = (lacks refl, within)
+write_stops tells Known held image now session block content stops.Tape known within lacks any = tt
+write_stops tells Known held image now session block content stops.Ledger known within lacks any = absurd any
+write_stops tells Known held image now session block content stops.BadRoot known within lacks any = absurd any
 
 pub trim_stops : (tells Known : Type 0) (held : Option Session) (image : Image) (now : World) (session : Session) (block : ℕ) (stop : DeviceStop) → (tells → Known)
-    → LacksMemory tells held now.history.present now.head now.capacity (Trim block) → TrimsAny Known image now.history.present session block (Err stop) → MayStop tells held now.history.present now.head now.capacity (Trim block) stop
-trim_stops tells Known held image now session block stops.Platform known lacks any = tt
-trim_stops tells Known held image now session block (stops.BadRecord addr) known lacks any = λ told. wrong_one (any (known told))
-trim_stops tells Known held image now session block stops.Memory known lacks any = lacks
-trim_stops tells Known held image now session block stops.Tape known lacks any = absurd any
-trim_stops tells Known held image now session block stops.Ledger known lacks any = absurd any
-trim_stops tells Known held image now session block stops.BadRoot known lacks any = absurd any
+    → OnMounted tells now.history.present held (λ s. block < blocks_of s) → TrimsAny Known image now.history.present session block (Err stop) → MayStop tells held now.history.present now.head now.capacity (Trim block) stop
+trim_stops tells Known held image now session block stops.Platform known within any = within
+trim_stops tells Known held image now session block (stops.BadRecord addr) known within any = λ told. wrong_one (any (known told))
+trim_stops tells Known held image now session block stops.Memory known within any = within
+trim_stops tells Known held image now session block stops.Tape known within any = absurd any
+trim_stops tells Known held image now session block stops.Ledger known within any = absurd any
+trim_stops tells Known held image now session block stops.BadRoot known within any = absurd any
 
 -- a mount without a session
 pub mount_stops : (tells : Type 0) (held : Option Session) (image : Image) (pages : ℕ) (now : World) (stop : DeviceStop) → held ≡ None → (tells → now.history.present ≡ image) → now.head ≡ pages
     → IsMountStop tells image.cell pages stop → MayStop tells held now.history.present now.head now.capacity Mount stop
-mount_stops tells held image pages now stops.Platform none same head is = tt
+mount_stops tells held image pages now stops.Platform none same head is = none
 mount_stops tells held image pages now stops.Memory none same head is =
     (none, λ told. let found = is told in (found.0, subst (λ (n : ℕ). IsRootWithin n found.0) (sym head) found.1, ap (λ (i : Image). i.cell) (same told) ∙ found.2))
 mount_stops tells held image pages now stops.BadRoot none same head is = tt
@@ -200,7 +201,7 @@ mount_stops tells held image pages now (stops.BadRecord addr) none same head is 
 pub commit_stops : {S R : Type 0} (P : Ghosts S) (T : TapeGhosts R) (platform platform_now : S) (tape tape_now : R) (held now : Option Session) (session : Session) (stop : DeviceStop) → held ≡ Some session → IsOpen session (P.head platform)
     → P.capacity platform_now ≡ P.capacity platform → (P.tells → IfSome held (IsMounted (P.history platform).present)) → StopsAt P T platform platform_now tape tape_now session stop
     → MayStop P.tells held (P.history platform_now).present (P.head platform_now) (P.capacity platform_now) Commit stop
-commit_stops P T platform platform_now tape tape_now held now session stops.Platform is there capacity mounted stopped = tt
+commit_stops P T platform platform_now tape tape_now held now session stops.Platform is there capacity mounted stopped = held_has held session (λ (s : Session). is_touched s ≡ true) is stopped.touched
 commit_stops P T platform platform_now tape tape_now held now session stops.Tape is there capacity mounted stopped = tt
 commit_stops P T platform platform_now tape tape_now held now session stops.Ledger is there capacity mounted stopped = tt
 commit_stops P T platform platform_now tape tape_now held now session stops.Memory is there capacity mounted stopped = (
@@ -314,7 +315,7 @@ serves_upgraded P platform platform_now held entry number none led =
       closed (Some (upgraded led.device)),
       (none_counted, gives_upgraded (is_full old was Upgrade) led.device (is_full_false old was Upgrade led.room) led.version),
       has_none new (Some (upgraded led.device)) none led.at.there.device,
-      led.turns,
+      turns_upgraded P platform platform_now led.device led.turns,
     ))
 
 -- or not, and the state stays
@@ -360,7 +361,7 @@ may_upgrade P platform platform_now held entry may =
     let made : (answer (is_full old was Upgrade) none_counted was Upgrade).1.device ≡ Some (upgraded may.device) =
     sym (ap (λ (p : Reply × State). p.1.device) (gives_upgraded (is_full old was Upgrade) may.device (is_full_false old was Upgrade may.room) may.version)) in
     subst (λ (state : State). Halts old new state Upgrade stops.Platform) (sym may.was)
-    (subst (λ (there : Option Device). Turns old.history new.history (Leaves (Some may.device)) (Leaves there)) (sym made) may.turns)
+    (subst (λ (there : Option Device). Turns old.history new.history (Leaves (Some may.device)) (Leaves there)) (sym made) (turns_upgraded P platform platform_now may.device may.turns))
 
 pub halts_upgrade : {S : Type 0} (P : Ghosts S) (platform platform_now : S) (held : Option Session) (entry : State) (stop : DeviceStop) → UpgradeLeads P platform platform_now entry (Err stop)
     → Serves (world_of P held platform) (world_of P held platform_now) entry Upgrade (Err stop)
@@ -387,7 +388,7 @@ begins_still P T platform platform_now tape tape_now root capacity still b = rec
 
 pub upgrade_stops : {S R : Type 0} (P : Ghosts S) (T : TapeGhosts R) (platform platform_now : S) (tape tape_now : R) (held : Option Session) (stop : DeviceStop) → held ≡ None → P.capacity platform_now ≡ P.capacity platform
     → StopsUpgrade P T platform platform_now tape tape_now stop → MayStop P.tells held (P.history platform_now).present (P.head platform_now) (P.capacity platform_now) Upgrade stop
-upgrade_stops P T platform platform_now tape tape_now held stops.Platform none capacity stopped = tt
+upgrade_stops P T platform platform_now tape tape_now held stops.Platform none capacity stopped = none
 upgrade_stops P T platform platform_now tape tape_now held stops.Tape none capacity stopped = tt
 upgrade_stops P T platform platform_now tape tape_now held stops.Ledger none capacity stopped = tt
 upgrade_stops P T platform platform_now tape tape_now held stops.Memory none capacity (begun, still) =

@@ -39,7 +39,7 @@ pub at_looked : (old new : Image) (held : Option Session) (entry : State) → he
 at_looked old new held entry none same at = subst (λ (i : Image). IsAt i held entry) (sym same) (subst (λ (s : Option Session). IsAt old s entry) (sym none) at)
 
 -- the state after lines that were handled
-pub handled_through : (tells : Type 0) (old new : World) (last : DeviceStop → List ℕ) (lines : List (List ℕ)) (written written_now : Option (List ℕ)) → Handled tells old new last (Ok tt) lines written written_now
+pub handled_through : (tells : Type 0) (old new : World) (last : DeviceStop → List ℕ) (lines : List (List ℕ)) (written written_now : Option (List ℕ)) → Handled tells ⊥ old new last (Ok tt) lines written written_now
     → tells → (entry : State) → Stood old entry → (now : State) × Stood new now
 handled_through tells old new last lines written written_now h told entry at =
     let a = h.replied.answered told entry (needed_of old.session) at (omega arith) in
@@ -50,7 +50,7 @@ pending_text None = (replicate 8301 zero, omega (arith, length-replicate {A = �
 pending_text (Some bytes) = (bytes, refl)
 
 -- and after one line, whatever is pending of it
-pub answered_through : (tells : Type 0) (old new : World) (pending written written_now : Option (List ℕ)) → ((text : List ℕ) → IsPending pending text → Handled tells old new no_line (Ok tt) (text ∷ []) written written_now)
+pub answered_through : (tells : Type 0) (old new : World) (pending written written_now : Option (List ℕ)) → ((text : List ℕ) → IsPending pending text → Handled tells ⊥ old new no_line (Ok tt) (text ∷ []) written written_now)
     → tells → (entry : State) → Stood old entry → (now : State) × Stood new now
 answered_through tells old new pending written written_now handled told entry at =
     let text = pending_text pending in

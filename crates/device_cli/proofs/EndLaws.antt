@@ -14,7 +14,7 @@ use Rattle.device_course.specs.Course.{Made}
 use Rattle.device_course.specs.Marks.{last_mark}
 use Rattle.device_course.proofs.ProgramLaws.{Ended}
 use Rattle.device_course.proofs.ReachingLaws.{discloses}
-use Rattle.device_cli.specs.Causes.{HasLacked, IsOf}
+use Rattle.device_cli.specs.Causes.{HasCalled, HasLacked, IsOf}
 use Rattle.device_cli.specs.Checks.{Checked, Checks, IsSilent, status_at}
 use Rattle.device_cli.specs.Drawing.{DrewUntil}
 use Rattle.device_cli.specs.Handed.{Handed}
@@ -41,18 +41,18 @@ forgets tells old new Going e =
     record { discloses = all; seizes = seizes_maps tells old.drawn new.drawn old.history new.history all }
 
 -- one that serves a script
-pub ended_run : (tells : Type 0) (old new : Outside) (Going : Type 0) (was : World) (drawn drawn_now : Option (List (List ℕ))) (session : Option Session) (reads : ℕ) (ending : Ending) (left left_now written written_now : Option (List ℕ))
+pub ended_run : (tells Before : Type 0) (old new : Outside) (Going : Type 0) (was : World) (drawn drawn_now : Option (List (List ℕ))) (session : Option Session) (reads : ℕ) (ending : Ending) (left left_now written written_now : Option (List ℕ))
     → was.session ≡ None → was.history ≡ old.history → was.head ≡ old.head → was.capacity ≡ old.capacity
-    → Ran tells (drew_by drawn was) (drew_by drawn_now (world session new.history new.head new.capacity reads)) damage_line ending left left_now written written_now
+    → Ran tells Before (drew_by drawn was) (drew_by drawn_now (world session new.history new.head new.capacity reads)) damage_line ending left left_now written written_now
     → KeepsOn tells old.drawn new.drawn old.written new.written None old.history new.history Going (λ keys. Unit {0}) → Ended tells old new Going
-ended_run tells old new Going was drawn drawn_now session reads ending left left_now written written_now alone history head capacity ran keeps =
+ended_run tells Before old new Going was drawn drawn_now session reads ending left left_now written written_now alone history head capacity ran keeps =
     let later = ran.handled.replied.later in
     record {
       later = record { capacity = later.capacity ∙ capacity; rises = subst (λ (n : ℕ). n ≤ new.head) head later.rises; within = later.within };
       keeps = keeps;
       made = subst (λ (h : History). tells → (device : Option Device) → Stands h.present device → IsServedImage h.present
           → (marks : List (Option Device)) × Made h new.history None (closed device) marks (closed (last_mark device marks))) history
-          (made_by tells was drawn drawn_now session new.history new.head new.capacity reads ending left left_now written written_now alone ran);
+          (made_by tells Before was drawn drawn_now session new.history new.head new.capacity reads ending left left_now written written_now alone ran);
     }
 
 -- ---- what the words say
@@ -64,18 +64,20 @@ where_lacked tells old new status left left_now written written_now Whole script
 where_lacked tells old new status left left_now written written_now Whole script (inr whole) = inr whole
 
 pub serves_at : {S R I O L : Type 0} (tells : Type 0) (status : ℕ) (old new : Handed S R I O L) (session : Option Session) (ending : Ending) → old.world.session ≡ None → new.world.session ≡ None → new.world.drawn ≡ None → status ≡ exit_of ending
-    → Ran tells (drew_by old.drawn old.world) (drew_by new.drawn (record new.world { session = session })) damage_line ending old.left new.left old.written new.written → IfErr ending (HasCause old.counts new.counts) → ServesScript tells status old new
+    → Ran tells (new.input ≡ old.input) (drew_by old.drawn old.world) (drew_by new.drawn (record new.world { session = session })) damage_line ending old.left new.left old.written new.written → IfErr ending (HasCause old.counts new.counts) → ServesScript tells status old new
 serves_at tells status old new session ending alone then_alone untold is ran cause =
     let now = new.world in
-    let Serves : World → ℕ → Type 0 = λ there n. (script : AnswersScript tells old.world there n old.left new.left old.written new.written) × DrewUntil old.drawn script.lines script.replies new.drawn in
+    let Serves : World → ℕ → Type 0 = λ there n. (script : AnswersScript tells old.world there n old.left new.left old.written new.written) × DrewUntil old.drawn script.lines script.replies new.drawn
+    × (n ≡ 5 → (new.input ≡ old.input) ⊎ IfNext script.replies script.lines (IsOf (HasCalled tells there.history.present))) in
     let same : world None now.history now.head now.capacity now.reads ≡ now =
     ap (λ (d : Option (List (List ℕ))). record now { session = None; drawn = d }) (sym untold) ∙ ap (λ (s : Option Session). record now { session = s }) (sym then_alone) in
-    let script = answers_with tells old.world old.drawn new.drawn session now.history now.head now.capacity now.reads ending old.left new.left old.written new.written alone ran in
-    let here : Serves now (exit_of ending) = subst (λ (there : World). Serves there (exit_of ending)) same (script.0, script.2) in
+    let script = answers_with tells (new.input ≡ old.input) old.world old.drawn new.drawn session now.history now.head now.capacity now.reads ending old.left new.left old.written new.written alone ran in
+    let here : Serves now (exit_of ending) = subst (λ (there : World). Serves there (exit_of ending)) same (script.0, script.2, script.3) in
     let all : Serves now status = subst (λ (n : ℕ). Serves now n) (sym is) here in
     record {
       answers = all.0;
       drew = all.1;
+      no_platform = all.2;
       complete = λ told there stands served text ample quiet. where_lacked tells old.world now status old.left new.left old.written new.written (IsComplete (closed there) text old.written new.written) all.0
           (subst (λ (n : ℕ). (n ≡ 11) ⊎ ((n ≡ 0) × IsComplete (closed there) text old.written new.written)) (sym is)
           (complete_ending tells old.world now ending old.counts new.counts old.left new.left old.written new.written text there told stands served here.0 ran.taken ran.gave ran.took cause quiet ample));

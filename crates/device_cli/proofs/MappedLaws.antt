@@ -14,7 +14,7 @@ use Rattle.page_store.specs.Kept.{Kept}
 use Rattle.page_store.proofs.DisclosingLaws.{first_premises}
 use Rattle.seizure.specs.Opened.{count_of_kind}
 use Rattle.seizure.specs.Report.{Seized, IsSeizure, Holds, roots_of}
-use Rattle.seizure.proofs.AscendLaws.{mapped_len}
+use Rattle.page_store.proofs.AscendLaws.{mapped_len}
 use Rattle.seizure.proofs.CountLaws.{counted}
 use Rattle.seizure.proofs.MappedLaws.{mapped_counted}
 use Rattle.device_cli.specs.Represents.{StandsFor}

@@ -30,7 +30,7 @@ use Rattle.line_run.proofs.StopLaws.{TookUntil-line}
 pub Ran-after : (tells : Type 0) (old mid new : World) (last : DeviceStop → List ℕ) (ending : Ending) (left left_now a b : Option (List ℕ))
     → IsLater old mid → mid.head ≡ old.head → (tells → mid.reads ≡ old.reads) → mid.session ≡ old.session → mid.drawn ≡ old.drawn
     → (tells → Extends old.history mid.history) → (tells → (entry : State) → Stood old entry → Stood mid entry × During old.history mid.history (Leaves entry.device))
-    → Ran tells mid new last ending left left_now a b → Ran tells old new last ending left left_now a b
+    → Ran tells ⊥ mid new last ending left left_now a b → Ran tells ⊥ old new last ending left left_now a b
 Ran-after tells old mid new last ending left left_now a b later same unread held undrawn extends still r = record {
   taken = r.taken;
   lines = r.lines;
@@ -54,9 +54,43 @@ IsBehind-other (Err (stops.Device stop)) part other h = absurd (other stop refl)
 IsBehind-other (Err stops.Sink) part other (inl h) = inl h
 IsBehind-other (Err stops.Sink) part other (inr (stop, (n, e))) = inr (stop, (0, grind (arith, common_steps, e)))
 
-pub Ran-other : (tells : Type 0) (old new : World) (ending : Ending) (left left_now a b : Option (List ℕ)) → ((stop : DeviceStop) → ending ≡ Err (stops.Device stop) → ⊥)
-    → Ran tells old new no_line ending left left_now a b → Ran tells old new damage_line ending left left_now a b
-Ran-other tells old new ending left left_now a b other r = let p = r.handled.replied in record {
+-- what holds where the platform failed before the first line may be less
+ending_before : (tells Was Before : Type 0) (now : World) (replies : List Reply) (lines : List (List ℕ)) (ending : Ending) → (Was → Before) → IsEndingAt tells Was now replies lines ending → IsEndingAt tells Before now replies lines ending
+ending_before tells Was Before now replies lines (Ok done) less h = tt
+ending_before tells Was Before now replies lines (Err stops.Source) less h = tt
+ending_before tells Was Before now replies lines (Err stops.Limit) less h = tt
+ending_before tells Was Before now replies lines (Err stops.Sink) less h = tt
+ending_before tells Was Before now replies lines (Err (stops.Device device.Platform)) less (inl was) = inl (less was)
+ending_before tells Was Before now replies lines (Err (stops.Device device.Platform)) less (inr h) = inr h
+ending_before tells Was Before now replies lines (Err (stops.Device device.BadRoot)) less h = h
+ending_before tells Was Before now replies lines (Err (stops.Device device.Tape)) less h = h
+ending_before tells Was Before now replies lines (Err (stops.Device device.Ledger)) less h = h
+ending_before tells Was Before now replies lines (Err (stops.Device device.Memory)) less h = h
+ending_before tells Was Before now replies lines (Err (stops.Device (device.BadRecord addr))) less h = h
+
+pub Ran-before : (tells Was Before : Type 0) (old new : World) (last : DeviceStop → List ℕ) (ending : Ending) (left left_now a b : Option (List ℕ)) → (Was → Before)
+    → Ran tells Was old new last ending left left_now a b → Ran tells Before old new last ending left left_now a b
+Ran-before tells Was Before old new last ending left left_now a b less r = let p = r.handled.replied in record {
+  taken = r.taken;
+  lines = r.lines;
+  gave = r.gave;
+  took = r.took;
+  come = r.come;
+  handled = record {
+    put = r.handled.put;
+    got = r.handled.got;
+    replied = record { replies = p.replies; part = p.part; put_is = p.put_is; behind = p.behind; many = p.many; stopped = ending_before tells Was Before new p.replies r.lines ending less p.stopped; drew = p.drew; so = p.so; later = p.later; full = p.full; enough = p.enough; looks = p.looks; answered = p.answered };
+  };
+  prompt = r.prompt;
+}
+
+-- a run that did begin
+pub Ran-begun : (tells Before : Type 0) (old new : World) (last : DeviceStop → List ℕ) (ending : Ending) (left left_now a b : Option (List ℕ)) → Ran tells ⊥ old new last ending left left_now a b → Ran tells Before old new last ending left left_now a b
+Ran-begun tells Before old new last ending left left_now a b r = Ran-before tells ⊥ Before old new last ending left left_now a b (λ never. absurd never) r
+
+pub Ran-other : (tells Before : Type 0) (old new : World) (ending : Ending) (left left_now a b : Option (List ℕ)) → ((stop : DeviceStop) → ending ≡ Err (stops.Device stop) → ⊥)
+    → Ran tells Before old new no_line ending left left_now a b → Ran tells Before old new damage_line ending left left_now a b
+Ran-other tells Before old new ending left left_now a b other r = let p = r.handled.replied in record {
   taken = r.taken;
   lines = r.lines;
   gave = r.gave;
@@ -77,9 +111,9 @@ Answered-part old new stop entry updates lines replies part other f =
     record { now = f.now; pages = f.pages; answers = f.answers; seen = f.seen; ends = f.ends; near = f.near; ahead = f.ahead; is_ahead = f.is_ahead; marks = f.marks; are = f.are; made = f.made }
 
 -- a stop of the device, and then its last line
-pub Ran-last : (tells : Type 0) (old new : World) (stop : DeviceStop) (left left_now a b c : Option (List ℕ))
-    → Ran tells old new no_line (Err (stops.Device stop)) left left_now a b → Got b (damage_line stop) c → Ran tells old new damage_line (Err (stops.Device stop)) left left_now a c
-Ran-last tells old new stop left left_now a b c r got = let p = r.handled.replied in record {
+pub Ran-last : (tells Before : Type 0) (old new : World) (stop : DeviceStop) (left left_now a b c : Option (List ℕ))
+    → Ran tells Before old new no_line (Err (stops.Device stop)) left left_now a b → Got b (damage_line stop) c → Ran tells Before old new damage_line (Err (stops.Device stop)) left left_now a c
+Ran-last tells Before old new stop left left_now a b c r got = let p = r.handled.replied in record {
   taken = r.taken;
   lines = r.lines;
   gave = r.gave;
@@ -108,10 +142,10 @@ Ran-last tells old new stop left left_now a b c r got = let p = r.handled.replie
 }
 
 -- the same where the last line couldn't be put
-pub Ran-cut : (tells : Type 0) (old new : World) (stop : DeviceStop) (left left_now a b c : Option (List ℕ))
-    → Ran tells old new no_line (Err (stops.Device stop)) left left_now a b → GotPart b (damage_line stop) c → (IsSound stop → ⊥)
-    → Ran tells old new damage_line (Err stops.Sink) left left_now a c
-Ran-cut tells old new stop left left_now a b c r (n, got) damaged = let p = r.handled.replied in record {
+pub Ran-cut : (tells Before : Type 0) (old new : World) (stop : DeviceStop) (left left_now a b c : Option (List ℕ))
+    → Ran tells Before old new no_line (Err (stops.Device stop)) left left_now a b → GotPart b (damage_line stop) c → (IsSound stop → ⊥)
+    → Ran tells Before old new damage_line (Err stops.Sink) left left_now a c
+Ran-cut tells Before old new stop left left_now a b c r (n, got) damaged = let p = r.handled.replied in record {
   taken = r.taken;
   lines = r.lines;
   gave = r.gave;
@@ -149,12 +183,12 @@ IsEarly device.Ledger = ⊥
 IsEarly (device.BadRecord addr) = ⊥
 
 -- a run that was stopped before its first line
-pub Ran-refused : (tells : Type 0) (old new : World) (stop : DeviceStop) (left written : Option (List ℕ)) → IsEarly stop
+pub Ran-refused : (tells Before : Type 0) (old new : World) (stop : DeviceStop) (left written : Option (List ℕ)) → IsEarly stop → Before
     → IsLater old new → new.head ≡ old.head → (tells → new.reads ≡ old.reads) → new.drawn ≡ old.drawn
     → (tells → Extends old.history new.history) → (tells → (entry : State) → Stood old entry → Stood new entry × During old.history new.history (Leaves entry.device))
-    → (tells → (entry : State) → Stood old entry → IsSound stop) → Ran tells old new no_line (Err (stops.Device stop)) left left written written
+    → (tells → (entry : State) → Stood old entry → IsSound stop) → Ran tells Before old new no_line (Err (stops.Device stop)) left left written written
 unfolding whole_lines_of
-Ran-refused tells old new stop left written which later same unread undrawn extends still sound = record {
+Ran-refused tells Before old new stop left written which before later same unread undrawn extends still sound = record {
   taken = [];
   lines = [];
   gave = Gave-nothing left;
@@ -194,9 +228,9 @@ Ran-refused tells old new stop left written which later same unread undrawn exte
   prompt = record { before = []; last = []; parts = refl; piece = omega arith; served = omega arith };
 }
   where
-    early_end : (s : DeviceStop) → IsEarly s → IsEndingAt tells new [] [] (Err (stops.Device s))
+    early_end : (s : DeviceStop) → IsEarly s → IsEndingAt tells Before new [] [] (Err (stops.Device s))
     early_end device.BadRoot w = tt
-    early_end device.Platform w = tt
+    early_end device.Platform w = inl before
     early_end device.Memory w = absurd w
     early_end device.Tape w = absurd w
     early_end device.Ledger w = absurd w
@@ -223,14 +257,14 @@ Took-of (Err (stops.Device device.BadRoot)) taken left t = record { most = t.mos
 Took-of (Err (stops.Device (device.BadRecord addr))) taken left t = record { most = t.most; whole = λ e. absurd (omega (arith, e)); failed = λ e. absurd (omega (arith, e)); refused = λ e. absurd (omega (arith, e)); limit = λ e. absurd (omega (arith, e)); nothing = λ e. absurd (omega (arith, e)) }
 
 -- a stop of the device, and what the putting of its last line ended with
-pub Ran-ended : (tells : Type 0) (old new : World) (Still Risen : Type 0) (stop : DeviceStop) (ended : Stop) (left left_now a b c : Option (List ℕ))
-    → Ran tells old new no_line (Err (stops.Device stop)) left left_now a b
+pub Ran-ended : (tells Before : Type 0) (old new : World) (Still Risen : Type 0) (stop : DeviceStop) (ended : Stop) (left left_now a b c : Option (List ℕ))
+    → Ran tells Before old new no_line (Err (stops.Device stop)) left left_now a b
     → ((ended ≡ stops.Device stop) × Got b (damage_line stop) c × Still) ⊎ ((ended ≡ stops.Sink) × Risen × GotPart b (damage_line stop) c × (IsSound stop → ⊥))
-    → Ran tells old new damage_line (Err ended) left left_now a c
-Ran-ended tells old new Still Risen stop ended left left_now a b c r (inl (e, got, still)) =
-    subst (λ (s : Stop). Ran tells old new damage_line (Err s) left left_now a c) (sym e) (Ran-last tells old new stop left left_now a b c r got)
-Ran-ended tells old new Still Risen stop ended left left_now a b c r (inr (e, risen, got, damaged)) =
-    subst (λ (s : Stop). Ran tells old new damage_line (Err s) left left_now a c) (sym e) (Ran-cut tells old new stop left left_now a b c r got damaged)
+    → Ran tells Before old new damage_line (Err ended) left left_now a c
+Ran-ended tells Before old new Still Risen stop ended left left_now a b c r (inl (e, got, still)) =
+    subst (λ (s : Stop). Ran tells Before old new damage_line (Err s) left left_now a c) (sym e) (Ran-last tells Before old new stop left left_now a b c r got)
+Ran-ended tells Before old new Still Risen stop ended left left_now a b c r (inr (e, risen, got, damaged)) =
+    subst (λ (s : Stop). Ran tells Before old new damage_line (Err s) left left_now a c) (sym e) (Ran-cut tells Before old new stop left left_now a b c r got damaged)
 
 -- a stop before the first line is one without damage, where the cell can be served
 pub sound_of : (stop : DeviceStop) → IsEarly stop → (stop ≡ device.BadRoot → ⊥) → IsSound stop

@@ -68,7 +68,7 @@ made_idle old new entry rep (there, during) =
 -- no lines, and nothing put, while the platform stood still
 pub Replied-idle : (tells : Type 0) (old new : World) (last : DeviceStop → List ℕ) → IsLater old new → new.head ≡ old.head → (tells → new.reads ≡ old.reads) → new.session ≡ old.session
     → new.drawn ≡ old.drawn → (tells → Extends old.history new.history) → (tells → (entry : State) → Stood old entry → Stood new entry × During old.history new.history (Leaves entry.device))
-    → Replied tells old new last (Ok tt) [] []
+    → Replied tells ⊥ old new last (Ok tt) [] []
 Replied-idle tells old new last later same unread held undrawn extends still = record {
   replies = [];
   part = [];
@@ -102,7 +102,7 @@ still_there : (w : World) (entry : State) → Stood w entry → Stood w entry ×
 still_there w entry rep = (rep, During-start w.history (Leaves entry.device) (stands_leaves w.history.present _ rep.there.device))
 
 -- no lines, and nothing put
-pub Replied-nothing : (tells : Type 0) (w : World) (last : DeviceStop → List ℕ) → w.head ≤ w.capacity → Replied tells w w last (Ok tt) [] []
+pub Replied-nothing : (tells : Type 0) (w : World) (last : DeviceStop → List ℕ) → w.head ≤ w.capacity → Replied tells ⊥ w w last (Ok tt) [] []
 Replied-nothing tells w last fits = Replied-idle tells w w last (IsLater-refl w fits) refl (λ told. refl) refl refl (λ told. Extends-refl w.history) (λ told entry rep. still_there w entry rep)
 
 -- what the serving of a line did from a state: a reply that belongs to it, and the state after it
@@ -134,7 +134,7 @@ TurnsEach tells old new line reply = tells → (entry : State) (updates : ℕ) �
 -- a line with its reply
 pub Replied-line : (tells : Type 0) (old new : World) (last : DeviceStop → List ℕ) (line : List ℕ) (reply : Reply)
     → IsLater old new → DrewUntil old.drawn (line ∷ []) (reply ∷ []) new.drawn → SoOn tells old.history new.history (line ∷ []) (reply ∷ []) → TellsShort old new line reply → StaysEnough old new reply
-    → LooksOn tells old new (line ∷ []) (IsOk {T = Unit {0}} {E = Stop} (Ok tt)) → TurnsEach tells old new line reply → Replied tells old new last (Ok tt) (line ∷ []) (line_of reply)
+    → LooksOn tells old new (line ∷ []) (IsOk {T = Unit {0}} {E = Stop} (Ok tt)) → TurnsEach tells old new line reply → Replied tells ⊥ old new last (Ok tt) (line ∷ []) (line_of reply)
 Replied-line tells old new last line reply later drew so full enough looks turned = record {
   replies = reply ∷ [];
   part = [];
@@ -169,7 +169,7 @@ Replied-line tells old new last line reply later drew so full enough looks turne
 -- a line whose reply was put in part
 pub Replied-part : (tells : Type 0) (old new : World) (last : DeviceStop → List ℕ) (line : List ℕ) (reply : Reply) (n : ℕ)
     → IsLater old new → DrewUntil old.drawn (line ∷ []) [] new.drawn → (tells → Extends old.history new.history) → LooksOn tells old new (line ∷ []) (IsOk {T = Unit {0}} {E = Stop} (Err stops.Sink)) → TurnsEach tells old new line reply
-    → Replied tells old new last (Err stops.Sink) (line ∷ []) (take n (line_of reply))
+    → Replied tells ⊥ old new last (Err stops.Sink) (line ∷ []) (take n (line_of reply))
 Replied-part tells old new last line reply n later drew extends looks turned = record {
   replies = [];
   part = take n (line_of reply);
@@ -253,10 +253,10 @@ left_more (device.BadRecord addr) _ changes more upgrade less = omega arith
 
 -- a line that the device stopped at
 pub Replied-stop : (tells : Type 0) (old new : World) (line : List ℕ) (command : Command) (stop : DeviceStop) → Spells line command → IsLater old new → DrewUntil old.drawn (line ∷ []) [] new.drawn → (tells → Extends old.history new.history) → LeavesFew tells old.history.present stop command (needed_of old.session) old.head new.head
-    → IsEndingAt tells new [] (line ∷ []) (Err (stops.Device stop))
+    → IsEndingAt tells ⊥ new [] (line ∷ []) (Err (stops.Device stop))
     → LooksOn tells old new (line ∷ []) (IsOk {T = Unit {0}} {E = Stop} (Err (stops.Device stop)))
     → (tells → IsServedImage new.history.present) → (tells → (entry : State) → Stood old entry → Halts old new entry command stop)
-    → Replied tells old new no_line (Err (stops.Device stop)) (line ∷ []) []
+    → Replied tells ⊥ old new no_line (Err (stops.Device stop)) (line ∷ []) []
 Replied-stop tells old new line command stop spells later drew extends added damage looks served halts = record {
   replies = [];
   part = [];
@@ -319,8 +319,9 @@ AreMany-then (Err stops.Sink) a b c d e h = omega (arith, e, h)
 AreMany-then (Err (stops.Device stop)) a b c d e h = omega (arith, e, h)
 
 IsStopAt-then : (tells : Type 0) (now : World) (stop : DeviceStop) (lines more : List (List ℕ)) (replies others : List Reply) → length replies ≡ length lines
-    → IsStopAt tells now others more stop → IsStopAt tells now (replies ++ others) (lines ++ more) stop
-IsStopAt-then tells now device.Platform lines more replies others same h = tt
+    → IsStopAt tells ⊥ now others more stop → IsStopAt tells ⊥ now (replies ++ others) (lines ++ more) stop
+IsStopAt-then tells now device.Platform lines more replies others same (inl never) = absurd never
+IsStopAt-then tells now device.Platform lines more replies others same (inr h) = inr (IfNext-behind _ lines more replies others same h)
 IsStopAt-then tells now device.BadRoot lines more replies others same h = tt
 IsStopAt-then tells now device.Tape lines more replies others same h = IfNext-behind _ lines more replies others same h
 IsStopAt-then tells now device.Ledger lines more replies others same h = IfNext-behind _ lines more replies others same h
@@ -328,7 +329,7 @@ IsStopAt-then tells now device.Memory lines more replies others same h = IfNext-
 IsStopAt-then tells now (device.BadRecord addr) lines more replies others same h = IfNext-behind _ lines more replies others same h
 
 IsEndingAt-then : (tells : Type 0) (now : World) (ending : Ending) (lines more : List (List ℕ)) (replies others : List Reply) → length replies ≡ length lines
-    → IsEndingAt tells now others more ending → IsEndingAt tells now (replies ++ others) (lines ++ more) ending
+    → IsEndingAt tells ⊥ now others more ending → IsEndingAt tells ⊥ now (replies ++ others) (lines ++ more) ending
 IsEndingAt-then tells now (Ok done) lines more replies others same h = tt
 IsEndingAt-then tells now (Err stops.Source) lines more replies others same h = tt
 IsEndingAt-then tells now (Err stops.Limit) lines more replies others same h = tt
@@ -413,7 +414,7 @@ enough_then (Err stop) session updates replies others h = tt
 
 -- one run after another, which answered all its lines
 pub Replied-then : (tells : Type 0) (old mid new : World) (last : DeviceStop → List ℕ) (ending : Ending) (lines more : List (List ℕ)) (put others : List ℕ)
-    → Replied tells old mid last (Ok tt) lines put → Replied tells mid new last ending more others → Replied tells old new last ending (lines ++ more) (put ++ others)
+    → Replied tells ⊥ old mid last (Ok tt) lines put → Replied tells ⊥ mid new last ending more others → Replied tells ⊥ old new last ending (lines ++ more) (put ++ others)
 Replied-then tells old mid new last ending lines more put others p q =
     record {
       replies = p.replies ++ q.replies;
@@ -442,8 +443,9 @@ AreMany-longer stops.Sink a b c most line h = omega (arith, h)
 AreMany-longer (stops.Device stop) a b c most line h = omega (arith, h)
 
 IsStopAt-longer : (tells : Type 0) (now : World) (stop : DeviceStop) (lines more : List (List ℕ)) (replies : List Reply)
-    → IsStopAt tells now replies lines stop → IsStopAt tells now replies (lines ++ more) stop
-IsStopAt-longer tells now device.Platform lines more replies h = tt
+    → IsStopAt tells ⊥ now replies lines stop → IsStopAt tells ⊥ now replies (lines ++ more) stop
+IsStopAt-longer tells now device.Platform lines more replies (inl never) = absurd never
+IsStopAt-longer tells now device.Platform lines more replies (inr h) = inr (IfNext-longer _ lines more replies h)
 IsStopAt-longer tells now device.BadRoot lines more replies h = tt
 IsStopAt-longer tells now device.Tape lines more replies h = IfNext-longer _ lines more replies h
 IsStopAt-longer tells now device.Ledger lines more replies h = IfNext-longer _ lines more replies h
@@ -451,7 +453,7 @@ IsStopAt-longer tells now device.Memory lines more replies h = IfNext-longer _ l
 IsStopAt-longer tells now (device.BadRecord addr) lines more replies h = IfNext-longer _ lines more replies h
 
 IsEndingAt-longer : (tells : Type 0) (now : World) (stop : Stop) (lines more : List (List ℕ)) (replies : List Reply)
-    → IsEndingAt tells now replies lines (Err stop) → IsEndingAt tells now replies (lines ++ more) (Err stop)
+    → IsEndingAt tells ⊥ now replies lines (Err stop) → IsEndingAt tells ⊥ now replies (lines ++ more) (Err stop)
 IsEndingAt-longer tells now stops.Source lines more replies h = tt
 IsEndingAt-longer tells now stops.Limit lines more replies h = tt
 IsEndingAt-longer tells now stops.Sink lines more replies h = tt
@@ -467,7 +469,7 @@ EndsIn-longer old new stops.Sink entry now updates lines more replies part pages
 
 -- a run that stopped at a line may have had more of them
 pub Replied-longer : (tells : Type 0) (old new : World) (last : DeviceStop → List ℕ) (stop : Stop) (lines more : List (List ℕ)) (put : List ℕ)
-    → IsOfLine stop → Replied tells old new last (Err stop) lines put → Replied tells old new last (Err stop) (lines ++ more) put
+    → IsOfLine stop → Replied tells ⊥ old new last (Err stop) lines put → Replied tells ⊥ old new last (Err stop) (lines ++ more) put
 Replied-longer tells old new last stop lines more put line p = record {
   replies = p.replies;
   part = p.part;
@@ -497,11 +499,11 @@ Replied-longer tells old new last stop lines more put line p = record {
 }
 
 -- the same of what an output has got
-pub Handled-nothing : (tells : Type 0) (w : World) (last : DeviceStop → List ℕ) (written : Option (List ℕ)) → w.head ≤ w.capacity → Handled tells w w last (Ok tt) [] written written
+pub Handled-nothing : (tells : Type 0) (w : World) (last : DeviceStop → List ℕ) (written : Option (List ℕ)) → w.head ≤ w.capacity → Handled tells ⊥ w w last (Ok tt) [] written written
 Handled-nothing tells w last written room = record { put = []; got = Got-nothing written; replied = Replied-nothing tells w last room }
 
 pub Handled-then : (tells : Type 0) (old mid new : World) (last : DeviceStop → List ℕ) (ending : Ending) (lines more : List (List ℕ)) (a b c : Option (List ℕ))
-    → Handled tells old mid last (Ok tt) lines a b → Handled tells mid new last ending more b c → Handled tells old new last ending (lines ++ more) a c
+    → Handled tells ⊥ old mid last (Ok tt) lines a b → Handled tells ⊥ mid new last ending more b c → Handled tells ⊥ old new last ending (lines ++ more) a c
 Handled-then tells old mid new last ending lines more a b c p q = record {
   put = p.put ++ q.put;
   got = Got-then a p.put b q.put c p.got q.got;
@@ -509,15 +511,15 @@ Handled-then tells old mid new last ending lines more a b c p q = record {
 }
 
 pub Handled-longer : (tells : Type 0) (old new : World) (last : DeviceStop → List ℕ) (stop : Stop) (lines more : List (List ℕ)) (a b : Option (List ℕ))
-    → IsOfLine stop → Handled tells old new last (Err stop) lines a b → Handled tells old new last (Err stop) (lines ++ more) a b
+    → IsOfLine stop → Handled tells ⊥ old new last (Err stop) lines a b → Handled tells ⊥ old new last (Err stop) (lines ++ more) a b
 Handled-longer tells old new last stop lines more a b line p =
     record { put = p.put; got = p.got; replied = Replied-longer tells old new last stop lines more p.put line p.replied }
 
 -- lines that have their replies, and then a stop
-stopped : (tells : Type 0) (old new : World) (last : DeviceStop → List ℕ) (stop : Stop) (lines : List (List ℕ)) (put : List ℕ) (p : Replied tells old new last (Ok tt) lines put)
-    → IsBehind line_of last p.part (Err stop) → AreMany (length p.replies) (length lines) (Err stop) → IsEndingAt tells new p.replies lines (Err stop)
+stopped : (tells : Type 0) (old new : World) (last : DeviceStop → List ℕ) (stop : Stop) (lines : List (List ℕ)) (put : List ℕ) (p : Replied tells ⊥ old new last (Ok tt) lines put)
+    → IsBehind line_of last p.part (Err stop) → AreMany (length p.replies) (length lines) (Err stop) → IsEndingAt tells ⊥ new p.replies lines (Err stop)
     → ((entry : State) (updates : ℕ) → Answered old new (Ok tt) entry updates lines p.replies p.part → Answered old new (Err stop) entry updates lines p.replies p.part)
-    → Replied tells old new last (Err stop) lines put
+    → Replied tells ⊥ old new last (Err stop) lines put
 stopped tells old new last stop lines put p behind many damage answered = record {
   replies = p.replies;
   part = p.part;
@@ -536,7 +538,7 @@ stopped tells old new last stop lines put p behind many damage answered = record
 
 -- the input ended or failed before a next line: no line is left without its reply
 Replied-cut : (tells : Type 0) (old new : World) (last : DeviceStop → List ℕ) (lines : List (List ℕ)) (put : List ℕ)
-    → Replied tells old new last (Ok tt) lines put → Replied tells old new last (Err stops.Source) lines put × Replied tells old new last (Err stops.Limit) lines put
+    → Replied tells ⊥ old new last (Ok tt) lines put → Replied tells ⊥ old new last (Err stops.Source) lines put × Replied tells ⊥ old new last (Err stops.Limit) lines put
 Replied-cut tells old new last lines put p = (
   stopped tells old new last stops.Source lines put p p.behind p.many tt
       (λ entry updates f. record { now = f.now; pages = f.pages; answers = f.answers; seen = f.seen; ends = f.ends; near = f.near; ahead = f.ahead; is_ahead = f.is_ahead; marks = f.marks; are = f.are; made = f.made }),
@@ -545,7 +547,7 @@ Replied-cut tells old new last lines put p = (
 )
 
 pub Handled-cut : (tells : Type 0) (old new : World) (last : DeviceStop → List ℕ) (lines : List (List ℕ)) (a b : Option (List ℕ))
-    → Handled tells old new last (Ok tt) lines a b → Handled tells old new last (Err stops.Source) lines a b × Handled tells old new last (Err stops.Limit) lines a b
+    → Handled tells ⊥ old new last (Ok tt) lines a b → Handled tells ⊥ old new last (Err stops.Source) lines a b × Handled tells ⊥ old new last (Err stops.Limit) lines a b
 Handled-cut tells old new last lines a b p = let cut = Replied-cut tells old new last lines p.put p.replied in
     (record { put = p.put; got = p.got; replied = cut.0 }, record { put = p.put; got = p.got; replied = cut.1 })
 
@@ -553,7 +555,7 @@ Handled-cut tells old new last lines a b p = let cut = Replied-cut tells old new
 pub Handled-line : (tells : Type 0) (old new : World) (last : DeviceStop → List ℕ) (line : List ℕ) (reply : Reply) (ending : Ending) (a b : Option (List ℕ))
     → IsLater old new → DrewUntil old.drawn (line ∷ []) (reply ∷ []) new.drawn → DrewUntil old.drawn (line ∷ []) [] new.drawn → SoOn tells old.history new.history (line ∷ []) (reply ∷ []) → TellsShort old new line reply
     → StaysEnough old new reply → LooksOn tells old new (line ∷ []) (IsOk ending) → TurnsEach tells old new line reply → HasPut (line_of reply) ending a b
-    → Handled tells old new last ending (line ∷ []) a b
+    → Handled tells ⊥ old new last ending (line ∷ []) a b
 Handled-line tells old new last line reply (Ok done) a b later drew cut so full enough looks turned put =
     record { put = line_of reply; got = put; replied = Replied-line tells old new last line reply later drew so full enough looks turned }
 Handled-line tells old new last line reply (Err stops.Sink) a b later drew cut so full enough looks turned (n, put) =
@@ -606,8 +608,8 @@ pub tells_short : (tells : Type 0) (image : Image) (old new : World) (line : Lis
 tells_short tells image old new line command reply spells later full updates enough e =
     (command, spells, short_of tells image command (needed_of old.session) updates new.head new.capacity enough later.within (full e))
 
-stops_there : (tells : Type 0) (held : Option Session) (now : World) (line : List ℕ) (command : Command) (stop : DeviceStop) → Spells line command → MayStop tells held now.history.present now.head now.capacity command stop → IsStopAt tells now [] (line ∷ []) stop
-stops_there tells held now line command device.Platform spells may = tt
+stops_there : (tells : Type 0) (held : Option Session) (now : World) (line : List ℕ) (command : Command) (stop : DeviceStop) → Spells line command → MayStop tells held now.history.present now.head now.capacity command stop → IsStopAt tells ⊥ now [] (line ∷ []) stop
+stops_there tells held now line command device.Platform spells may = inr (command, spells, (held, may))
 stops_there tells held now line command device.BadRoot spells may = tt
 stops_there tells held now line command device.Tape spells may = (command, spells, may)
 stops_there tells held now line command device.Ledger spells may = (command, spells, may)
@@ -629,7 +631,7 @@ pub Handled-stop : (tells : Type 0) (old new : World) (line : List ℕ) (command
     → MayStop tells old.session new.history.present new.head new.capacity command stop
     → LooksOn tells old new (line ∷ []) (IsOk {T = Unit {0}} {E = Stop} (Err (stops.Device stop)))
     → (tells → IsServedImage new.history.present) → (tells → (entry : State) → Stood old entry → Halts old new entry command stop)
-    → Handled tells old new no_line (Err (stops.Device stop)) (line ∷ []) written written
+    → Handled tells ⊥ old new no_line (Err (stops.Device stop)) (line ∷ []) written written
 Handled-stop tells old new line command stop written spells later drew extends added may looks served halts = record {
   put = [];
   got = Got-nothing written;
@@ -639,12 +641,12 @@ Handled-stop tells old new line command stop written spells later drew extends a
 -- ---- how many replies there are
 
 pub count-then : (tells : Type 0) (old mid new : World) (last : DeviceStop → List ℕ) (ending : Ending) (lines more : List (List ℕ)) (a b c : Option (List ℕ))
-    → (p : Handled tells old mid last (Ok tt) lines a b) (q : Handled tells mid new last ending more b c)
+    → (p : Handled tells ⊥ old mid last (Ok tt) lines a b) (q : Handled tells ⊥ mid new last ending more b c)
     → length p.replied.replies + length q.replied.replies ≤ length (Handled-then tells old mid new last ending lines more a b c p q).replied.replies
 unfolding Handled-then Replied-then
 count-then tells old mid new last ending lines more a b c p q = omega (arith, length-append p.replied.replies q.replied.replies)
 
-pub count-cut : (tells : Type 0) (old new : World) (last : DeviceStop → List ℕ) (lines : List (List ℕ)) (a b : Option (List ℕ)) (p : Handled tells old new last (Ok tt) lines a b)
+pub count-cut : (tells : Type 0) (old new : World) (last : DeviceStop → List ℕ) (lines : List (List ℕ)) (a b : Option (List ℕ)) (p : Handled tells ⊥ old new last (Ok tt) lines a b)
     → (length p.replied.replies ≤ length (Handled-cut tells old new last lines a b p).0.replied.replies) × (length p.replied.replies ≤ length (Handled-cut tells old new last lines a b p).1.replied.replies)
 unfolding Handled-cut Replied-cut stopped
 count-cut tells old new last lines a b p = (omega arith, omega arith)

@@ -24,7 +24,7 @@ use Rattle.platform.specs.Runs.{Passes}
 use Rattle.device_cli.specs.Replied.{HasMark, AreMany, IsEndingAt, IsAhead, EndsIn, Answered}
 use Rattle.line_run.specs.Stops.{Ending, exit_of}
 use Rattle.line_run.specs.Puts.{IsBehind, IsFirstPart, damage_line, AreLines, HaveCome}
-use Rattle.device_cli.specs.Causes.{Draws, PutsEntry, HasLacked, MeetsRecord, IsOf}
+use Rattle.device_cli.specs.Causes.{Draws, PutsEntry, HasCalled, HasLacked, MeetsRecord, IsOf}
 use Rattle.device_cli.specs.Drawing.{DrewUntil}
 use Rattle.device_cli.specs.Added.{left_by, HasAdded, IsNear}
 use Rattle.device_cli.specs.Pages.{needed_for, updates_after, updates_of, upgrade_of, most_upgrade, TurnOn, AnswersOn, AreFew, IfNext}
@@ -119,57 +119,70 @@ bad_root (Err (stops.Device device.Ledger)) part h e = absurd (omega (arith, e))
 bad_root (Err (stops.Device device.BadRoot)) part h e = h
 bad_root (Err (stops.Device (device.BadRecord addr))) part h e = absurd (omega (arith, e))
 
-bad_record : (tells : Type 0) (now : World) (ending : Ending) (part : List ℕ) (replies : List Reply) (lines : List (List ℕ)) → IsBehind line_of damage_line part ending → IsEndingAt tells now replies lines ending
+bad_record : (tells Before : Type 0) (now : World) (ending : Ending) (part : List ℕ) (replies : List Reply) (lines : List (List ℕ)) → IsBehind line_of damage_line part ending → IsEndingAt tells Before now replies lines ending
     → exit_of ending ≡ 9 → (addr : ℕ) × (part ≡ damage_line (device.BadRecord addr)) × IfNext replies lines (IsOf (λ command. MeetsRecord tells now.history.present command addr))
-bad_record tells now (Ok done) part replies lines h d e = absurd (omega (arith, e))
-bad_record tells now (Err stops.Source) part replies lines h d e = absurd (omega (arith, e))
-bad_record tells now (Err stops.Sink) part replies lines h d e = absurd (omega (arith, e))
-bad_record tells now (Err stops.Limit) part replies lines h d e = absurd (omega (arith, e))
-bad_record tells now (Err (stops.Device device.Platform)) part replies lines h d e = absurd (omega (arith, e))
-bad_record tells now (Err (stops.Device device.Tape)) part replies lines h d e = absurd (omega (arith, e))
-bad_record tells now (Err (stops.Device device.Memory)) part replies lines h d e = absurd (omega (arith, e))
-bad_record tells now (Err (stops.Device device.Ledger)) part replies lines h d e = absurd (omega (arith, e))
-bad_record tells now (Err (stops.Device device.BadRoot)) part replies lines h d e = absurd (omega (arith, e))
-bad_record tells now (Err (stops.Device (device.BadRecord addr))) part replies lines h d e = (addr, h, d)
+bad_record tells Before now (Ok done) part replies lines h d e = absurd (omega (arith, e))
+bad_record tells Before now (Err stops.Source) part replies lines h d e = absurd (omega (arith, e))
+bad_record tells Before now (Err stops.Sink) part replies lines h d e = absurd (omega (arith, e))
+bad_record tells Before now (Err stops.Limit) part replies lines h d e = absurd (omega (arith, e))
+bad_record tells Before now (Err (stops.Device device.Platform)) part replies lines h d e = absurd (omega (arith, e))
+bad_record tells Before now (Err (stops.Device device.Tape)) part replies lines h d e = absurd (omega (arith, e))
+bad_record tells Before now (Err (stops.Device device.Memory)) part replies lines h d e = absurd (omega (arith, e))
+bad_record tells Before now (Err (stops.Device device.Ledger)) part replies lines h d e = absurd (omega (arith, e))
+bad_record tells Before now (Err (stops.Device device.BadRoot)) part replies lines h d e = absurd (omega (arith, e))
+bad_record tells Before now (Err (stops.Device (device.BadRecord addr))) part replies lines h d e = (addr, h, d)
 
-no_key : (tells : Type 0) (now : World) (ending : Ending) (replies : List Reply) (lines : List (List ℕ)) → IsEndingAt tells now replies lines ending
+no_platform : (tells Before : Type 0) (now : World) (ending : Ending) (replies : List Reply) (lines : List (List ℕ)) → IsEndingAt tells Before now replies lines ending
+    → exit_of ending ≡ 5 → Before ⊎ IfNext replies lines (IsOf (HasCalled tells now.history.present))
+no_platform tells Before now (Ok done) replies lines d e = absurd (omega (arith, e))
+no_platform tells Before now (Err stops.Source) replies lines d e = absurd (omega (arith, e))
+no_platform tells Before now (Err stops.Sink) replies lines d e = absurd (omega (arith, e))
+no_platform tells Before now (Err stops.Limit) replies lines d e = absurd (omega (arith, e))
+no_platform tells Before now (Err (stops.Device device.Platform)) replies lines d e = d
+no_platform tells Before now (Err (stops.Device device.Tape)) replies lines d e = absurd (omega (arith, e))
+no_platform tells Before now (Err (stops.Device device.Memory)) replies lines d e = absurd (omega (arith, e))
+no_platform tells Before now (Err (stops.Device device.Ledger)) replies lines d e = absurd (omega (arith, e))
+no_platform tells Before now (Err (stops.Device device.BadRoot)) replies lines d e = absurd (omega (arith, e))
+no_platform tells Before now (Err (stops.Device (device.BadRecord addr))) replies lines d e = absurd (omega (arith, e))
+
+no_key : (tells Before : Type 0) (now : World) (ending : Ending) (replies : List Reply) (lines : List (List ℕ)) → IsEndingAt tells Before now replies lines ending
     → exit_of ending ≡ 6 → IfNext replies lines (IsOf Draws)
-no_key tells now (Ok done) replies lines d e = absurd (omega (arith, e))
-no_key tells now (Err stops.Source) replies lines d e = absurd (omega (arith, e))
-no_key tells now (Err stops.Sink) replies lines d e = absurd (omega (arith, e))
-no_key tells now (Err stops.Limit) replies lines d e = absurd (omega (arith, e))
-no_key tells now (Err (stops.Device device.Platform)) replies lines d e = absurd (omega (arith, e))
-no_key tells now (Err (stops.Device device.Tape)) replies lines d e = d
-no_key tells now (Err (stops.Device device.Memory)) replies lines d e = absurd (omega (arith, e))
-no_key tells now (Err (stops.Device device.Ledger)) replies lines d e = absurd (omega (arith, e))
-no_key tells now (Err (stops.Device device.BadRoot)) replies lines d e = absurd (omega (arith, e))
-no_key tells now (Err (stops.Device (device.BadRecord addr))) replies lines d e = absurd (omega (arith, e))
+no_key tells Before now (Ok done) replies lines d e = absurd (omega (arith, e))
+no_key tells Before now (Err stops.Source) replies lines d e = absurd (omega (arith, e))
+no_key tells Before now (Err stops.Sink) replies lines d e = absurd (omega (arith, e))
+no_key tells Before now (Err stops.Limit) replies lines d e = absurd (omega (arith, e))
+no_key tells Before now (Err (stops.Device device.Platform)) replies lines d e = absurd (omega (arith, e))
+no_key tells Before now (Err (stops.Device device.Tape)) replies lines d e = d
+no_key tells Before now (Err (stops.Device device.Memory)) replies lines d e = absurd (omega (arith, e))
+no_key tells Before now (Err (stops.Device device.Ledger)) replies lines d e = absurd (omega (arith, e))
+no_key tells Before now (Err (stops.Device device.BadRoot)) replies lines d e = absurd (omega (arith, e))
+no_key tells Before now (Err (stops.Device (device.BadRecord addr))) replies lines d e = absurd (omega (arith, e))
 
-no_entry : (tells : Type 0) (now : World) (ending : Ending) (replies : List Reply) (lines : List (List ℕ)) → IsEndingAt tells now replies lines ending
+no_entry : (tells Before : Type 0) (now : World) (ending : Ending) (replies : List Reply) (lines : List (List ℕ)) → IsEndingAt tells Before now replies lines ending
     → exit_of ending ≡ 7 → IfNext replies lines (IsOf PutsEntry)
-no_entry tells now (Ok done) replies lines d e = absurd (omega (arith, e))
-no_entry tells now (Err stops.Source) replies lines d e = absurd (omega (arith, e))
-no_entry tells now (Err stops.Sink) replies lines d e = absurd (omega (arith, e))
-no_entry tells now (Err stops.Limit) replies lines d e = absurd (omega (arith, e))
-no_entry tells now (Err (stops.Device device.Platform)) replies lines d e = absurd (omega (arith, e))
-no_entry tells now (Err (stops.Device device.Tape)) replies lines d e = absurd (omega (arith, e))
-no_entry tells now (Err (stops.Device device.Memory)) replies lines d e = absurd (omega (arith, e))
-no_entry tells now (Err (stops.Device device.Ledger)) replies lines d e = d
-no_entry tells now (Err (stops.Device device.BadRoot)) replies lines d e = absurd (omega (arith, e))
-no_entry tells now (Err (stops.Device (device.BadRecord addr))) replies lines d e = absurd (omega (arith, e))
+no_entry tells Before now (Ok done) replies lines d e = absurd (omega (arith, e))
+no_entry tells Before now (Err stops.Source) replies lines d e = absurd (omega (arith, e))
+no_entry tells Before now (Err stops.Sink) replies lines d e = absurd (omega (arith, e))
+no_entry tells Before now (Err stops.Limit) replies lines d e = absurd (omega (arith, e))
+no_entry tells Before now (Err (stops.Device device.Platform)) replies lines d e = absurd (omega (arith, e))
+no_entry tells Before now (Err (stops.Device device.Tape)) replies lines d e = absurd (omega (arith, e))
+no_entry tells Before now (Err (stops.Device device.Memory)) replies lines d e = absurd (omega (arith, e))
+no_entry tells Before now (Err (stops.Device device.Ledger)) replies lines d e = d
+no_entry tells Before now (Err (stops.Device device.BadRoot)) replies lines d e = absurd (omega (arith, e))
+no_entry tells Before now (Err (stops.Device (device.BadRecord addr))) replies lines d e = absurd (omega (arith, e))
 
-no_memory : (tells : Type 0) (now : World) (ending : Ending) (replies : List Reply) (lines : List (List ℕ)) → IsEndingAt tells now replies lines ending
+no_memory : (tells Before : Type 0) (now : World) (ending : Ending) (replies : List Reply) (lines : List (List ℕ)) → IsEndingAt tells Before now replies lines ending
     → exit_of ending ≡ 11 → IfNext replies lines (IsOf (HasLacked tells now.history.present now.head now.capacity))
-no_memory tells now (Ok done) replies lines d e = absurd (omega (arith, e))
-no_memory tells now (Err stops.Source) replies lines d e = absurd (omega (arith, e))
-no_memory tells now (Err stops.Sink) replies lines d e = absurd (omega (arith, e))
-no_memory tells now (Err stops.Limit) replies lines d e = absurd (omega (arith, e))
-no_memory tells now (Err (stops.Device device.Platform)) replies lines d e = absurd (omega (arith, e))
-no_memory tells now (Err (stops.Device device.Tape)) replies lines d e = absurd (omega (arith, e))
-no_memory tells now (Err (stops.Device device.Memory)) replies lines d e = d
-no_memory tells now (Err (stops.Device device.Ledger)) replies lines d e = absurd (omega (arith, e))
-no_memory tells now (Err (stops.Device device.BadRoot)) replies lines d e = absurd (omega (arith, e))
-no_memory tells now (Err (stops.Device (device.BadRecord addr))) replies lines d e = absurd (omega (arith, e))
+no_memory tells Before now (Ok done) replies lines d e = absurd (omega (arith, e))
+no_memory tells Before now (Err stops.Source) replies lines d e = absurd (omega (arith, e))
+no_memory tells Before now (Err stops.Sink) replies lines d e = absurd (omega (arith, e))
+no_memory tells Before now (Err stops.Limit) replies lines d e = absurd (omega (arith, e))
+no_memory tells Before now (Err (stops.Device device.Platform)) replies lines d e = absurd (omega (arith, e))
+no_memory tells Before now (Err (stops.Device device.Tape)) replies lines d e = absurd (omega (arith, e))
+no_memory tells Before now (Err (stops.Device device.Memory)) replies lines d e = d
+no_memory tells Before now (Err (stops.Device device.Ledger)) replies lines d e = absurd (omega (arith, e))
+no_memory tells Before now (Err (stops.Device device.BadRoot)) replies lines d e = absurd (omega (arith, e))
+no_memory tells Before now (Err (stops.Device (device.BadRecord addr))) replies lines d e = absurd (omega (arith, e))
 
 cut : (ending : Ending) (part : List ℕ) → IsBehind line_of damage_line part ending → exit_of ending ≡ 4
     → ((reply : Reply) × IsFirstPart (line_of reply) part) ⊎ ((stop : DeviceStop) × IsFirstPart (damage_line stop) part)
@@ -477,10 +490,10 @@ enough_alone : (held : Option Session) → held ≡ None → AreEnough held 0
 enough_alone held alone = subst (λ (session : Option Session). AreEnough session 0) (sym alone) (omega arith)
 
 -- a run answers the script, whatever session it ends with
-pub answers_script : (tells : Type 0) (old : World) (drawn drawn_now : Option (List (List ℕ))) (session : Option Session) (history : History) (head capacity reads : ℕ) (ending : Ending) (left left_now written written_now : Option (List ℕ))
-    → old.session ≡ None → Ran tells (drew_by drawn old) (drew_by drawn_now (world session history head capacity reads)) damage_line ending left left_now written written_now
+pub answers_script : (tells Before : Type 0) (old : World) (drawn drawn_now : Option (List (List ℕ))) (session : Option Session) (history : History) (head capacity reads : ℕ) (ending : Ending) (left left_now written written_now : Option (List ℕ))
+    → old.session ≡ None → Ran tells Before (drew_by drawn old) (drew_by drawn_now (world session history head capacity reads)) damage_line ending left left_now written written_now
     → AnswersScript tells old (world None history head capacity reads) (exit_of ending) left left_now written written_now
-answers_script tells old drawn drawn_now session history head capacity reads ending left left_now written written_now alone r = let p = r.handled.replied in record {
+answers_script tells Before old drawn drawn_now session history head capacity reads ending left left_now written written_now alone r = let p = r.handled.replied in record {
   taken = r.taken;
   gave = r.gave;
   lines = r.lines;
@@ -494,10 +507,10 @@ answers_script tells old drawn drawn_now session history head capacity reads end
   whole = whole ending (length p.replies) (length r.lines) r.taken left_now r.lines p.many r.come;
   no_part = no_part ending p.part p.behind;
   bad_root = bad_root ending p.part p.behind;
-  bad_record = bad_record tells (drew_by drawn_now (world session history head capacity reads)) ending p.part p.replies r.lines p.behind p.stopped;
-  no_key = no_key tells (drew_by drawn_now (world session history head capacity reads)) ending p.replies r.lines p.stopped;
-  no_entry = no_entry tells (drew_by drawn_now (world session history head capacity reads)) ending p.replies r.lines p.stopped;
-  no_memory = no_memory tells (drew_by drawn_now (world session history head capacity reads)) ending p.replies r.lines p.stopped;
+  bad_record = bad_record tells Before (drew_by drawn_now (world session history head capacity reads)) ending p.part p.replies r.lines p.behind p.stopped;
+  no_key = no_key tells Before (drew_by drawn_now (world session history head capacity reads)) ending p.replies r.lines p.stopped;
+  no_entry = no_entry tells Before (drew_by drawn_now (world session history head capacity reads)) ending p.replies r.lines p.stopped;
+  no_memory = no_memory tells Before (drew_by drawn_now (world session history head capacity reads)) ending p.replies r.lines p.stopped;
   cut = cut ending p.part p.behind;
   full = p.full 0 (enough_alone old.session alone);
   so = λ told. (p.so told).1;
@@ -508,20 +521,21 @@ answers_script tells old drawn drawn_now session history head capacity reads end
       (p.answered told (closed there) 0 (record { there = alone_on old there alone stands; served = served }) (enough_alone old.session alone)));
 }
 
--- and with its replies, and the keys that its lines drew
-pub answers_with : (tells : Type 0) (old : World) (drawn drawn_now : Option (List (List ℕ))) (session : Option Session) (history : History) (head capacity reads : ℕ) (ending : Ending) (left left_now written written_now : Option (List ℕ))
-    → old.session ≡ None → (r : Ran tells (drew_by drawn old) (drew_by drawn_now (world session history head capacity reads)) damage_line ending left left_now written written_now)
+-- and with its replies, the keys that its lines drew, and where the platform failed
+pub answers_with : (tells Before : Type 0) (old : World) (drawn drawn_now : Option (List (List ℕ))) (session : Option Session) (history : History) (head capacity reads : ℕ) (ending : Ending) (left left_now written written_now : Option (List ℕ))
+    → old.session ≡ None → (r : Ran tells Before (drew_by drawn old) (drew_by drawn_now (world session history head capacity reads)) damage_line ending left left_now written written_now)
     → (script : AnswersScript tells old (world None history head capacity reads) (exit_of ending) left left_now written written_now) × (script.replies ≡ r.handled.replied.replies) × DrewUntil drawn script.lines script.replies drawn_now
+    × (exit_of ending ≡ 5 → Before ⊎ IfNext script.replies script.lines (IsOf (HasCalled tells history.present)))
 unfolding answers_script
-answers_with tells old drawn drawn_now session history head capacity reads ending left left_now written written_now alone r =
-    (answers_script tells old drawn drawn_now session history head capacity reads ending left left_now written written_now alone r, refl, r.handled.replied.drew)
+answers_with tells Before old drawn drawn_now session history head capacity reads ending left left_now written written_now alone r =
+    (answers_script tells Before old drawn drawn_now session history head capacity reads ending left left_now written written_now alone r, refl, r.handled.replied.drew, no_platform tells Before (drew_by drawn_now (world session history head capacity reads)) ending r.handled.replied.replies r.lines r.handled.replied.stopped)
 
 -- which devices a run made, whatever session it ends with
-pub made_by : (tells : Type 0) (old : World) (drawn drawn_now : Option (List (List ℕ))) (session : Option Session) (history : History) (head capacity reads : ℕ) (ending : Ending) (left left_now written written_now : Option (List ℕ))
-    → old.session ≡ None → Ran tells (drew_by drawn old) (drew_by drawn_now (world session history head capacity reads)) damage_line ending left left_now written written_now
+pub made_by : (tells Before : Type 0) (old : World) (drawn drawn_now : Option (List (List ℕ))) (session : Option Session) (history : History) (head capacity reads : ℕ) (ending : Ending) (left left_now written written_now : Option (List ℕ))
+    → old.session ≡ None → Ran tells Before (drew_by drawn old) (drew_by drawn_now (world session history head capacity reads)) damage_line ending left left_now written written_now
     → tells → (there : Option Device) → StandsFor old.history.present there → IsServedImage old.history.present
     → (marks : List (Option Device)) × Made old.history history None (closed there) marks (closed (last_mark there marks))
-made_by tells old drawn drawn_now session history head capacity reads ending left left_now written written_now alone r told there stands served =
+made_by tells Before old drawn drawn_now session history head capacity reads ending left left_now written written_now alone r told there stands served =
     let f = r.handled.replied.answered told (closed there) 0 (record { there = alone_on old there alone stands; served = served }) (enough_alone old.session alone) in
     (f.marks, f.made)
 

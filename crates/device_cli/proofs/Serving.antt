@@ -9,9 +9,9 @@ use Rattle.device_cli.specs.World.{World}
 use Rattle.device_cli.proofs.RepliedLaws.{Handled-nothing, Handled-then, Handled-longer, Handled-cut, count-cut, count-then}
 
 abbrev pub HandledBy : Type 0 → World → World → Ending → List (List ℕ) → Option (List ℕ) → Option (List ℕ) → Type 0
-HandledBy tells old new ending lines written written_now = Handled tells old new no_line ending lines written written_now
+HandledBy tells old new ending lines written written_now = Handled tells ⊥ old new no_line ending lines written written_now
 
-pub replying : (tells : Type 0) → Replying World (λ w. w.head ≤ w.capacity) (HandledBy tells) (replies_in tells no_line)
+pub replying : (tells : Type 0) → Replying World (λ w. w.head ≤ w.capacity) (HandledBy tells) (replies_in tells ⊥ no_line)
 replying tells = record {
   handling = record {
     nothing = λ w written fits. Handled-nothing tells w no_line written fits;

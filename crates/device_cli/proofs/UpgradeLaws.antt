@@ -11,7 +11,7 @@ use Rattle.platform.specs.Image.{Image}
 use Rattle.root_codec.specs.declared.root.Root.{Root}
 use Rattle.root_codec.specs.RootRecord.{FitsRoot, root_bytes}
 use Rattle.root_codec.specs.Laws.{one_root}
-use Rattle.seizure.proofs.AscendLaws.{mapped_len}
+use Rattle.page_store.proofs.AscendLaws.{mapped_len}
 use Rattle.sdbt_base.specs.Arrays.{Blocks, Device, Session as OpenSession, State, padded}
 use Rattle.tree_build.specs.Shape.{built_from, built}
 use Rattle.device_core.specs.Upgrading.{IsOn, order_above, needed_of_device, needed_of_root, pages_over}

@@ -23,7 +23,8 @@ use Rattle.device_terms.specs.Served.{IsServedImage}
 use Rattle.device_cli.specs.World.{World, drew_by, world}
 use Rattle.device_cli.specs.Represents.{StandsFor}
 use Rattle.device_cli.specs.Ran.{Ran, AnswersScript, IsAmple}
-use Rattle.device_cli.specs.Pages.{upgrade_lines}
+use Rattle.device_cli.specs.Causes.{HasCalled, IsOf}
+use Rattle.device_cli.specs.Pages.{IfNext, upgrade_lines}
 use Rattle.device_cli.specs.Seen.{mapped_of}
 use Rattle.line_run.specs.Stops.{Ending, exit_of, HasCause, status_of}
 use Rattle.line_run.specs.Puts.{HasPut, damage_line}
@@ -37,6 +38,7 @@ use Rattle.line_run.specs.declared.stop.Stop.TheVariants as stops
 use Rattle.device_cli.proofs.CompleteLaws.{complete_with}
 use Rattle.device_cli.proofs.TurnLaws.{spelled}
 use Rattle.device_cli.proofs.EndLaws.{ended_run}
+use Rattle.device_cli.proofs.RanLaws.{Ran-before}
 use Rattle.device_cli.proofs.ScriptLaws.{answers_with}
 use Rattle.device_session.specs.Sessions.{Session}
 
@@ -50,10 +52,19 @@ summary_parts seed count accepted declined replies are all =
     ap (λ (n : ℕ). heading seed count n declined ++ flat_map line_of (drop (count + 3) replies)) served
     ∙ ap (λ (n : ℕ). heading seed count (length replies - refused replies) n ++ flat_map line_of (drop (count + 3) replies)) are
 
+-- the run of a script in memory, of which all is left where the platform failed before its first line
+pub work_ran : (tells : Type 0) (seed count : ℕ) (old new : World) (serving : Ending) (text left was told : List ℕ) → text ≡ script_of seed count → was ≡ []
+    → Ran tells (left ≡ text) old new damage_line serving (Some text) (Some left) (Some was) (Some told)
+    → Ran tells (Some left ≡ Some (script_of seed count)) old new damage_line serving (Some (script_of seed count)) (Some left) (Some []) (Some told)
+work_ran tells seed count old new serving text left was told is none r =
+    subst (λ (t : List ℕ). Ran tells (Some left ≡ Some t) old new damage_line serving (Some t) (Some left) (Some []) (Some told)) is
+    (subst (λ (w : List ℕ). Ran tells (Some left ≡ Some text) old new damage_line serving (Some text) (Some left) (Some w) (Some told)) none
+    (Ran-before tells (left ≡ text) (Some left ≡ Some text) old new damage_line serving (Some text) (Some left) (Some was) (Some told) (λ e. ap Some e) r))
+
 -- what an own output in memory got of a run over all lines are the lines of its replies
-pub told_replies : (tells : Type 0) (old new : World) (left : Option (List ℕ)) (told text : List ℕ) → (r : Ran tells old new damage_line (Ok tt) (Some text) left (Some []) (Some told))
+pub told_replies : (tells Before : Type 0) (old new : World) (left : Option (List ℕ)) (told text : List ℕ) → (r : Ran tells Before old new damage_line (Ok tt) (Some text) left (Some []) (Some told))
     → told ≡ flat_map line_of r.handled.replied.replies
-told_replies tells old new left told text r =
+told_replies tells Before old new left told text r =
     let p = r.handled.replied in
     let e : Some told ≡ Some ([] ++ r.handled.put) = r.handled.got in
     let f : told ≡ r.handled.put = cc in
@@ -77,7 +88,7 @@ ended_work tells old new Going seed count was drawn drawn_now session reads writ
       made = λ told device stands served. ([], subst (λ (h : History). Made old.history h None (closed device) [] (closed device)) (sym same) (made_start old.history None (closed device) (shut old.history.present device stands served)));
     }
 ended_work tells old new Going seed count was drawn drawn_now session reads written written_now ending alone history head capacity room (inr w) keeps =
-    ended_run tells old new Going was drawn drawn_now session reads w.serving (Some (script_of seed count)) w.left (Some []) w.told alone history head capacity w.ran keeps
+    ended_run tells _ old new Going was drawn drawn_now session reads w.serving (Some (script_of seed count)) w.left (Some []) w.told alone history head capacity w.ran keeps
 
 -- ---- no line of a script spells `upgrade`
 
@@ -180,10 +191,11 @@ pub serves_work : {S R I O L : Type 0} (tells : Type 0) (seed count : ℕ) (old 
 serves_work tells seed count old new session ending alone then_alone untold w =
     let text : Option (List ℕ) = Some (script_of seed count) in
     let now = new.world in
-    let script = answers_with tells old.world old.drawn new.drawn session now.history now.head now.capacity now.reads w.serving text w.left (Some []) w.told alone w.ran in
+    let script = answers_with tells (w.left ≡ text) old.world old.drawn new.drawn session now.history now.head now.capacity now.reads w.serving text w.left (Some []) w.told alone w.ran in
     let same : world None now.history now.head now.capacity now.reads ≡ now =
     ap (λ (d : Option (List (List ℕ))). record now { session = None; drawn = d }) (sym untold) ∙ ap (λ (s : Option Session). record now { session = s }) (sym then_alone) in
-    let Answered : World → Type 0 = λ there. (s : AnswersScript tells old.world there (exit_of w.serving) text w.left (Some []) w.told) × (s.replies ≡ w.ran.handled.replied.replies) × DrewUntil old.drawn s.lines s.replies new.drawn in
+    let Answered : World → Type 0 = λ there. (s : AnswersScript tells old.world there (exit_of w.serving) text w.left (Some []) w.told) × (s.replies ≡ w.ran.handled.replied.replies) × DrewUntil old.drawn s.lines s.replies new.drawn
+    × (exit_of w.serving ≡ 5 → (w.left ≡ text) ⊎ IfNext s.replies s.lines (IsOf (HasCalled tells there.history.present))) in
     let here : Answered now = subst Answered same script in
     record {
       serving = w.serving;
@@ -191,6 +203,7 @@ serves_work tells seed count old new session ending alone then_alone untold w =
       told = w.told;
       serves = here.0;
       drew = here.2;
+      no_platform = here.3;
       says = subst (λ (replies : List Reply). Says seed count replies w.serving old.written new.written ending) (sym here.1) w.says;
     }
 

@@ -39,12 +39,6 @@ PutsEntry commands.Commit = Unit {0}
 PutsEntry commands.Upgrade = Unit {0}
 PutsEntry _ = ⊥
 
--- it calls the platform
-abbrev pub CallsPlatform : Command → Type 0
-CallsPlatform commands.Drop = ⊥
-CallsPlatform commands.Stat = ⊥
-CallsPlatform _ = Unit {0}
-
 -- it looks at the root record in the cell before it does anything with it
 abbrev pub JudgesRoot : Command → Type 0
 JudgesRoot commands.Mount = Unit {0}
@@ -70,6 +64,19 @@ OnHeld (Some session) P = P session
 abbrev pub OnMounted : Type 0 → Image → Option Session → (Session → Type 0) → Type 0
 OnMounted tells image held P = OnHeld held (λ session. (tells → image.cell ≡ Some (root_bytes (root_of session))) × P session)
 
+-- the command calls the platform: none of its refusals by the session, or by the number of a block, comes before that. A mount and an upgrade have no session; a block is one of the device's; a commit is of
+-- changes; and `drop` and `stat` call nothing
+abbrev pub CallsPlatform : Type 0 → Option Session → Image → Command → Type 0
+CallsPlatform tells held image commands.Mount = held ≡ None
+CallsPlatform tells held image (commands.Read block) = OnMounted tells image held (λ session. block < blocks_of session)
+CallsPlatform tells held image (commands.Write block content) = OnMounted tells image held (λ session. block < blocks_of session)
+CallsPlatform tells held image (commands.Trim block) = OnMounted tells image held (λ session. block < blocks_of session)
+CallsPlatform tells held image commands.Commit = OnHeld held (λ session. is_touched session ≡ true)
+CallsPlatform tells held image commands.Drop = ⊥
+CallsPlatform tells held image commands.Upgrade = held ≡ None
+CallsPlatform tells held image commands.Stat = ⊥
+CallsPlatform tells held image _ = Unit {0}
+
 -- memory may lack at the command: none of its refusals comes before that. The numbers of a format are those of a device, and the cell is empty; a mount has no session, and the root record in the cell can be
 -- served; an update is of a block of the device; a commit is of changes; an upgrade has no session, and the root record in the cell is of version 1, with as many pages free as it needs; the cell can be
 -- seized; and where a page is wanted, one is free. No other command takes memory
@@ -85,7 +92,7 @@ LacksMemory tells held image head capacity _ = ⊥
 
 -- the device may stop so at the command, behind which there is this image, with so many pages of so many
 abbrev pub MayStop : Type 0 → Option Session → Image → ℕ → ℕ → Command → DeviceStop → Type 0
-MayStop tells held image head capacity command device.Platform = CallsPlatform command
+MayStop tells held image head capacity command device.Platform = CallsPlatform tells held image command
 MayStop tells held image head capacity command device.Tape = Draws command
 MayStop tells held image head capacity command device.Ledger = PutsEntry command
 MayStop tells held image head capacity command device.Memory = LacksMemory tells held image head capacity command
@@ -191,6 +198,10 @@ AnswersAny tells old now command (Err stop) = MayStop tells old.session now.hist
 -- the line is such a command's
 abbrev pub IsOf : (Command → Type 0) → List ℕ → Type 0
 IsOf P line = (command : Command) × Spells line command × P command
+
+-- such a command called the platform, with some session or none
+abbrev pub HasCalled : Type 0 → Image → Command → Type 0
+HasCalled tells image command = (held : Option Session) × CallsPlatform tells held image command
 
 -- memory lacked at such a command, with some session or none
 abbrev pub HasLacked : Type 0 → Image → ℕ → ℕ → Command → Type 0

@@ -4,7 +4,7 @@ use Rattle.sdbt_base.specs.Arrays.{Device, closed}
 use Rattle.sdbt_base.specs.Told.{Gave, Got}
 use Rattle.platform.specs.History.{History}
 use Rattle.device_terms.specs.Served.{IsServedImage}
-use Rattle.device_cli.specs.Causes.{HasLacked, IsOf}
+use Rattle.device_cli.specs.Causes.{HasCalled, HasLacked, IsOf}
 use Rattle.device_cli.specs.Drawing.{DrewUntil}
 use Rattle.device_cli.specs.Given.{HasBadRecord}
 use Rattle.device_cli.specs.Handed.{Handed}
@@ -53,6 +53,8 @@ pub record ServesScript {S R I O L : Type 0} (tells : Type 0) (status : ℕ) (ol
   pub answers : AnswersScript tells old.world new.world status old.left new.left old.written new.written
   -- no line draws a key but a `format`, `write`, `commit` or `upgrade` that is done, of which a write draws one; and perhaps one of these that was cut short
   pub drew : DrewUntil old.drawn answers.lines answers.replies new.drawn
+  -- the platform failed at a line that calls it, or at the look at the cell before the first one, and then nothing is taken
+  pub no_platform : status ≡ 5 → (new.input ≡ old.input) ⊎ IfNext answers.replies answers.lines (IsOf (HasCalled tells new.world.history.present))
   pub complete : tells → (there : Option Device) → StandsFor old.world.history.present there → IsServedImage old.world.history.present
       → (text : List ℕ) → IsAmple old.left text (mapped_of there) old.world.head old.world.capacity → NoneRose old.counts new.counts
       → ((status ≡ 11) × IfNext answers.replies answers.lines (IsOf (HasLacked tells new.world.history.present new.world.head new.world.capacity))) ⊎ ((status ≡ 0) × IsComplete (closed there) text old.written new.written)

@@ -26,12 +26,12 @@ use Rattle.session_calls.specs.declared.stops.DeviceStop.{DeviceStop}
 use Rattle.session_calls.specs.declared.stops.DeviceStop.TheVariants as device
 
 -- how many replies that speaks of
-abbrev pub replies_in : (tells : Type 0) (last : DeviceStop → List ℕ) (old new : World) (ending : Ending) (lines : List (List ℕ)) (a b : Option (List ℕ)) → Handled tells old new last ending lines a b → ℕ
-replies_in tells last old new ending lines a b handled = length handled.replied.replies
+abbrev pub replies_in : (tells Before : Type 0) (last : DeviceStop → List ℕ) (old new : World) (ending : Ending) (lines : List (List ℕ)) (a b : Option (List ℕ)) → Handled tells Before old new last ending lines a b → ℕ
+replies_in tells Before last old new ending lines a b handled = length handled.replied.replies
 
--- a run that took its lines from an input and put its replies to an output
-abbrev pub Ran : Type 0 → World → World → (DeviceStop → List ℕ) → Ending → Option (List ℕ) → Option (List ℕ) → Option (List ℕ) → Option (List ℕ) → Type 0
-Ran tells old new last ending left left_now written written_now = lines.Ran (λ before now. Handled tells before now last) (replies_in tells last) old new ending left left_now written written_now
+-- a run that took its lines from an input and put its replies to an output. `Before` is what holds where the platform failed before the first line
+abbrev pub Ran : Type 0 → Type 0 → World → World → (DeviceStop → List ℕ) → Ending → Option (List ℕ) → Option (List ℕ) → Option (List ℕ) → Option (List ℕ) → Type 0
+Ran tells Before old new last ending left left_now written written_now = lines.Ran (λ before now. Handled tells Before before now last) (replies_in tells Before last) old new ending left left_now written written_now
 
 -- how many pages there are at most after these replies, from a state at entry with so many on
 abbrev pub most_pages : ℕ → State → List Reply → ℕ

@@ -1,5 +1,5 @@
 -- What a run that handled some lines put, and which replies belong to them.
-use Rattle.std.specs.Prelude.{◌≡◌, ℕ, ◌≤◌, List, [], ◌∷◌, ◌++◌, Option, None, Result, Ok, Err, OnOk, IsOk, length, flat_map}
+use Rattle.std.specs.Prelude.{◌≡◌, ◌⊎◌, ℕ, ◌≤◌, List, [], ◌∷◌, ◌++◌, Option, None, Result, Ok, Err, OnOk, IsOk, length, flat_map}
 use Rattle.platform.specs.Image.{Image}
 use Rattle.platform.specs.History.{During, Turns, moment}
 use Rattle.sdbt_base.specs.Told.{Got}
@@ -10,7 +10,7 @@ use Rattle.script_lang.specs.Answers.{IsMark, IsAnswer, answer, none_counted}
 use Rattle.script_lang.specs.Commands.{Command}
 use Rattle.line_run.specs.Puts.{IsBehind, IsFirstPart}
 use Rattle.line_run.specs.Stops.{Ending, IsSound}
-use Rattle.device_cli.specs.Causes.{Draws, PutsEntry, HasLacked, MeetsRecord, IsOf, SoOn}
+use Rattle.device_cli.specs.Causes.{Draws, PutsEntry, HasCalled, HasLacked, MeetsRecord, IsOf, SoOn}
 use Rattle.device_cli.specs.Drawing.{DrewUntil}
 use Rattle.device_cli.specs.Looks.{LooksOn}
 use Rattle.device_cli.specs.World.{World, is_full, AreEnough, IsLater}
@@ -32,18 +32,19 @@ AreMany replies lines (Err stops.Limit) = replies ≡ lines
 AreMany replies lines (Err (stops.Device stop)) = replies ≤ lines
 AreMany replies lines (Err stops.Sink) = replies ≤ lines
 
--- the device stopped a run at the line behind those that have replies, as the line's command may; or before the first line, where the platform failed or the root record can't be served
-abbrev pub IsStopAt : Type 0 → World → List Reply → List (List ℕ) → DeviceStop → Type 0
-IsStopAt tells now replies lines device.Platform = Unit {0}
-IsStopAt tells now replies lines device.BadRoot = Unit {0}
-IsStopAt tells now replies lines device.Tape = IfNext replies lines (IsOf Draws)
-IsStopAt tells now replies lines device.Ledger = IfNext replies lines (IsOf PutsEntry)
-IsStopAt tells now replies lines device.Memory = IfNext replies lines (IsOf (HasLacked tells now.history.present now.head now.capacity))
-IsStopAt tells now replies lines (device.BadRecord addr) = IfNext replies lines (IsOf (λ command. MeetsRecord tells now.history.present command addr))
+-- the device stopped a run at the line behind those that have replies, as the line's command may; or before the first line, where the root record can't be served, or the platform failed at the look at
+-- the cell, at which this holds
+abbrev pub IsStopAt : Type 0 → Type 0 → World → List Reply → List (List ℕ) → DeviceStop → Type 0
+IsStopAt tells Before now replies lines device.Platform = Before ⊎ IfNext replies lines (IsOf (HasCalled tells now.history.present))
+IsStopAt tells Before now replies lines device.BadRoot = Unit {0}
+IsStopAt tells Before now replies lines device.Tape = IfNext replies lines (IsOf Draws)
+IsStopAt tells Before now replies lines device.Ledger = IfNext replies lines (IsOf PutsEntry)
+IsStopAt tells Before now replies lines device.Memory = IfNext replies lines (IsOf (HasLacked tells now.history.present now.head now.capacity))
+IsStopAt tells Before now replies lines (device.BadRecord addr) = IfNext replies lines (IsOf (λ command. MeetsRecord tells now.history.present command addr))
 
-abbrev pub IsEndingAt : Type 0 → World → List Reply → List (List ℕ) → Ending → Type 0
-IsEndingAt tells now replies lines (Err (stops.Device stop)) = IsStopAt tells now replies lines stop
-IsEndingAt tells now replies lines _ = Unit {0}
+abbrev pub IsEndingAt : Type 0 → Type 0 → World → List Reply → List (List ℕ) → Ending → Type 0
+IsEndingAt tells Before now replies lines (Err (stops.Device stop)) = IsStopAt tells Before now replies lines stop
+IsEndingAt tells Before now replies lines _ = Unit {0}
 
 -- how a run over a device that stands ends, after the replies that led to the state `now`: in that state, with so many
 -- pages; by a fault alone; or, where the output failed, with a first part of one more reply's line, for the device after it
@@ -102,14 +103,14 @@ pub record Answered (old new : World) (ending : Ending) (entry : State) (updates
   pub made : Made old.history new.history None entry marks (closed (last_mark entry.device marks))
 
 -- a run that handled these lines: what it put is the lines of its replies, and perhaps a part behind them. From each
--- state that the start stood for, after so many updates as are enough for its session, the replies are those of the array
-pub record Replied (tells : Type 0) (old new : World) (last : DeviceStop → List ℕ) (ending : Ending) (lines : List (List ℕ)) (put : List ℕ) : Type 0 where
+-- state that the start stood for, after so many updates as are enough for its session, the replies are those of the array. `Before` is what holds where the platform failed before the first line
+pub record Replied (tells Before : Type 0) (old new : World) (last : DeviceStop → List ℕ) (ending : Ending) (lines : List (List ℕ)) (put : List ℕ) : Type 0 where
   pub replies : List Reply
   pub part : List ℕ
   pub put_is : put ≡ flat_map line_of replies ++ part
   pub behind : IsBehind line_of last part ending
   pub many : AreMany (length replies) (length lines) ending
-  pub stopped : IsEndingAt tells new replies lines ending
+  pub stopped : IsEndingAt tells Before new replies lines ending
   pub drew : DrewUntil old.drawn lines replies new.drawn
   pub so : SoOn tells old.history new.history lines replies
   pub later : IsLater old new
@@ -119,10 +120,10 @@ pub record Replied (tells : Type 0) (old new : World) (last : DeviceStop → Lis
   pub answered : tells → (entry : State) (updates : ℕ) → Stood old entry → AreEnough old.session updates → Answered old new ending entry updates lines replies part
 
 -- the same of what an output has got
-pub record Handled (tells : Type 0) (old new : World) (last : DeviceStop → List ℕ) (ending : Ending) (lines : List (List ℕ)) (written written_now : Option (List ℕ)) : Type 0 where
+pub record Handled (tells Before : Type 0) (old new : World) (last : DeviceStop → List ℕ) (ending : Ending) (lines : List (List ℕ)) (written written_now : Option (List ℕ)) : Type 0 where
   pub put : List ℕ
   pub got : Got written put written_now
-  pub replied : Replied tells old new last ending lines put
+  pub replied : Replied tells Before old new last ending lines put
 
 -- what was answered to a command, where the bytes of a reply stand at the front of a buffer
 abbrev pub outcome : Result Given DeviceStop → List ℕ → Result Reply DeviceStop

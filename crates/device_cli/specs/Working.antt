@@ -7,7 +7,9 @@ use Rattle.workload.specs.Lines.{line_of}
 use Rattle.workload.specs.Scripts.{commands_of}
 use Rattle.workload.specs.Summaries.{summary}
 use Rattle.device_terms.specs.Served.{IsServedImage}
+use Rattle.device_cli.specs.Causes.{HasCalled, IsOf}
 use Rattle.device_cli.specs.Drawing.{DrewUntil}
+use Rattle.device_cli.specs.Pages.{IfNext}
 use Rattle.device_cli.specs.Ran.{Ran, AnswersScript, IsComplete}
 use Rattle.line_run.specs.Stops.{Ending, exit_of}
 use Rattle.line_run.specs.Puts.{HasPut, damage_line}
@@ -40,12 +42,12 @@ pub record IsIdle (old new : World) (written written_now : Option (List ℕ)) (e
   pub world : new ≡ old
   pub unput : written_now ≡ written
 
--- the script was served as a run serves it that puts its replies to an output of its own, in memory; and this was put of it
+-- the script was served as a run serves it that puts its replies to an output of its own, in memory; and this was put of it. Where the platform failed before its first line, all of it is left
 pub record Worked (tells : Type 0) (seed count : ℕ) (old new : World) (written written_now : Option (List ℕ)) (ending : Ending) : Type 0 where
   pub serving : Ending
   pub left : Option (List ℕ)
   pub told : Option (List ℕ)
-  pub ran : Ran tells old new damage_line serving (Some (script_of seed count)) left (Some []) told
+  pub ran : Ran tells (left ≡ Some (script_of seed count)) old new damage_line serving (Some (script_of seed count)) left (Some []) told
   pub says : Says seed count ran.handled.replied.replies serving written written_now ending
 
 -- the same by what the program says of a run
@@ -55,6 +57,8 @@ pub record ServesWork (tells : Type 0) (seed count : ℕ) (old new : World) (dra
   pub told : Option (List ℕ)
   pub serves : AnswersScript tells old new (exit_of serving) (Some (script_of seed count)) left (Some []) told
   pub drew : DrewUntil drawn serves.lines serves.replies drawn_now
+  -- the platform failed at a line that calls it, or before the first one
+  pub no_platform : exit_of serving ≡ 5 → (left ≡ Some (script_of seed count)) ⊎ IfNext serves.replies serves.lines (IsOf (HasCalled tells new.history.present))
   pub says : Says seed count serves.replies serving written written_now ending
 
 -- each line of the script had its reply, none that too few pages are free, and what came of these is put

@@ -1,5 +1,5 @@
 //! What a run keeps between lines, and the answer to each command.
-ghost use Rattle.std.specs.Prelude.{◌≡◌, ◌≢◌, ◌<◌, ◌≤◌, ◌⊎◌, ℕ, List, Option, true, false, IfOk, IfErr, None, Some, Ok, take};
+ghost use Rattle.std.specs.Prelude.{◌≡◌, ◌≢◌, ◌<◌, ◌≤◌, ◌⊎◌, ℕ, List, Option, true, false, IfOk, IfErr, None, Some, Ok, replicate, take};
 ghost use Rattle.sdbt_base.specs.Faults.{Tells};
 ghost use Rattle.script_lang.specs.Commands as commands;
 ghost use Rattle.script_lang.specs.Commands.{FitsBlock as FitsCommand, asked};
@@ -344,13 +344,16 @@ impl Desk {
         }
     }
 
-    /// Ends the session, if there is one, and leaves nothing in its buffers.
+    /// Ends the session, if there is one, and leaves nothing in its buffers, nor in those that each line uses.
     fn close(&mut self)
-        ensures { self.new.session ≡ None }
+        ensures session { self.new.session ≡ None }
+        ensures buffer { self.new.buffer ≡ replicate 4096 0 }
     {
         if let Some(mut session) = self.session.take() {
             session.wipe();
         }
+        self.buffer = [0; BLOCK];
+        self.writer = ReplyWriter::new();
     }
 
     fn stat<P: Platform>(&self, platform: &P) -> Result<Reply, DeviceStop>

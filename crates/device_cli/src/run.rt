@@ -53,7 +53,7 @@ pub(crate) fn run<P: Platform, T: Tape, I: Source, O: Sink, L: Sink>(
         (counts (P.faults platform.old) (T.faults tape.old) (I.faults input.old) (O.faults output.old) (L.faults ledger.old))
         (counts (P.faults platform.new) (T.faults tape.new) (I.faults input.new) (O.faults output.new) (L.faults ledger.new)) result }
     ensures ran { (session : Option Session)
-        × Ran P.tells (world_by P.Platform T.Tape None platform.old tape.old) (world_by P.Platform T.Tape session platform.new tape.new)
+        × Ran P.tells (input.new ≡ input.old) (world_by P.Platform T.Tape None platform.old tape.old) (world_by P.Platform T.Tape session platform.new tape.new)
         damage_line result (I.left input.old) (I.left input.new) (O.written output.old) (O.written output.new) }
 {
     match check_cell(platform) {
@@ -85,7 +85,7 @@ fn serve_input<P: Platform, T: Tape, I: Source, O: Sink, L: Sink>(
     ensures blame { IsBlamedOn
         (counts (P.faults platform.old) (T.faults tape.old) (I.faults input.old) (O.faults output.old) (L.faults ledger.old))
         (counts (P.faults platform.new) (T.faults tape.new) (I.faults input.new) (O.faults output.new) (L.faults ledger.new)) result }
-    ensures ran { Ran P.tells (world_by P.Platform T.Tape desk.old.session platform.old tape.old) (world_by P.Platform T.Tape desk.new.session platform.new tape.new)
+    ensures ran { Ran P.tells ⊥ (world_by P.Platform T.Tape desk.old.session platform.old tape.old) (world_by P.Platform T.Tape desk.new.session platform.new tape.new)
         no_line result (I.left input.old) (I.left input.new) (O.written output.old) (O.written output.new) }
 {
     let mut piece = [0; PIECE];
@@ -131,7 +131,7 @@ fn serve_piece<P: Platform, T: Tape, O: Sink, L: Sink>(
     ensures keeps { Keeps P.Platform T.Tape L.Sink desk.old desk.new platform.old platform.new tape.old tape.new ledger.old ledger.new result }
     ensures blame { Blames P.Platform T.Tape O.Sink L.Sink platform.old platform.new tape.old tape.new output.old output.new ledger.old ledger.new result }
     ensures pending { (rest : List ℕ) → IsUnfinished pending.old rest → OnOk result (IsUnfinished pending.new (rest_of (rest ++ piece.now))) }
-    ensures handled { (rest : List ℕ) → IsUnfinished pending.old rest → Handled P.tells (world_by P.Platform T.Tape desk.old.session platform.old tape.old)
+    ensures handled { (rest : List ℕ) → IsUnfinished pending.old rest → Handled P.tells ⊥ (world_by P.Platform T.Tape desk.old.session platform.old tape.old)
         (world_by P.Platform T.Tape desk.new.session platform.new tape.new)
         no_line result (whole_lines_of (rest ++ piece.now)) (O.written output.old) (O.written output.new) }
 {
@@ -161,7 +161,7 @@ fn serve_end<P: Platform, T: Tape, O: Sink, L: Sink>(
     ensures after { AfterLine P.Platform desk.new platform.new result }
     ensures keeps { Keeps P.Platform T.Tape L.Sink desk.old desk.new platform.old platform.new tape.old tape.new ledger.old ledger.new result }
     ensures blame { Blames P.Platform T.Tape O.Sink L.Sink platform.old platform.new tape.old tape.new output.old output.new ledger.old ledger.new result }
-    ensures handled { (rest : List ℕ) → IsUnfinished pending.now rest → Handled P.tells (world_by P.Platform T.Tape desk.old.session platform.old tape.old)
+    ensures handled { (rest : List ℕ) → IsUnfinished pending.now rest → Handled P.tells ⊥ (world_by P.Platform T.Tape desk.old.session platform.old tape.old)
         (world_by P.Platform T.Tape desk.new.session platform.new tape.new)
         no_line result (line_at_end rest) (O.written output.old) (O.written output.new) }
 {
@@ -184,7 +184,7 @@ fn answer<P: Platform, T: Tape, O: Sink, L: Sink>(
     ensures after { AfterLine P.Platform desk.new platform.new result }
     ensures keeps { Keeps P.Platform T.Tape L.Sink desk.old desk.new platform.old platform.new tape.old tape.new ledger.old ledger.new result }
     ensures blame { Blames P.Platform T.Tape O.Sink L.Sink platform.old platform.new tape.old tape.new output.old output.new ledger.old ledger.new result }
-    ensures handled { (text : List ℕ) → IsPending (option_copied line.entry) text → Handled P.tells (world_by P.Platform T.Tape desk.old.session platform.old tape.old)
+    ensures handled { (text : List ℕ) → IsPending (option_copied line.entry) text → Handled P.tells ⊥ (world_by P.Platform T.Tape desk.old.session platform.old tape.old)
         (world_by P.Platform T.Tape desk.new.session platform.new tape.new)
         no_line result (text ∷ []) (O.written output.old) (O.written output.new) }
 {

@@ -68,7 +68,7 @@ returns-in-Ok-clause-forgets g c =
     let new = around g.P.Platform g.T.Tape g.L.Sink c.run.new.platform c.run.new.tape c.run.new.ledger in
     let was : World = world_of g.P.Platform None c.args.platform.now in
     let ran = c.in-Ok.ensures.ran in
-    let ended = ended_run g.P.Platform.tells old new _ was (g.T.Tape.drawn c.args.tape.now) (g.T.Tape.drawn c.run.new.tape) ran.0 _ (Ok tt) _ _ _ _ refl refl refl refl ran.1 c.in-Ok.ensures.keeps in
+    let ended = ended_run g.P.Platform.tells _ old new _ was (g.T.Tape.drawn c.args.tape.now) (g.T.Tape.drawn c.run.new.tape) ran.0 _ (Ok tt) _ _ _ _ refl refl refl refl ran.1 c.in-Ok.ensures.keeps in
     forgets g.P.Platform.tells old new _ ended
 
 pub returns-in-Ok-clause-ledger : goal.returns-in-Ok-clause-ledger
@@ -77,7 +77,7 @@ returns-in-Ok-clause-ledger g c =
     let new = around g.P.Platform g.T.Tape g.L.Sink c.run.new.platform c.run.new.tape c.run.new.ledger in
     let was : World = world_of g.P.Platform None c.args.platform.now in
     let ran = c.in-Ok.ensures.ran in
-    let ended = ended_run g.P.Platform.tells old new _ was (g.T.Tape.drawn c.args.tape.now) (g.T.Tape.drawn c.run.new.tape) ran.0 _ (Ok tt) _ _ _ _ refl refl refl refl ran.1 c.in-Ok.ensures.keeps in
+    let ended = ended_run g.P.Platform.tells _ old new _ was (g.T.Tape.drawn c.args.tape.now) (g.T.Tape.drawn c.run.new.tape) ran.0 _ (Ok tt) _ _ _ _ refl refl refl refl ran.1 c.in-Ok.ensures.keeps in
     keeps_ledger g.P.Platform.tells old new _ _ (λ zero. refl) ended
 
 pub returns-in-Err-clause-serves : goal.returns-in-Err-clause-serves
@@ -93,7 +93,7 @@ returns-in-Err-clause-forgets g c =
     let new = around g.P.Platform g.T.Tape g.L.Sink c.run.new.platform c.run.new.tape c.run.new.ledger in
     let was : World = world_of g.P.Platform None c.args.platform.now in
     let ran = c.in-Err.ensures.ran in
-    let ended = ended_run g.P.Platform.tells old new _ was (g.T.Tape.drawn c.args.tape.now) (g.T.Tape.drawn c.run.new.tape) ran.0 _ (Err c.in-Err.stop) _ _ _ _ refl refl refl refl ran.1 c.in-Err.ensures.keeps in
+    let ended = ended_run g.P.Platform.tells _ old new _ was (g.T.Tape.drawn c.args.tape.now) (g.T.Tape.drawn c.run.new.tape) ran.0 _ (Err c.in-Err.stop) _ _ _ _ refl refl refl refl ran.1 c.in-Err.ensures.keeps in
     forgets g.P.Platform.tells old new _ ended
 
 pub returns-in-Err-clause-ledger : goal.returns-in-Err-clause-ledger
@@ -102,7 +102,7 @@ returns-in-Err-clause-ledger g c =
     let new = around g.P.Platform g.T.Tape g.L.Sink c.run.new.platform c.run.new.tape c.run.new.ledger in
     let was : World = world_of g.P.Platform None c.args.platform.now in
     let ran = c.in-Err.ensures.ran in
-    let ended = ended_run g.P.Platform.tells old new _ was (g.T.Tape.drawn c.args.tape.now) (g.T.Tape.drawn c.run.new.tape) ran.0 _ (Err c.in-Err.stop) _ _ _ _ refl refl refl refl ran.1 c.in-Err.ensures.keeps in
+    let ended = ended_run g.P.Platform.tells _ old new _ was (g.T.Tape.drawn c.args.tape.now) (g.T.Tape.drawn c.run.new.tape) ran.0 _ (Err c.in-Err.stop) _ _ _ _ refl refl refl refl ran.1 c.in-Err.ensures.keeps in
     keeps_ledger g.P.Platform.tells old new _ _ (λ zero. absurd (never_zero c.in-Err.stop (sym c.status.ensures ∙ zero))) ended
 
 -- a stop before the first line, over a cell that can't be served

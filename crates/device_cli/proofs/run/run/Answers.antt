@@ -7,7 +7,7 @@ use Rattle.device_cli.specs.World.{World, IsLater, world_by}
 use Rattle.session_calls.specs.declared.stops.DeviceStop.{DeviceStop}
 use Rattle.session_calls.specs.declared.stops.DeviceStop.TheVariants as device
 use Rattle.line_run.specs.declared.stop.Stop.TheVariants as stops
-use Rattle.device_cli.proofs.RanLaws.{Ran-refused, Ran-ended, Ran-other, Ran-after, IsEarly, sound_of}
+use Rattle.device_cli.proofs.RanLaws.{Ran-refused, Ran-begun, Ran-ended, Ran-other, Ran-after, IsEarly, sound_of}
 use Rattle.device_cli.proofs.StillLaws.{still_after}
 use Rattle.device_course.specs.States.{IsListed}
 use Rattle.device_cli.proofs.CellLaws.{at_looked}
@@ -30,9 +30,9 @@ returns-in-Err-clause-ran g c =
     let later : IsLater old new = record { capacity = c.check_cell.ensures.capacity; rises = omega (arith, c.check_cell.ensures.head); within = g.met.P.Platform.has_room c.check_cell.new.platform } in
     let stops_at = early c.in-Err.stop c.in-Err.ensures.stops in (
       None,
-      Ran-ended P.tells old new (O.faults c.last_line.new.output ≡ O.faults c.args.output.now) (Rose (O.faults c.args.output.now) (O.faults c.last_line.new.output)) c.in-Err.stop c.last_line.result
+      Ran-ended P.tells _ old new (O.faults c.last_line.new.output ≡ O.faults c.args.output.now) (Rose (O.faults c.args.output.now) (O.faults c.last_line.new.output)) c.in-Err.stop c.last_line.result
           (g.I.Source.left c.args.input.now) (g.I.Source.left c.args.input.now) (written c.args.output.now) (written c.args.output.now) (written c.last_line.new.output)
-          (Ran-refused P.tells old new c.in-Err.stop (g.I.Source.left c.args.input.now) (written c.args.output.now) stops_at later c.check_cell.ensures.head c.check_cell.ensures.reads refl (λ told. (c.check_cell.ensures.time told).extends)
+          (Ran-refused P.tells _ old new c.in-Err.stop (g.I.Source.left c.args.input.now) (written c.args.output.now) stops_at refl later c.check_cell.ensures.head c.check_cell.ensures.reads refl (λ told. (c.check_cell.ensures.time told).extends)
           (λ told entry rep. still_after old new entry refl (c.check_cell.ensures.image told) (c.check_cell.ensures.time told) c.check_cell.ensures.head rep)
           (λ told entry rep. sound_of c.in-Err.stop stops_at (λ e. c.in-Err.ensures.bad_root told (cc) rep.served)))
           c.last_line.ensures.stop,
@@ -49,12 +49,12 @@ returns-in-Device-clause-ran g c =
     let new : World = world_by P g.T.Tape c.serve_input.new.desk.session c.serve_input.new.platform c.serve_input.new.tape in
     let later : IsLater old mid = record { capacity = c.check_cell.ensures.capacity; rises = omega (arith, c.check_cell.ensures.head); within = g.met.P.Platform.has_room c.check_cell.new.platform } in (
       c.serve_input.new.desk.session,
-      Ran-ended P.tells old new (O.faults c.last_line-in-Device.new.output ≡ O.faults c.serve_input.new.output) (Rose (O.faults c.serve_input.new.output) (O.faults c.last_line-in-Device.new.output)) c.in-Device.stop c.last_line-in-Device.result
+      Ran-ended P.tells _ old new (O.faults c.last_line-in-Device.new.output ≡ O.faults c.serve_input.new.output) (Rose (O.faults c.serve_input.new.output) (O.faults c.last_line-in-Device.new.output)) c.in-Device.stop c.last_line-in-Device.result
           (left c.args.input.now) (left c.serve_input.new.input) (written c.args.output.now) (written c.serve_input.new.output) (written c.last_line-in-Device.new.output)
-          (Ran-after P.tells old mid new no_line (Err (stops.Device c.in-Device.stop)) (left c.args.input.now) (left c.serve_input.new.input) (written c.args.output.now) (written c.serve_input.new.output)
+          (Ran-begun P.tells _ old new no_line _ _ _ _ _ (Ran-after P.tells old mid new no_line (Err (stops.Device c.in-Device.stop)) (left c.args.input.now) (left c.serve_input.new.input) (written c.args.output.now) (written c.serve_input.new.output)
           later c.check_cell.ensures.head c.check_cell.ensures.reads c.new-desk.ensures.session refl (λ told. (c.check_cell.ensures.time told).extends)
           (λ told entry rep. still_after old mid entry c.new-desk.ensures.session (c.check_cell.ensures.image told) (c.check_cell.ensures.time told) c.check_cell.ensures.head rep)
-          (rw c.in-Device.is at c.in-Err-serve_input.ensures.ran))
+          (rw c.in-Device.is at c.in-Err-serve_input.ensures.ran)))
           c.last_line-in-Device.ensures.stop,
     )
 
@@ -68,12 +68,12 @@ returns-clause-ran g c =
     let new : World = world_by P g.T.Tape c.serve_input.new.desk.session c.serve_input.new.platform c.serve_input.new.tape in
     let later : IsLater old mid = record { capacity = c.check_cell.ensures.capacity; rises = omega (arith, c.check_cell.ensures.head); within = g.met.P.Platform.has_room c.check_cell.new.platform } in (
       c.serve_input.new.desk.session,
-      Ran-other P.tells old new (Err c.in-Err-serve_input.stop) (left c.args.input.now) (left c.serve_input.new.input) (written c.args.output.now) (written c.serve_input.new.output)
+      Ran-other P.tells _ old new (Err c.in-Err-serve_input.stop) (left c.args.input.now) (left c.serve_input.new.input) (written c.args.output.now) (written c.serve_input.new.output)
           (λ stop e. c.in_default-stop.not-Device stop (cc))
-          (Ran-after P.tells old mid new no_line (Err c.in-Err-serve_input.stop) (left c.args.input.now) (left c.serve_input.new.input) (written c.args.output.now) (written c.serve_input.new.output)
+          (Ran-begun P.tells _ old new no_line _ _ _ _ _ (Ran-after P.tells old mid new no_line (Err c.in-Err-serve_input.stop) (left c.args.input.now) (left c.serve_input.new.input) (written c.args.output.now) (written c.serve_input.new.output)
           later c.check_cell.ensures.head c.check_cell.ensures.reads c.new-desk.ensures.session refl (λ told. (c.check_cell.ensures.time told).extends)
           (λ told entry rep. still_after old mid entry c.new-desk.ensures.session (c.check_cell.ensures.image told) (c.check_cell.ensures.time told) c.check_cell.ensures.head rep)
-          c.in-Err-serve_input.ensures.ran),
+          c.in-Err-serve_input.ensures.ran)),
     )
 
 pub returns-in_default-clause-ran : goal.returns-in_default-clause-ran
@@ -86,12 +86,12 @@ returns-in_default-clause-ran g c =
     let new : World = world_by P g.T.Tape c.serve_input.new.desk.session c.serve_input.new.platform c.serve_input.new.tape in
     let later : IsLater old mid = record { capacity = c.check_cell.ensures.capacity; rises = omega (arith, c.check_cell.ensures.head); within = g.met.P.Platform.has_room c.check_cell.new.platform } in (
       c.serve_input.new.desk.session,
-      Ran-other P.tells old new (Ok tt) (left c.args.input.now) (left c.serve_input.new.input) (written c.args.output.now) (written c.serve_input.new.output)
+      Ran-other P.tells _ old new (Ok tt) (left c.args.input.now) (left c.serve_input.new.input) (written c.args.output.now) (written c.serve_input.new.output)
           (λ stop e. cc)
-          (Ran-after P.tells old mid new no_line (Ok tt) (left c.args.input.now) (left c.serve_input.new.input) (written c.args.output.now) (written c.serve_input.new.output)
+          (Ran-begun P.tells _ old new no_line _ _ _ _ _ (Ran-after P.tells old mid new no_line (Ok tt) (left c.args.input.now) (left c.serve_input.new.input) (written c.args.output.now) (written c.serve_input.new.output)
           later c.check_cell.ensures.head c.check_cell.ensures.reads c.new-desk.ensures.session refl (λ told. (c.check_cell.ensures.time told).extends)
           (λ told entry rep. still_after old mid entry c.new-desk.ensures.session (c.check_cell.ensures.image told) (c.check_cell.ensures.time told) c.check_cell.ensures.head rep)
-          c.in_default.ensures.ran),
+          c.in_default.ensures.ran)),
     )
 
 pub returns-in-Err-clause-keeps : goal.returns-in-Err-clause-keeps

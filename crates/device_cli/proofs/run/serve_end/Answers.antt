@@ -13,7 +13,7 @@ returns-then-is_empty-clause-handled g c rest pending =
     let written = g.O.Sink.written c.args.output.now in
     let old : World = world_by P g.T.Tape c.args.desk.now.session c.args.platform.now c.args.tape.now in
     let empty : rest ≡ [] = (c.is_empty.ensures rest pending.is_pending).0 (search rules) in
-    subst (λ (line : List ℕ). Handled P.tells old old no_line (Ok tt) (line_at_end line) written written) (sym empty)
+    subst (λ (line : List ℕ). Handled P.tells ⊥ old old no_line (Ok tt) (line_at_end line) written written) (sym empty)
     (Handled-nothing P.tells old no_line written (g.met.P.Platform.has_room c.args.platform.now))
 
 pub returns-then-is_empty-clause-keeps : goal.returns-then-is_empty-clause-keeps

@@ -1,10 +1,11 @@
-use Rattle.std.proofs.Common.{◌≡◌, List, ℕ, [], Option, None, Some, Ok, inl, inr, ap, subst, ◌∙◌}
+use Rattle.std.proofs.Common.{◌≡◌, List, ℕ, [], Option, None, Some, Ok, Err, inl, inr, refl, ap, ◌∙◌}
+use Rattle.line_run.specs.declared.stop.Stop.TheVariants as stops
 use Rattle.device_course.proofs.KeysLaws.{on_start, on_done}
 use Rattle.device_cli.specs.Ran.{Ran}
 use Rattle.line_run.specs.Puts.{damage_line}
 use Rattle.device_cli.specs.Working.{script_of}
 use Rattle.device_cli.specs.World.{World, world_by}
-use Rattle.device_cli.proofs.WorkLaws.{idle, told_replies}
+use Rattle.device_cli.proofs.WorkLaws.{idle, told_replies, work_ran}
 use Rattle.device_cli.proofs.working.work.Goals as goal
 
 pub returns-in_default-clause-keeps : goal.returns-in_default-clause-keeps
@@ -30,15 +31,53 @@ returns-in-Ok-run-clause-worked g c =
     let left : Option (List ℕ) = Some c.run.new.input in
     let text : c.new-input.result ≡ script = c.new-input.ensures ∙ c.in-Ok.ensures.text in
     let none : c.in-Ok-new.told.written ≡ [] = ap (λ s. s.written) c.in-Ok-new.ensures in
-    let there : Ran P.tells old new damage_line (Ok tt) (Some script) left (Some []) (Some told) =
-    subst (λ (w : List ℕ). Ran P.tells old new damage_line (Ok tt) (Some script) left (Some w) (Some told)) none
-    (subst (λ (t : List ℕ). Ran P.tells old new damage_line (Ok tt) (Some t) left (Some c.in-Ok-new.told.written) (Some told)) text ran.1) in (
+    let there : Ran P.tells (left ≡ Some script) old new damage_line (Ok tt) (Some script) left (Some []) (Some told) =
+    work_ran P.tells c.args.seed c.args.count old new (Ok tt) c.new-input.result c.run.new.input c.in-Ok-new.told.written told text none ran.1 in (
       ran.0,
       inr (record {
         serving = Ok tt;
         left = left;
         told = Some told;
         ran = there;
-        says = c.put_summary.ensures.put there.handled.replied.replies (c.bytes.ensures ∙ told_replies P.tells old new left told script there);
+        says = c.put_summary.ensures.put there.handled.replied.replies (c.bytes.ensures ∙ told_replies P.tells _ old new left told script there);
+      }),
+    )
+
+pub returns-in-Err-Device-clause-worked : goal.returns-in-Err-Device-clause-worked
+returns-in-Err-Device-clause-worked g c =
+    let P = g.P.Platform in
+    let ran = rw c.in-Err-Device.field-0-is at c.in-Err-Device.ensures.ran in
+    let old : World = world_by P g.T.Tape None c.args.platform.now c.args.tape.now in
+    let new : World = world_by P g.T.Tape ran.0 c.run.new.platform c.run.new.tape in
+    let text : c.new-input.result ≡ script_of c.args.seed c.args.count = c.new-input.ensures ∙ c.in-Ok.ensures.text in
+    let none : c.in-Ok-new.told.written ≡ [] = ap (λ s. s.written) c.in-Ok-new.ensures in (
+      ran.0,
+      inr (record {
+        serving = Err (stops.Device c.in-Err-Device.stop);
+        left = Some c.run.new.input;
+        told = Some c.run.new.output.written;
+        ran = work_ran P.tells c.args.seed c.args.count old new (Err (stops.Device c.in-Err-Device.stop)) c.new-input.result c.run.new.input c.in-Ok-new.told.written c.run.new.output.written text none ran.1;
+        says = elim c.last_line.ensures.stop [
+          | inl whole ↦ inl (ap Err whole.0, whole.1)
+          | inr part ↦ inr (ap Err part.0, part.2)
+        ];
+      }),
+    )
+
+pub returns-in-Err-Sink-clause-worked : goal.returns-in-Err-Sink-clause-worked
+returns-in-Err-Sink-clause-worked g c =
+    let P = g.P.Platform in
+    let ran = rw c.in-Err-Sink.field-0-is at c.in-Err-Sink.ensures.ran in
+    let old : World = world_by P g.T.Tape None c.args.platform.now c.args.tape.now in
+    let new : World = world_by P g.T.Tape ran.0 c.run.new.platform c.run.new.tape in
+    let text : c.new-input.result ≡ script_of c.args.seed c.args.count = c.new-input.ensures ∙ c.in-Ok.ensures.text in
+    let none : c.in-Ok-new.told.written ≡ [] = ap (λ s. s.written) c.in-Ok-new.ensures in (
+      ran.0,
+      inr (record {
+        serving = Err stops.Sink;
+        left = Some c.run.new.input;
+        told = Some c.run.new.output.written;
+        ran = work_ran P.tells c.args.seed c.args.count old new (Err stops.Sink) c.new-input.result c.run.new.input c.in-Ok-new.told.written c.run.new.output.written text none ran.1;
+        says = (refl, refl);
       }),
     )

@@ -13,7 +13,7 @@ returns-in-Ok-clause-answered g c told entry rep =
     let P = g.P.Platform in
     let old : World = world_of P c.args.self.now.session c.args.platform.now in
     let new : World = world_of P c.close.new.self.session c.erase.new.platform in
-    serves_erased old new entry (c.in-Ok.ensures.cause.0 told).0 c.close.ensures (c.in-Ok.ensures.cause.0 told).1 (c.erase.ensures.time told _ rep.device) rep
+    serves_erased old new entry (c.in-Ok.ensures.cause.0 told).0 c.close.ensures.session (c.in-Ok.ensures.cause.0 told).1 (c.erase.ensures.time told _ rep.device) rep
 
 pub returns-in-Err-NoDevice-clause-answered : goal.returns-in-Err-NoDevice-clause-answered
 returns-in-Err-NoDevice-clause-answered g c told entry rep =
@@ -30,7 +30,7 @@ returns-in-Err-PlatformFault-clause-answered g c told entry rep =
     halts_erase old new entry (c.erase.ensures.time told _ rep.device)
 
 pub returns-in-Ok-clause-keeps : goal.returns-in-Ok-clause-keeps
-returns-in-Ok-clause-keeps g c = λ drawn written. on_kept _ drawn written c.args.self.now.session _ _ _ _ (λ told. (c.erase.ensures.turns told).extends) (λ told. let pages = g.met.P.Platform.counts_pages in pages told c.erase.new.platform ∙ (c.erase.ensures.pages.0 ∙ sym (pages told c.args.platform.now))) c.erase.ensures.keeps c.erase.ensures.forgets (λ told keys h. subst (λ (s : Option Session). IsListed s (g.P.Platform.history c.erase.new.platform).present keys) (sym c.close.ensures) (None, (c.in-Ok.ensures.cause.0 told).1)) c.erase.ensures.serves (certified_emptied _ written _ _ _ c.erase.ensures.turns) c.erase.ensures.turns
+returns-in-Ok-clause-keeps g c = λ drawn written. on_kept _ drawn written c.args.self.now.session _ _ _ _ (λ told. (c.erase.ensures.turns told).extends) (λ told. let pages = g.met.P.Platform.counts_pages in pages told c.erase.new.platform ∙ (c.erase.ensures.pages.0 ∙ sym (pages told c.args.platform.now))) c.erase.ensures.keeps c.erase.ensures.forgets (λ told keys h. subst (λ (s : Option Session). IsListed s (g.P.Platform.history c.erase.new.platform).present keys) (sym c.close.ensures.session) (None, (c.in-Ok.ensures.cause.0 told).1)) c.erase.ensures.serves (certified_emptied _ written _ _ _ c.erase.ensures.turns) c.erase.ensures.turns
 
 pub returns-in-Err-NoDevice-clause-keeps : goal.returns-in-Err-NoDevice-clause-keeps
 returns-in-Err-NoDevice-clause-keeps g c = λ drawn written. on_kept _ drawn written c.args.self.now.session _ _ _ _ (λ told. (c.erase.ensures.turns told).extends) (λ told. let pages = g.met.P.Platform.counts_pages in pages told c.erase.new.platform ∙ (c.erase.ensures.pages.0 ∙ sym (pages told c.args.platform.now))) c.erase.ensures.keeps c.erase.ensures.forgets (λ told keys h. listed_image _ _ _ keys ((rw c.in-Err-NoDevice.field-0-is at c.in-Err-NoDevice.ensures.cause).0 told).1 h) c.erase.ensures.serves (certified_emptied _ written _ _ _ c.erase.ensures.turns) c.erase.ensures.turns
@@ -39,7 +39,7 @@ pub returns-in-Err-PlatformFault-clause-keeps : goal.returns-in-Err-PlatformFaul
 returns-in-Err-PlatformFault-clause-keeps g c = λ drawn written. on_kept _ drawn written c.args.self.now.session _ _ _ _ (λ told. (c.erase.ensures.turns told).extends) (λ told. let pages = g.met.P.Platform.counts_pages in pages told c.erase.new.platform ∙ (c.erase.ensures.pages.0 ∙ sym (pages told c.args.platform.now))) c.erase.ensures.keeps c.erase.ensures.forgets (λ told keys h. tt) c.erase.ensures.serves (certified_emptied _ written _ _ _ c.erase.ensures.turns) c.erase.ensures.turns
 
 pub returns-in-Ok-clause-enough : goal.returns-in-Ok-clause-enough
-returns-in-Ok-clause-enough g c updates enough = enough_none c.close.new.self.session updates c.close.ensures
+returns-in-Ok-clause-enough g c updates enough = enough_none c.close.new.self.session updates c.close.ensures.session
 
 pub returns-in-Ok-clause-any : goal.returns-in-Ok-clause-any
 returns-in-Ok-clause-any g c = (tt, λ told. (c.in-Ok.ensures.cause.0 told).0)

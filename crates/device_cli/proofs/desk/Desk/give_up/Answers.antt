@@ -28,16 +28,16 @@ returns-clause-answered g c told entry rep =
     let old : World = world_of P held c.args.platform.now in
     let new : World = world_of P c.close.new.self.session c.args.platform.now in
     some_of held (λ none. grind (arith, common_steps, none, c.is_none.ensures, c.if-is_none.false)) (Serves old new entry commands.Drop (Ok replies.Dropped))
-    (λ session some. serves_drop held c.close.new.self.session (P.history c.args.platform.now) (P.head c.args.platform.now) (P.capacity c.args.platform.now) (P.reads c.args.platform.now) entry session some c.close.ensures rep)
+    (λ session some. serves_drop held c.close.new.self.session (P.history c.args.platform.now) (P.head c.args.platform.now) (P.capacity c.args.platform.now) (P.reads c.args.platform.now) entry session some c.close.ensures.session rep)
 
 pub returns-clause-enough : goal.returns-clause-enough
-returns-clause-enough g c updates enough = enough_none c.close.new.self.session updates c.close.ensures
+returns-clause-enough g c updates enough = enough_none c.close.new.self.session updates c.close.ensures.session
 
 pub returns-then-is_none-clause-looks : goal.returns-then-is_none-clause-looks
 returns-then-is_none-clause-looks g c told before warm look = (omega arith, λ done. warm_less c.args.self.now.session before warm)
 
 pub returns-clause-looks : goal.returns-clause-looks
-returns-clause-looks g c told before warm look = (omega arith, λ done. subst (λ (session : Option Session). IsWarmFor session None) (sym c.close.ensures) tt)
+returns-clause-looks g c told before warm look = (omega arith, λ done. subst (λ (session : Option Session). IsWarmFor session None) (sym c.close.ensures.session) tt)
 
 pub returns-then-is_none-clause-any : goal.returns-then-is_none-clause-any
 returns-then-is_none-clause-any g c = grind (arith, common_steps, c.is_none.ensures, c.if-is_none.true)

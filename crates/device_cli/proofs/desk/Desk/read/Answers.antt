@@ -15,7 +15,7 @@ use Rattle.device_cli.specs.Pages.{updates_after}
 use Rattle.device_cli.specs.Parts.{added_by}
 use Rattle.device_cli.specs.Replied.{Serves}
 use Rattle.device_cli.specs.World.{AreEnough, World, is_full, needed_of, world_of}
-use Rattle.device_cli.proofs.CallLaws.{after_stopped, halts_led, mounted_held, no_draw, no_root, on_held, past_device, room_held, read_sound, read_stops, serves_led, within_device}
+use Rattle.device_cli.proofs.CallLaws.{after_stopped, halts_led, mounted_has, mounted_held, no_draw, no_root, on_held, past_device, room_held, read_sound, read_stops, serves_led, within_device}
 use Rattle.device_cli.proofs.EnoughLaws.{enough_less}
 use Rattle.device_cli.proofs.LookLaws.{has_room, read_cost, warm_after}
 use Rattle.device_cli.proofs.ReplyLaws.{held_has}
@@ -125,7 +125,9 @@ returns-in_err-read_block-clause-blame g c =
 pub returns-in_err-read_block-clause-any : goal.returns-in_err-read_block-clause-any
 returns-in_err-read_block-clause-any g c =
     rw (stopped g c) (read_stops g.P.Platform.tells _ c.args.self.now.session (g.P.Platform.history c.args.platform.now).present (world_of g.P.Platform (Some c.read_block.new.session) c.read_block.new.platform) c.in-Some.session c.args.block c.read_block.new.out c.in_err-read_block.field-0.0
-    (λ told. (told, mounted_held _ c.in-Some.session _ c.in-Some.is (c.requires.mounted told))) c.in_err-read_block.ensures.any)
+    (λ told. (told, mounted_held _ c.in-Some.session _ c.in-Some.is (c.requires.mounted told)))
+    (mounted_has g.P.Platform.tells c.args.self.now.session c.in-Some.session (g.P.Platform.history c.args.platform.now) (g.P.Platform.history c.read_block.new.platform) (λ (s : Session). c.args.block < blocks_of s) c.in-Some.is
+    (c.in_err-read_block.ensures.goes (no_draw None)).along.cell c.requires.mounted (omega (arith, c.if-block-blocks.false, c.blocks-2.ensures))) c.in_err-read_block.ensures.any)
 
 pub returns-in_err-read_block-clause-keeps : goal.returns-in_err-read_block-clause-keeps
 returns-in_err-read_block-clause-keeps g c = λ drawn written.

@@ -139,10 +139,8 @@ returns-in_err-write_block-clause-any g c =
     let free : P.head c.args.platform.now < P.capacity c.args.platform.now = omega (arith, g.met.P.Platform.has_room c.args.platform.now, c.if-head-capacity.false, c.head.ensures.value, c.capacity.ensures.value) in
     rw (stopped g c) (write_stops P.tells _ c.args.self.now.session (P.history c.args.platform.now).present (world_of P (Some c.write_block.new.session) c.write_block.new.platform) c.in-Some.session c.args.block (take c.args.count c.args.self.now.buffer) c.in_err-write_block.field-0.0
     (λ told. (told, mounted_held _ c.in-Some.session _ c.in-Some.is (c.requires.before.mounted told)))
-    (λ e. (
-      omega (arith, write_kept P g.T.Tape _ _ _ _ c.in_err-write_block.field-0.0 c.in_err-write_block.ensures.adds e, along.capacity, free),
-      mounted_has P.tells c.args.self.now.session c.in-Some.session (P.history c.args.platform.now) (P.history c.write_block.new.platform) (λ (s : Session). c.args.block < blocks_of s) c.in-Some.is along.cell c.requires.before.mounted within,
-    )) c.in_err-write_block.ensures.any)
+    (mounted_has P.tells c.args.self.now.session c.in-Some.session (P.history c.args.platform.now) (P.history c.write_block.new.platform) (λ (s : Session). c.args.block < blocks_of s) c.in-Some.is along.cell c.requires.before.mounted within)
+    (λ e. omega (arith, write_kept P g.T.Tape _ _ _ _ c.in_err-write_block.field-0.0 c.in_err-write_block.ensures.adds e, along.capacity, free)) c.in_err-write_block.ensures.any)
 
 pub returns-in_err-write_block-clause-keeps : goal.returns-in_err-write_block-clause-keeps
 returns-in_err-write_block-clause-keeps g c = λ ledger.
