@@ -15,4 +15,5 @@ pub mod DamageLaws
 pub mod TookLaws
 pub mod AmpleLaws
 pub mod ShortLaws
+pub mod NearLaws
 pub mod CompleteLaws

@@ -29,8 +29,10 @@ use Rattle.platform.proofs.Moments.{Extends-refl}
 use Rattle.nbd_core.specs.Damages.{HasMetDamage, IsDamage}
 use Rattle.nbd_core.proofs.DamageLaws.{damage_later, damage_now}
 use Rattle.nbd_core.specs.Exchanges.{Exchange, sent_of, told_of}
-use Rattle.nbd_core.specs.Served.{Answered, AnswerEnd, AwaitsMore, EndsByDisconnect, FitsExchange, IsAhead, IsCommit, IsCutOff, IsGoodbye, IsReplyTo, Served, ServedEnd, bytes_told, sent_bytes, replied_bytes}
+use Rattle.nbd_core.specs.Served.{Answered, AnswerEnd, AwaitsMore, EndsByDisconnect, EndsFrom, FitsExchange, IsAhead, IsCommit, IsCutOff, IsGoodbye, IsReplyTo, Served, ServedEnd, bytes_told, sent_bytes, replied_bytes}
 use Rattle.nbd_core.specs.Short.{AreShort, updates_in}
+use Rattle.nbd_core.specs.Near.{HasAdded, left_by, needed_for}
+use Rattle.nbd_core.proofs.NearLaws.{added, commit_needed, left_more, near_of}
 use Rattle.nbd_core.proofs.ShortLaws.{short_less, short_push, updates_push}
 use Rattle.nbd_core.specs.Turns.{BeginsWith, ComesTo, DrawsKeys, Finishes, Halted, Halts, HaltsAt, IsOfCommit, MayHalt, Turns}
 use Rattle.nbd_lang.specs.declared.replies.Outcome.{Outcome}
@@ -170,7 +172,7 @@ served_by : (From : Held → Type 0) (tells : Type 0) (before there after : Outs
     → Replied From tells before there session size a b old mid w0 w1 exchanges → Came b c mid now.left AwaitsRequest rest → Got w1 part w2 → ServedEnd size rest part c now.ahead result
     → IfErr result (λ halt. halt ≡ halts.Client stops.Limit → now.left ≡ 0) → (tells → Extends there.history after.history)
     → after.capacity ≡ there.capacity → there.head ≤ after.head → (result ≡ Err halts.Unfinished → after.capacity - after.head < needed_by session)
-    → ((entry : Held) → From entry → (last : Held) → IsHeld there.history.present there.head session last → Ending before.capacity there after (IsAhead before.capacity size rest now.ahead part result) last)
+    → ((entry : Held) → From entry → (last : Held) → IsHeld there.history.present there.head session last → Ending before.capacity there after (EndsFrom before.capacity size rest now.ahead part after.head result) last)
     → Served From tells before after size a c old now w0 w2 result
 served_by From tells before there after session size a b c old mid now w0 w1 w2 exchanges rest part result so_far next got ends limit on room rises lacks made = record {
   exchanges = exchanges;
@@ -191,13 +193,13 @@ served_by From tells before there after session size a b c old mid now w0 w1 w2 
   led = λ entry from.
       let led = so_far.led entry from in
       let end = made entry from (last_of entry led.led.states) led.held in
-      led_end before there after session entry (map sent_of exchanges) (map told_of exchanges) (IsAhead before.capacity size rest now.ahead part result) end.ahead led end.made end.is;
+      led_end before there after session entry (map sent_of exchanges) (map told_of exchanges) (EndsFrom before.capacity size rest now.ahead part after.head result) end.ahead led end.made end.is;
   complete = λ entry from is room.
       let led = so_far.led entry from in
       let last : Held = last_of entry led.led.states in
       let end = made entry from last led.held in
       let all = leads_room before.capacity size entry exchanges led.led.states is room led.led.leads in
-      record { done = all.0; ends = λ unfinished. room_finished before.capacity last all.1 (unfinished_at before.capacity size rest now.ahead part result last end.ahead unfinished end.is) };
+      record { done = all.0; ends = λ unfinished. room_finished before.capacity last all.1 (unfinished_at before.capacity size rest now.ahead part result last end.ahead unfinished end.is.to) };
 }
 
 -- where nothing was done any more
@@ -213,14 +215,14 @@ pub served_stopped : (From : Held → Type 0) (tells : Type 0) (before there : O
     → Replied From tells before there session size a b old mid w0 w1 exchanges → HeadCame b c mid now (Err halt) → Served From tells before there size a c old now w0 w1 (Err halt)
 served_stopped From tells before there session size a b c old mid now w0 w1 exchanges halt so_far head = by halt head.limit head.ends
   where
-    stop : (h : Halt) → (h ≢ halts.Unfinished) → (h ≡ halts.Client stops.Limit → now.left ≡ 0) → ServedEnd size head.came [] c now.ahead (Err h) → ((last : Held) → IsAhead before.capacity size head.came now.ahead [] (Err h) last []) → Served From tells before there size a c old now w0 w1 (Err h)
+    stop : (h : Halt) → (h ≢ halts.Unfinished) → (h ≡ halts.Client stops.Limit → now.left ≡ 0) → ServedEnd size head.came [] c now.ahead (Err h) → ((last : Held) → last.pages ≡ there.head → EndsFrom before.capacity size head.came now.ahead [] there.head (Err h) last []) → Served From tells before there size a c old now w0 w1 (Err h)
     stop h other limit ends none = served_by From tells before there there session size a b c old mid now w0 w1 w1 exchanges head.came [] (Err h) so_far head.takes (Got-nothing w1) ends limit (λ told. Extends-refl there.history) refl (omega arith) (λ is. absurd (other (halt_same h halts.Unfinished is)))
-        (λ entry from last held. nothing_ahead before.capacity there session last (IsAhead before.capacity size head.came now.ahead [] (Err h)) held (none last))
+        (λ entry from last held. nothing_ahead before.capacity there session last (EndsFrom before.capacity size head.came now.ahead [] there.head (Err h)) held (none last held.pages))
 
     by : (h : Halt) → (h ≡ halts.Client stops.Limit → now.left ≡ 0) → HeadEnd c now.ahead head.came (Err h) → Served From tells before there size a c old now w0 w1 (Err h)
-    by (halts.Client stops.Source) limit ends = stop (halts.Client stops.Source) (λ e. cc) limit (refl, ends) (λ last. refl)
-    by (halts.Client stops.Limit) limit ends = stop (halts.Client stops.Limit) (λ e. cc) limit (refl, ends) (λ last. refl)
-    by (halts.Client stops.Broken) limit ends = stop (halts.Client stops.Broken) (λ e. cc) limit (refl, ends) (λ last. refl)
+    by (halts.Client stops.Source) limit ends = stop (halts.Client stops.Source) (λ e. cc) limit (refl, ends) (λ last pages. record { to = refl; near = inl (sym pages) })
+    by (halts.Client stops.Limit) limit ends = stop (halts.Client stops.Limit) (λ e. cc) limit (refl, ends) (λ last pages. record { to = refl; near = inl (sym pages) })
+    by (halts.Client stops.Broken) limit ends = stop (halts.Client stops.Broken) (λ e. cc) limit (refl, ends) (λ last pages. record { to = refl; near = inl (sym pages) })
     by (halts.Client stops.Sink) limit ends = absurd ends
     by halts.Platform limit ends = absurd ends
     by halts.Tape limit ends = absurd ends
@@ -235,7 +237,7 @@ pub served_over : (From : Held → Type 0) (tells : Type 0) (before there : Outs
     → Replied From tells before there session size a b old mid w0 w1 exchanges → HeadCame b c mid now (Ok None) → Served From tells before there size a c old now w0 w1 (Ok tt)
 served_over From tells before there session size a b c old mid now w0 w1 exchanges so_far head =
     served_by From tells before there there session size a b c old mid now w0 w1 w1 exchanges head.came [] (Ok tt) so_far head.takes (Got-nothing w1) (refl, inl head.ends) tt (λ told. Extends-refl there.history) refl (omega arith) (λ is. absurd cc)
-    (λ entry from last held. nothing_ahead before.capacity there session last (IsAhead before.capacity size head.came now.ahead [] (Ok tt)) held (inl (head.ends.0, refl)))
+    (λ entry from last held. nothing_ahead before.capacity there session last (EndsFrom before.capacity size head.came now.ahead [] there.head (Ok tt)) held (record { to = inl (head.ends.0, refl); near = sym held.pages }))
 
 -- a disconnect isn't refused
 never_refused : (size : ℕ) (request : Request) → request.kind ≡ kinds.Disconnect → refusal size request ≡ None
@@ -256,9 +258,13 @@ goodbye_end size rest ahead left (Err halts.NoDevice) bye ends = absurd ends
 goodbye_end size rest ahead left (Err (halts.Client stop)) bye ends = absurd ends
 
 -- the states of a request that halted
-halted_end : (capacity size : ℕ) (there after : Outside) (rest tail : List ℕ) (last : Held) (kind : RequestKind) (halt : Halt) → there.capacity ≡ capacity → (IsOfCommit kind → IsCommit rest) → IsLate halt → halt ≢ halts.Client stops.Sink → Halted there after last kind halt
-    → Ending capacity there after (IsAhead capacity size rest tail [] (Err halt)) last
-halted_end capacity size there after rest tail last kind halt same commit late other halted = record { ahead = halted.ahead; made = halted.made; is = by halt late other (subst (λ (n : ℕ). HaltsAt n last kind halted.ahead halt) same halted.is) }
+halted_end : (capacity size : ℕ) (there after : Outside) (rest tail : List ℕ) (last : Held) (kind : RequestKind) (halt : Halt) → there.capacity ≡ capacity → (IsOfCommit kind → IsCommit rest) → IsLate halt → halt ≢ halts.Client stops.Sink
+    → HasAdded size rest (left_by halt) after.head last → Halted there after last kind halt → Ending capacity there after (EndsFrom capacity size rest tail [] after.head (Err halt)) last
+halted_end capacity size there after rest tail last kind halt same commit late other has halted = record {
+  ahead = halted.ahead;
+  made = halted.made;
+  is = record { to = by halt late other (subst (λ (n : ℕ). HaltsAt n last kind halted.ahead halt) same halted.is); near = near_of size after.head rest halt last halted.ahead other has };
+}
   where
     by : (h : Halt) → IsLate h → h ≢ halts.Client stops.Sink → HaltsAt capacity last kind halted.ahead h → IsAhead capacity size rest tail [] (Err h) last halted.ahead
     by halts.Platform late other (inl none) = inl none
@@ -274,13 +280,17 @@ halted_end capacity size there after rest tail last kind halt same commit late o
     by (halts.Client stops.Broken) late other is = is
     by (halts.Client stops.Sink) late other is = absurd (other refl)
 
-goodbye_ends : (capacity size : ℕ) (tells : Type 0) (there after : Outside) (session : Session) (rest tail : List ℕ) (last : Held) (result : Result (Unit {0}) Halt) → tells → there.capacity ≡ capacity → IsGoodbye rest tail → EndsByDisconnect result → IsHeld there.history.present there.head session last
-    → Finishes tells there after session result → Ending capacity there after (IsAhead capacity size rest tail [] result) last
-goodbye_ends capacity size tells there after session rest tail last (Ok done) told same bye ends held finishes =
+goodbye_ends : (capacity size : ℕ) (tells : Type 0) (there after : Outside) (session : Session) (rest tail : List ℕ) (last : Held) (result : Result (Unit {0}) Halt) → tells → there.capacity ≡ capacity → there.head ≤ after.head → (bye : IsGoodbye rest tail) → FitsRequest bye.0 → EndsByDisconnect result
+    → IfErr result (λ halt. after.head ≤ there.head + left_by halt (needed_by session)) → IsHeld there.history.present there.head session last
+    → Finishes tells there after session result → Ending capacity there after (EndsFrom capacity size rest tail [] after.head result) last
+goodbye_ends capacity size tells there after session rest tail last (Ok done) told same rises bye fits ends adds held finishes =
     let end = finishes told last held in
-    record { ahead = end.next ∷ []; made = end.made; is = inr (bye, end.next, refl, subst (λ (n : ℕ). Ends n last end.next) same end.is) }
-goodbye_ends capacity size tells there after session rest tail last (Err halt) told same bye ends held finishes =
-    halted_end capacity size there after rest tail last kinds.Disconnect halt same (λ of. (bye.0, tail, subst IsOfCommit (sym bye.1) tt, bye.2)) (late_goodbye halt ends) (no_sink halt ends) (finishes told last held)
+    record { ahead = end.next ∷ []; made = end.made; is = record { to = inr (bye, end.next, refl, subst (λ (n : ℕ). Ends n last end.next) same end.is); near = sym end.pages } }
+goodbye_ends capacity size tells there after session rest tail last (Err halt) told same rises bye fits ends adds held finishes =
+    let most : 41 * last.updates ≡ needed_for size bye.0 last.updates = commit_needed size last.updates bye.0 kinds.Disconnect bye.1 (never_refused size bye.0 bye.1) in
+    let few = left_more halt (needed_by session) (needed_for size bye.0 last.updates) (omega (arith, held.needs, most)) in
+    let has = added size there.head after.head rest tail bye.0 last halt fits bye.2 held.pages rises (omega (arith, adds, few)) in
+    halted_end capacity size there after rest tail last kinds.Disconnect halt same (λ of. (bye.0, tail, subst IsOfCommit (sym bye.1) tt, bye.2)) (late_goodbye halt ends) (no_sink halt ends) has (finishes told last held)
   where
     late_goodbye : (h : Halt) → EndsByDisconnect (Err h) → IsLate h
     late_goodbye halts.Platform ends = tt
@@ -315,12 +325,12 @@ goodbye_limit (Err halts.NoDevice) left ends = absurd ends
 
 pub served_goodbye : (From : Held → Type 0) (tells : Type 0) (before there after : Outside) (session : Session) (size : ℕ) (a b c : Option (List ℕ)) (old mid now : Room) (w0 w1 : Option (List ℕ)) (exchanges : List Exchange) (request : Request) (result : Result (Unit {0}) Halt)
     → ((entry : Held) → From entry → tells) → there.capacity ≡ before.capacity → (tells → Extends there.history after.history) → after.capacity ≡ there.capacity → there.head ≤ after.head
-    → (result ≡ Err halts.Unfinished → after.capacity - after.head < needed_by session) → request.kind ≡ kinds.Disconnect
+    → (result ≡ Err halts.Unfinished → after.capacity - after.head < needed_by session) → IfErr result (λ halt. after.head ≤ there.head + left_by halt (needed_by session)) → request.kind ≡ kinds.Disconnect
     → Replied From tells before there session size a b old mid w0 w1 exchanges → HeadCame b c mid now (Ok (Some request)) → EndsByDisconnect result → Finishes tells there after session result → Served From tells before after size a c old now w0 w1 result
-served_goodbye From tells before there after session size a b c old mid now w0 w1 exchanges request result told same on room rises lacks is so_far head ends finishes =
+served_goodbye From tells before there after session size a b c old mid now w0 w1 exchanges request result told same on room rises lacks adds is so_far head ends finishes =
     let bye : IsGoodbye head.came now.ahead = (request, is, head.ends.1) in
     served_by From tells before there after session size a b c old mid now w0 w1 w1 exchanges head.came [] result so_far head.takes (Got-nothing w1) (goodbye_end size head.came now.ahead c result bye ends) (goodbye_limit result now.left ends) on room rises lacks
-    (λ entry from last held. goodbye_ends before.capacity size tells there after session head.came now.ahead last result (told entry from) same bye ends held finishes)
+    (λ entry from last held. goodbye_ends before.capacity size tells there after session head.came now.ahead last result (told entry from) same rises bye head.ends.0 ends adds held finishes)
 
 -- in a request: without its reply, or with a part of it
 pub served_halted : (From : Held → Type 0) (tells : Type 0) (before there after : Outside) (session : Session) (size : ℕ) (a b c d : Option (List ℕ)) (old mid read now : Room) (w0 w1 w2 : Option (List ℕ)) (exchanges : List Exchange) (request : Request) (halt : Halt)
@@ -334,9 +344,11 @@ served_halted From tells before there after session size a b c d old mid read no
     takes : Came b d mid now.left AwaitsRequest rest
     takes = whole_came b c d mid read now.left request (answered.gone ++ now.ahead) head answered.came
 
-    none : (h : Halt) → (h ≢ halts.Unfinished) → (h ≡ halts.Client stops.Limit → now.left ≡ 0) → w2 ≡ w1 → ServedEnd size rest [] d now.ahead (Err h) → IsLate h → h ≢ halts.Client stops.Sink → Halts tells there after session request.kind h → Served From tells before after size a d old now w0 w2 (Err h)
-    none h finished limit same_put ends late no_sink halts_so = served_by From tells before there after session size a b d old mid now w0 w1 w2 exchanges rest [] (Err h) so_far takes (subst (Got w1 []) (sym same_put) (Got-nothing w1)) ends limit on room rises (λ is. absurd (finished (halt_same h halts.Unfinished is)))
-        (λ entry from last held. halted_end before.capacity size there after rest now.ahead last request.kind h same (λ of. (request, answered.gone ++ now.ahead, of, refl)) late no_sink (halts_so (told entry from) last held))
+    none : (h : Halt) → (h ≢ halts.Unfinished) → (h ≡ halts.Client stops.Limit → now.left ≡ 0) → w2 ≡ w1 → ServedEnd size rest [] d now.ahead (Err h) → IsLate h → h ≢ halts.Client stops.Sink → Halts tells there after session request.kind h
+        → ((n : ℕ) → needed_by session ≤ 41 * n → after.head ≤ there.head + left_by h (needed_for size request n)) → Served From tells before after size a d old now w0 w2 (Err h)
+    none h finished limit same_put ends late no_sink halts_so adds = served_by From tells before there after session size a b d old mid now w0 w1 w2 exchanges rest [] (Err h) so_far takes (subst (Got w1 []) (sym same_put) (Got-nothing w1)) ends limit on room rises (λ is. absurd (finished (halt_same h halts.Unfinished is)))
+        (λ entry from last held. halted_end before.capacity size there after rest now.ahead last request.kind h same (λ of. (request, answered.gone ++ now.ahead, of, refl)) late no_sink
+        (added size there.head after.head rest (answered.gone ++ now.ahead) request last h head.ends.0 refl held.pages rises (adds last.updates held.needs)) (halts_so (told entry from) last held))
 
     by : (h : Halt) → (h ≡ halts.Client stops.Limit → now.left ≡ 0) → AnswerEnd tells there after session size request d answered.gone now.ahead w1 w2 (Err h) → Served From tells before after size a d old now w0 w2 (Err h)
     by (halts.Client stops.Sink) limit (whole, reply, is, part, turns, damage) =
@@ -347,17 +359,17 @@ served_halted From tells before there after session size a b c d old mid read no
         served_by From tells before there after session size a b d old mid now w0 w1 w2 exchanges rest (take part.0 (reply_bytes reply)) (Err (halts.Client stops.Sink)) so_far takes part.1 cut limit on room rises (λ is. absurd cc)
         (λ entry from last held.
         let turned = turns (told entry from) last held in
-        record { ahead = turned.next ∷ []; made = turned.made; is = (cut, turned.next, refl, subst (λ (n : ℕ). Turn n last sent reply turned.next) same turned.turn) })
-    by (halts.Client stops.Source) limit (same_put, short, may, halts_so) = none (halts.Client stops.Source) (λ e. cc) limit same_put (refl, head_awaits request (answered.gone ++ now.ahead) head.ends.0 short) tt (λ e. cc) halts_so
-    by (halts.Client stops.Limit) limit (same_put, short, may, halts_so) = none (halts.Client stops.Limit) (λ e. cc) limit same_put (refl, head_awaits request (answered.gone ++ now.ahead) head.ends.0 short) tt (λ e. cc) halts_so
-    by (halts.Client stops.Broken) limit (same_put, both, may, halts_so) = none (halts.Client stops.Broken) (λ e. cc) limit same_put (refl, inl (both.1, omega arith, head_awaits request (answered.gone ++ now.ahead) head.ends.0 both.0)) tt (λ e. cc) halts_so
-    by halts.Platform limit (same_put, ends, may, halts_so) = none halts.Platform (λ e. cc) limit same_put (refl, (request, answered.gone ++ now.ahead, may, tt, refl)) tt (λ e. cc) halts_so
-    by halts.Tape limit (same_put, ends, may, halts_so) = none halts.Tape (λ e. cc) limit same_put (refl, (request, answered.gone ++ now.ahead, may.0, may.1, refl)) tt (λ e. cc) halts_so
-    by halts.Ledger limit (same_put, ends, may, halts_so) = none halts.Ledger (λ e. cc) limit same_put (refl, (request, answered.gone ++ now.ahead, may.0, may.1, refl)) tt (λ e. cc) halts_so
-    by halts.Memory limit (same_put, ends, may, halts_so) = none halts.Memory (λ e. cc) limit same_put (refl, (request, answered.gone ++ now.ahead, may.0, may.1, refl)) tt (λ e. cc) halts_so
-    by halts.BadRoot limit (same_put, ends, may, halts_so) = absurd ends
-    by halts.NoDevice limit (same_put, ends, may, halts_so) = absurd ends
-    by halts.Unfinished limit (same_put, ends, may, halts_so) = absurd ends
+        record { ahead = turned.next ∷ []; made = turned.made; is = record { to = (cut, turned.next, refl, subst (λ (n : ℕ). Turn n last sent reply turned.next) same turned.turn); near = sym turned.pages } })
+    by (halts.Client stops.Source) limit (same_put, short, may, halts_so, adds) = none (halts.Client stops.Source) (λ e. cc) limit same_put (refl, head_awaits request (answered.gone ++ now.ahead) head.ends.0 short) tt (λ e. cc) halts_so adds
+    by (halts.Client stops.Limit) limit (same_put, short, may, halts_so, adds) = none (halts.Client stops.Limit) (λ e. cc) limit same_put (refl, head_awaits request (answered.gone ++ now.ahead) head.ends.0 short) tt (λ e. cc) halts_so adds
+    by (halts.Client stops.Broken) limit (same_put, both, may, halts_so, adds) = none (halts.Client stops.Broken) (λ e. cc) limit same_put (refl, inl (both.1, omega arith, head_awaits request (answered.gone ++ now.ahead) head.ends.0 both.0)) tt (λ e. cc) halts_so adds
+    by halts.Platform limit (same_put, ends, may, halts_so, adds) = none halts.Platform (λ e. cc) limit same_put (refl, (request, answered.gone ++ now.ahead, may, tt, refl)) tt (λ e. cc) halts_so adds
+    by halts.Tape limit (same_put, ends, may, halts_so, adds) = none halts.Tape (λ e. cc) limit same_put (refl, (request, answered.gone ++ now.ahead, may.0, may.1, refl)) tt (λ e. cc) halts_so adds
+    by halts.Ledger limit (same_put, ends, may, halts_so, adds) = none halts.Ledger (λ e. cc) limit same_put (refl, (request, answered.gone ++ now.ahead, may.0, may.1, refl)) tt (λ e. cc) halts_so adds
+    by halts.Memory limit (same_put, ends, may, halts_so, adds) = none halts.Memory (λ e. cc) limit same_put (refl, (request, answered.gone ++ now.ahead, may.0, may.1, refl)) tt (λ e. cc) halts_so adds
+    by halts.BadRoot limit (same_put, ends, may, halts_so, adds) = absurd ends
+    by halts.NoDevice limit (same_put, ends, may, halts_so, adds) = absurd ends
+    by halts.Unfinished limit (same_put, ends, may, halts_so, adds) = absurd ends
 
 -- ---- one request
 
@@ -380,18 +392,19 @@ flush_finished halt ends is = subst (DataEnd None 0 []) (halt_same halt halts.Un
 
 -- one that halted
 pub answer_halted : (tells : Type 0) (before after : Outside) (session : Session) (size : ℕ) (request : Request) (left : Option (List ℕ)) (gone ahead : List ℕ) (written : Option (List ℕ)) (halt : Halt) → DataEnd left (bytes_behind request.kind request.length) (gone ++ ahead) halt
-    → MayHalt request.kind (refusal size request) halt → Halts tells before after session request.kind halt → AnswerEnd tells before after session size request left gone ahead written written (Err halt)
-answer_halted tells before after session size request left gone ahead written (halts.Client stops.Source) ends may halts_so = (refl, ends, may, halts_so)
-answer_halted tells before after session size request left gone ahead written (halts.Client stops.Limit) ends may halts_so = (refl, ends, may, halts_so)
-answer_halted tells before after session size request left gone ahead written (halts.Client stops.Broken) ends may halts_so = (refl, ends, may, halts_so)
-answer_halted tells before after session size request left gone ahead written (halts.Client stops.Sink) ends may halts_so = absurd ends
-answer_halted tells before after session size request left gone ahead written halts.Platform ends may halts_so = (refl, ends, may, halts_so)
-answer_halted tells before after session size request left gone ahead written halts.Tape ends may halts_so = (refl, ends, may, halts_so)
-answer_halted tells before after session size request left gone ahead written halts.Ledger ends may halts_so = (refl, ends, may, halts_so)
-answer_halted tells before after session size request left gone ahead written halts.Memory ends may halts_so = (refl, ends, may, halts_so)
-answer_halted tells before after session size request left gone ahead written halts.BadRoot ends may halts_so = (refl, ends, may, halts_so)
-answer_halted tells before after session size request left gone ahead written halts.NoDevice ends may halts_so = (refl, ends, may, halts_so)
-answer_halted tells before after session size request left gone ahead written halts.Unfinished ends may halts_so = (refl, ends, may, halts_so)
+    → MayHalt request.kind (refusal size request) halt → Halts tells before after session request.kind halt
+    → ((n : ℕ) → needed_by session ≤ 41 * n → after.head ≤ before.head + left_by halt (needed_for size request n)) → AnswerEnd tells before after session size request left gone ahead written written (Err halt)
+answer_halted tells before after session size request left gone ahead written (halts.Client stops.Source) ends may halts_so adds = (refl, ends, may, halts_so, adds)
+answer_halted tells before after session size request left gone ahead written (halts.Client stops.Limit) ends may halts_so adds = (refl, ends, may, halts_so, adds)
+answer_halted tells before after session size request left gone ahead written (halts.Client stops.Broken) ends may halts_so adds = (refl, ends, may, halts_so, adds)
+answer_halted tells before after session size request left gone ahead written (halts.Client stops.Sink) ends may halts_so adds = absurd ends
+answer_halted tells before after session size request left gone ahead written halts.Platform ends may halts_so adds = (refl, ends, may, halts_so, adds)
+answer_halted tells before after session size request left gone ahead written halts.Tape ends may halts_so adds = (refl, ends, may, halts_so, adds)
+answer_halted tells before after session size request left gone ahead written halts.Ledger ends may halts_so adds = (refl, ends, may, halts_so, adds)
+answer_halted tells before after session size request left gone ahead written halts.Memory ends may halts_so adds = (refl, ends, may, halts_so, adds)
+answer_halted tells before after session size request left gone ahead written halts.BadRoot ends may halts_so adds = (refl, ends, may, halts_so, adds)
+answer_halted tells before after session size request left gone ahead written halts.NoDevice ends may halts_so adds = (refl, ends, may, halts_so, adds)
+answer_halted tells before after session size request left gone ahead written halts.Unfinished ends may halts_so adds = (refl, ends, may, halts_so, adds)
 
 reply_length : (kind : RequestKind) (count : ℕ) (outcome : Outcome) (room : List ℕ) → (kind ≡ kinds.Read → outcome ≡ outcomes.Done → 16 + count ≤ length room) → length (bytes_of_reply kind count outcome room) ≡ bytes_told kind outcome count
 reply_length kinds.Read count outcomes.Done room there = let long = there refl refl in omega (arith, long, length-take count (drop 16 room), length-drop 16 room)

@@ -86,7 +86,7 @@ blocks_spend size free n request refused session now outcome is few spends short
 -- ---- flushes
 
 flush_reply : {S R W : Type 0} (P : PlatformGhosts S) (platform platform_now : S) (tape tape_now : R) (ledger ledger_now : W) (session now : Session) (reply : CommitReply) → AnswersReply P platform platform_now tape tape_now ledger ledger_now session now reply
-    → FlushSpends (needed_by session) (P.capacity platform_now - P.head platform_now) now (commit_outcome reply)
+    → FlushSpends (needed_by session) (P.capacity platform_now - P.head platform_now) (P.head platform) (P.head platform_now) now (commit_outcome reply)
 flush_reply P platform platform_now tape tape_now ledger ledger_now session now (replies.Committed number) answers = record { only = inl refl; done = λ is. answers.needs; full = λ lack. absurd (done_no_space lack) }
 flush_reply P platform platform_now tape tape_now ledger ledger_now session now (replies.Full needed free) answers = record {
   only = inr refl;
@@ -94,24 +94,25 @@ flush_reply P platform platform_now tape tape_now ledger ledger_now session now 
   full = λ lack. (
     ap (λ (s : Session). needed_by s) answers.same.0,
     omega (arith, answers.short, answers.is_needed, answers.is_free, ap P.head answers.same.1, ap P.capacity answers.same.1),
+    ap P.head answers.same.1,
   );
 }
 
 pub flush_spent : {S R W : Type 0} (P : PlatformGhosts S) (platform platform_now : S) (tape tape_now : R) (ledger ledger_now : W) (session now : Session) (reply : CommitReply) (outcome : Outcome) → outcome ≡ commit_outcome reply
-    → AnswersReply P platform platform_now tape tape_now ledger ledger_now session now reply → FlushSpends (needed_by session) (P.capacity platform_now - P.head platform_now) now outcome
+    → AnswersReply P platform platform_now tape tape_now ledger ledger_now session now reply → FlushSpends (needed_by session) (P.capacity platform_now - P.head platform_now) (P.head platform) (P.head platform_now) now outcome
 flush_spent P platform platform_now tape tape_now ledger ledger_now session now reply outcome is answers =
-    subst (λ (o : Outcome). FlushSpends (needed_by session) (P.capacity platform_now - P.head platform_now) now o) (sym is) (flush_reply P platform platform_now tape tape_now ledger ledger_now session now reply answers)
+    subst (λ (o : Outcome). FlushSpends (needed_by session) (P.capacity platform_now - P.head platform_now) (P.head platform) (P.head platform_now) now o) (sym is) (flush_reply P platform platform_now tape tape_now ledger ledger_now session now reply answers)
 
-flush_needs : (needed free n blocks : ℕ) (now : Session) (outcome : Outcome) → needed ≤ 41 * n → FlushSpends needed free now outcome → needed_by now ≤ 41 * updates_with kinds.Flush outcome n blocks
-flush_needs needed free n blocks now outcomes.Done few spends = omega (arith, spends.done refl)
-flush_needs needed free n blocks now outcomes.NoSpace few spends = omega (arith, few, (spends.full refl).0)
-flush_needs needed free n blocks now outcomes.Damaged few spends = elim spends.only [ inl is ↦ absurd cc | inr is ↦ absurd cc ]
-flush_needs needed free n blocks now outcomes.NoMemory few spends = elim spends.only [ inl is ↦ absurd cc | inr is ↦ absurd cc ]
-flush_needs needed free n blocks now outcomes.Invalid few spends = elim spends.only [ inl is ↦ absurd cc | inr is ↦ absurd cc ]
+flush_needs : (needed free head head_now n blocks : ℕ) (now : Session) (outcome : Outcome) → needed ≤ 41 * n → FlushSpends needed free head head_now now outcome → needed_by now ≤ 41 * updates_with kinds.Flush outcome n blocks
+flush_needs needed free head head_now n blocks now outcomes.Done few spends = omega (arith, spends.done refl)
+flush_needs needed free head head_now n blocks now outcomes.NoSpace few spends = omega (arith, few, (spends.full refl).0)
+flush_needs needed free head head_now n blocks now outcomes.Damaged few spends = elim spends.only [ inl is ↦ absurd cc | inr is ↦ absurd cc ]
+flush_needs needed free head head_now n blocks now outcomes.NoMemory few spends = elim spends.only [ inl is ↦ absurd cc | inr is ↦ absurd cc ]
+flush_needs needed free head head_now n blocks now outcomes.Invalid few spends = elim spends.only [ inl is ↦ absurd cc | inr is ↦ absurd cc ]
 
-pub flush_spends : (size free n : ℕ) (request : Request) (session : Session) (result : Result Performed Halt) → request.kind ≡ kinds.Flush → refusal size request ≡ None → needed_by session ≤ 41 * n
-    → IfOk result (λ done. FlushSpends (needed_by session) free done.session done.outcome) → IfOk result (λ done. Spends size free n request done.session done.outcome)
-flush_spends size free n request session (Ok done) is whole few spends = record {
+pub flush_spends : (size free head head_now n : ℕ) (request : Request) (session : Session) (result : Result Performed Halt) → request.kind ≡ kinds.Flush → refusal size request ≡ None → needed_by session ≤ 41 * n
+    → IfOk result (λ done. FlushSpends (needed_by session) free head head_now done.session done.outcome) → IfOk result (λ done. Spends size free n request done.session done.outcome)
+flush_spends size free head head_now n request session (Ok done) is whole few spends = record {
   short = record {
     write = λ none write. absurd (let no : kinds.Flush ≡ kinds.Write = sym is ∙ write in cc);
     flush = λ none flush lack. omega (arith, few, (spends.full lack).1);
@@ -119,12 +120,12 @@ flush_spends size free n request session (Ok done) is whole few spends = record 
   needs =
       let blocks : ℕ = blocks_of_range request.kind request.offset request.length in
       subst (λ (r : Option Outcome). needed_by done.session ≤ 41 * updates_unless r request.kind done.outcome n blocks) (sym whole)
-      (subst (λ (k : RequestKind). needed_by done.session ≤ 41 * updates_with k done.outcome n blocks) (sym is) (flush_needs (needed_by session) free n blocks done.session done.outcome few spends));
+      (subst (λ (k : RequestKind). needed_by done.session ≤ 41 * updates_with k done.outcome n blocks) (sym is) (flush_needs (needed_by session) free head head_now n blocks done.session done.outcome few spends));
 }
-flush_spends size free n request session (Err halt) is whole few spends = tt
+flush_spends size free head head_now n request session (Err halt) is whole few spends = tt
 
-pub not_done : (needed free : ℕ) (now : Session) (outcome : Outcome) → (outcome ≡ outcomes.Done → ⊥) → FlushSpends needed free now outcome → free < needed
-not_done needed free now outcome other spends = elim spends.only [ inl is ↦ absurd (other is) | inr is ↦ (spends.full is).1 ]
+pub not_done : (needed free head head_now : ℕ) (now : Session) (outcome : Outcome) → (outcome ≡ outcomes.Done → ⊥) → FlushSpends needed free head head_now now outcome → (free < needed) × (head_now ≡ head)
+not_done needed free head head_now now outcome other spends = elim spends.only [ inl is ↦ absurd (other is) | inr is ↦ ((spends.full is).1, (spends.full is).2) ]
 
 -- ---- one after another
 

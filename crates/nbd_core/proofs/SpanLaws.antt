@@ -12,7 +12,7 @@ use Rattle.device_course.specs.Held.{Held, state_of}
 use Rattle.nbd_core.specs.Ample.{HasRoom}
 use Rattle.nbd_core.specs.Haggling.{Haggled}
 use Rattle.nbd_core.specs.Exchanges.{sent_of, told_of}
-use Rattle.nbd_core.specs.Served.{IsAhead, Served}
+use Rattle.nbd_core.specs.Served.{EndsFrom, IsAhead, Served}
 use Rattle.nbd_core.specs.Turns.{IsFrom, IsStart, Stayed}
 use Rattle.nbd_core.specs.declared.haggling.Agreed.TheVariants as agreed
 use Rattle.nbd_core.specs.declared.haggling.Agreed.{Agreed}
@@ -110,10 +110,13 @@ conversed_of From tells before after size other left left_then left_now written 
 abbrev pub Since : (Held → Type 0) → (Held → Type 0) → Outside → Outside → Type 0
 Since Earlier From first second = (entry : Held) → Earlier entry → From entry × MadeBetween first.history second.history entry.device [] entry.device
 
-stayed_since : (Earlier From : Held → Type 0) (first second third : Outside) → Since Earlier From first second → Stayed From second.history third.history → Stayed Earlier first.history third.history
-stayed_since Earlier From first second third since stayed entry early =
-    let s = since entry early in
-    made_since first.history second.history third.history entry.device entry.device [] s.1 (stayed entry s.0)
+stayed_since : (Earlier From : Held → Type 0) (first second third : Outside) → second.head ≡ first.head → Since Earlier From first second → Stayed From second third → Stayed Earlier first third
+stayed_since Earlier From first second third head since stayed = record {
+  pages = stayed.pages ∙ head;
+  made = λ entry early.
+      let s = since entry early in
+      made_since first.history second.history third.history entry.device entry.device [] s.1 (stayed.made entry s.0);
+}
 
 served_since : (Earlier From : Held → Type 0) (tells : Type 0) (first second third : Outside) (size : ℕ) (left left_now : Option (List ℕ)) (old new : Room) (written written_now : Option (List ℕ)) (result : Result (Unit {0}) Halt) → second.capacity ≡ first.capacity → (tells → Extends first.history second.history) → Since Earlier From first second
     → Served From tells second third size left left_now old new written written_now result → Served Earlier tells first third size left left_now old new written written_now result
@@ -132,23 +135,23 @@ served_since Earlier From tells first second third size left left_now old new wr
   limit = served.limit;
   led = λ entry early.
       let s = since entry early in
-      array_since first second third entry (map sent_of served.exchanges) (map told_of served.exchanges) (IsAhead second.capacity size served.rest new.ahead served.part result) (IsAhead first.capacity size served.rest new.ahead served.part result) same
-      (λ last ahead is. subst (λ (n : ℕ). IsAhead n size served.rest new.ahead served.part result last ahead) same is) s.1 (served.led entry s.0);
+      array_since first second third entry (map sent_of served.exchanges) (map told_of served.exchanges) (EndsFrom second.capacity size served.rest new.ahead served.part third.head result) (EndsFrom first.capacity size served.rest new.ahead served.part third.head result) same
+      (λ last ahead is. record { to = subst (λ (n : ℕ). IsAhead n size served.rest new.ahead served.part result last ahead) same is.to; near = is.near }) s.1 (served.led entry s.0);
   damage = λ told k d below. λ damaged. damage_since first.history second.history third.history (extends told) (served.damage told k d below damaged);
   short = served.short;
   unfinished = served.unfinished;
   complete = λ entry early is room. served.complete entry (since entry early).0 is (subst (λ (n : ℕ). HasRoom n size entry served.exchanges) (sym same) room);
 }
 
-goes_since : (Earlier From : Held → Type 0) (tells : Type 0) (first second third : Outside) (size : ℕ) (result_of : Result Agreed Stop) (room : Room) (left left_now written written_now : Option (List ℕ)) (result : Result (Unit {0}) Halt) → second.capacity ≡ first.capacity → (tells → Extends first.history second.history) → Since Earlier From first second
+goes_since : (Earlier From : Held → Type 0) (tells : Type 0) (first second third : Outside) (size : ℕ) (result_of : Result Agreed Stop) (room : Room) (left left_now written written_now : Option (List ℕ)) (result : Result (Unit {0}) Halt) → second.capacity ≡ first.capacity → second.head ≡ first.head → (tells → Extends first.history second.history) → Since Earlier From first second
     → GoesOn From tells second third size result_of room left left_now written written_now result → GoesOn Earlier tells first third size result_of room left left_now written written_now result
-goes_since Earlier From tells first second third size (Ok agreed.Requests) room left left_now written written_now result same extends since (last, served) = (last, served_since Earlier From tells first second third size left left_now room last written written_now result same extends since served)
-goes_since Earlier From tells first second third size (Ok agreed.Nothing) room left left_now written written_now result same extends since (a, b, c, stayed) = (a, b, c, stayed_since Earlier From first second third since stayed)
-goes_since Earlier From tells first second third size (Err stop) room left left_now written written_now result same extends since (a, b, c, stayed) = (a, b, c, stayed_since Earlier From first second third since stayed)
+goes_since Earlier From tells first second third size (Ok agreed.Requests) room left left_now written written_now result same head extends since (last, served) = (last, served_since Earlier From tells first second third size left left_now room last written written_now result same extends since served)
+goes_since Earlier From tells first second third size (Ok agreed.Nothing) room left left_now written written_now result same head extends since (a, b, c, stayed) = (a, b, c, stayed_since Earlier From first second third head since stayed)
+goes_since Earlier From tells first second third size (Err stop) room left left_now written written_now result same head extends since (a, b, c, stayed) = (a, b, c, stayed_since Earlier From first second third head since stayed)
 
-pub conversed_since : (Earlier From : Held → Type 0) (tells : Type 0) (first second third : Outside) (size : ℕ) (left left_now written written_now : Option (List ℕ)) (result : Result (Unit {0}) Halt) → second.capacity ≡ first.capacity → (tells → Extends first.history second.history) → Since Earlier From first second
+pub conversed_since : (Earlier From : Held → Type 0) (tells : Type 0) (first second third : Outside) (size : ℕ) (left left_now written written_now : Option (List ℕ)) (result : Result (Unit {0}) Halt) → second.capacity ≡ first.capacity → second.head ≡ first.head → (tells → Extends first.history second.history) → Since Earlier From first second
     → Conversed From tells second third size left left_now written written_now result → Conversed Earlier tells first third size left left_now written written_now result
-conversed_since Earlier From tells first second third size left left_now written written_now result same extends since conversed = record {
+conversed_since Earlier From tells first second third size left left_now written written_now result same head extends since conversed = record {
   first = conversed.first;
   room = conversed.room;
   fresh = conversed.fresh;
@@ -157,25 +160,25 @@ conversed_since Earlier From tells first second third size left left_now written
   agreed = conversed.agreed;
   haggled = conversed.haggled;
   limit = conversed.limit;
-  goes_on = goes_since Earlier From tells first second third size conversed.agreed conversed.room conversed.left_then left_now conversed.written_then written_now result same extends since conversed.goes_on;
+  goes_on = goes_since Earlier From tells first second third size conversed.agreed conversed.room conversed.left_then left_now conversed.written_then written_now result same head extends since conversed.goes_on;
 }
 
-pub silent_since : (Earlier From : Held → Type 0) (first second third : Outside) (left left_now written written_now : Option (List ℕ)) (result : Result (Unit {0}) Halt) → Since Earlier From first second
+pub silent_since : (Earlier From : Held → Type 0) (first second third : Outside) (left left_now written written_now : Option (List ℕ)) (result : Result (Unit {0}) Halt) → second.head ≡ first.head → Since Earlier From first second
     → IsSilent From second third left left_now written written_now result → IsSilent Earlier first third left left_now written written_now result
-silent_since Earlier From first second third left left_now written written_now result since silent = record {
+silent_since Earlier From first second third left left_now written written_now result head since silent = record {
   untaken = silent.untaken;
   unput = silent.unput;
   early = silent.early;
-  stayed = stayed_since Earlier From first second third since silent.stayed;
+  stayed = stayed_since Earlier From first second third head since silent.stayed;
 }
 
 -- a run that only looks says nothing
-pub silent_look : (tells : Type 0) (old new : Outside) (left written : Option (List ℕ)) (result : Result (Unit {0}) Halt) → IsEarly result → (tells → CellStays old.history new.history) → IsSilent (IsStart tells old) old new left left written written result
-silent_look tells old new left written result early stays = record {
+pub silent_look : (tells : Type 0) (old new : Outside) (left written : Option (List ℕ)) (result : Result (Unit {0}) Halt) → IsEarly result → new.head ≡ old.head → (tells → CellStays old.history new.history) → IsSilent (IsStart tells old) old new left left written written result
+silent_look tells old new left written result early head stays = record {
   untaken = refl;
   unput = refl;
   early = early;
-  stayed = λ entry start. made_kept old.history new.history entry.device start.stands start.served (stays start.told);
+  stayed = record { pages = head; made = λ entry start. made_kept old.history new.history entry.device start.stands start.served (stays start.told) };
 }
 
 pub early_mount : (tells : Type 0) (cell : Option (List ℕ)) (pages : ℕ) (stop : DeviceStop) (halt : Halt) → IsMountStop tells cell pages stop → halt ≡ mount_halt stop → IsEarly (Err halt)
@@ -246,11 +249,11 @@ talks_mounted P T L platform platform_now tape ledger after session result left 
     let mid : Outside = around P T L platform_now tape ledger in
     let since : Since (IsStart P.tells old) (IsFrom P.tells mid session) old mid = since_mount P platform platform_now old mid session result is refl refl refl refl looks finds leads in
     elim says [
-      | inl silent ↦ inl (silent_since (IsStart P.tells old) (IsFrom P.tells mid session) old mid after left left_now written written_now ending since silent)
+      | inl silent ↦ inl (silent_since (IsStart P.tells old) (IsFrom P.tells mid session) old mid after left left_now written written_now ending looks.head since silent)
       | inr conversed ↦ inr record {
         size = 4096 * blocks_of session;
         is = blocks_found P platform platform_now session result is finds;
-        conversed = conversed_since (IsStart P.tells old) (IsFrom P.tells mid session) P.tells old mid after (4096 * blocks_of session) left left_now written written_now ending looks.capacity (λ told. (looks.time told).extends) since conversed;
+        conversed = conversed_since (IsStart P.tells old) (IsFrom P.tells mid session) P.tells old mid after (4096 * blocks_of session) left left_now written written_now ending looks.capacity looks.head (λ told. (looks.time told).extends) since conversed;
       }
     ]
 
@@ -259,10 +262,10 @@ pub talks_looked : (tells : Type 0) (old mid after : Outside) (left left_now wri
 talks_looked tells old mid after left left_now written written_now ending head capacity same stays talks =
     let since : Since (IsStart tells old) (IsStart tells mid) old mid = since_look tells old mid head same stays in
     elim talks [
-      | inl silent ↦ inl (silent_since (IsStart tells old) (IsStart tells mid) old mid after left left_now written written_now ending since silent)
+      | inl silent ↦ inl (silent_since (IsStart tells old) (IsStart tells mid) old mid after left left_now written written_now ending head since silent)
       | inr there ↦ inr record {
         size = there.size;
         is = λ told device stands. there.is told device (subst (λ (i : Image). Stands i (Some device)) (sym (same told)) stands);
-        conversed = conversed_since (IsStart tells old) (IsStart tells mid) tells old mid after there.size left left_now written written_now ending capacity (λ told. (stays told).extends) since there.conversed;
+        conversed = conversed_since (IsStart tells old) (IsStart tells mid) tells old mid after there.size left left_now written written_now ending capacity head (λ told. (stays told).extends) since there.conversed;
       }
     ]

@@ -310,7 +310,7 @@ commit_halted P T L platform platform_now tape tape_now ledger ledger_now sessio
 -- ---- a disconnect
 
 pub flush_ended : (old new : Outside) (now : Session) (entry : Held) (outcome : Outcome) → outcome ≡ outcomes.Done → FlushedTo old new now outcome entry → Ended old new entry
-flush_ended old new now entry outcome is flushed = record { next = flushed.next; is = subst (λ (o : Outcome). Flushes (old.capacity - entry.pages) entry o flushed.next) is flushed.is; made = flushed.made }
+flush_ended old new now entry outcome is flushed = record { next = flushed.next; pages = flushed.held.pages; is = subst (λ (o : Outcome). Flushes (old.capacity - entry.pages) entry o flushed.next) is flushed.is; made = flushed.made }
 
 -- too few pages are free for it
 pub flush_unfinished : (old new : Outside) (now : Session) (entry : Held) (outcome : Outcome) → (outcome ≡ outcomes.Done → ⊥) → FlushedTo old new now outcome entry → Halted old new entry kinds.Disconnect halts.Unfinished
@@ -357,6 +357,7 @@ flush_turned old new now entry request outcome gone room is whole flushed =
     let serves : Serves free request.kind entry sent outcome bytes flushed.next = subst (λ (k : RequestKind). Serves free k entry sent outcome bytes flushed.next) (sym is) (none, flushed.is) in
     record {
       next = flushed.next;
+      pages = flushed.held.pages;
       held = flushed.held;
       turn = record { cookie = refl; answers = subst (λ (o : Option Outcome). Answers free o entry sent outcome bytes flushed.next) (sym whole) serves };
       made = flushed.made;
@@ -372,6 +373,7 @@ blocks_turned old new session now entry request outcome refused gone room held i
     made_again old.history new.history entry.device (made_kept old.history new.history entry.device held.at.there.device held.at.served stays) in
     record {
       next = next;
+      pages = at.pages;
       held = at;
       turn = record { cookie = refl; answers = subst (λ (o : Option Outcome). Answers (old.capacity - entry.pages) o entry (record { head = request; bytes = gone }) outcome (bytes_of_reply request.kind request.length outcome room) next) is answers };
       made = subst (λ (d : Device). MadeBetween old.history new.history entry.device (Some d ∷ []) d) (sym same) again;
@@ -397,7 +399,7 @@ blocks_halted old new session entry kind left count came halt held ends stays = 
 
 -- and the session is given up
 pub turned_last : (old new : Outside) (session : Session) (entry : Held) (sent : RequestSent) (reply : Reply) → Turned old new (Some session) entry sent reply → Turned old new None entry sent reply
-turned_last old new session entry sent reply turned = record { next = turned.next; held = tt; turn = turned.turn; made = turned.made }
+turned_last old new session entry sent reply turned = record { next = turned.next; pages = turned.pages; held = tt; turn = turned.turn; made = turned.made }
 
 pub flush_performed : (tells : Type 0) (old new : Outside) (session : Session) (request : Request) (room : List ℕ) (result : Result Performed Halt) → request.kind ≡ kinds.Flush → refusal (4096 * blocks_of session) request ≡ None → Flushed tells old new session result
     → Performs tells old new session (record { head = request; bytes = [] }) room result

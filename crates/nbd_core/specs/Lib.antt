@@ -10,6 +10,7 @@ pub mod Exchanges
 pub mod Damages
 pub mod Ample
 pub mod Short
+pub mod Near
 pub mod Served
 pub mod Arrays
 pub mod Running

@@ -83,8 +83,8 @@ pub record IsOnCell (image : Image) : Type 0 where
 -- how a run goes on behind the options: with requests, or not at all
 abbrev pub GoesOn : (Held → Type 0) → Type 0 → Outside → Outside → ℕ → Result Agreed Stop → Room → Option (List ℕ) → Option (List ℕ) → Option (List ℕ) → Option (List ℕ) → Result (Unit {0}) Halt → Type 0
 GoesOn From tells before after size (Ok agreed.Requests) room left left_now written written_now result = (last : Room) × Served From tells before after size left left_now room last written written_now result
-GoesOn From tells before after size (Ok agreed.Nothing) room left left_now written written_now result = (left_now ≡ left) × (written_now ≡ written) × (result ≡ Ok tt) × Stayed From before.history after.history
-GoesOn From tells before after size (Err stop) room left left_now written written_now result = (left_now ≡ left) × (written_now ≡ written) × (result ≡ Err (halts.Client stop)) × Stayed From before.history after.history
+GoesOn From tells before after size (Ok agreed.Nothing) room left left_now written written_now result = (left_now ≡ left) × (written_now ≡ written) × (result ≡ Ok tt) × Stayed From before after
+GoesOn From tells before after size (Err stop) room left left_now written written_now result = (left_now ≡ left) × (written_now ≡ written) × (result ≡ Err (halts.Client stop)) × Stayed From before after
 
 -- what is said on a device of so many bytes: with nothing taken yet the greeting and the answers to
 -- options, and what goes on from there
@@ -115,7 +115,7 @@ pub record IsSilent (From : Held → Type 0) (before after : Outside) (left left
   pub untaken : left_now ≡ left
   pub unput : written_now ≡ written
   pub early : IsEarly result
-  pub stayed : Stayed From before.history after.history
+  pub stayed : Stayed From before after
 
 -- a run says nothing, or has such a talk
 abbrev pub Says : (Held → Type 0) → Type 0 → Outside → Outside → ℕ → Option (List ℕ) → Option (List ℕ) → Option (List ℕ) → Option (List ℕ) → Result (Unit {0}) Halt → Type 0

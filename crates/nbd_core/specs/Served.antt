@@ -1,5 +1,5 @@
 -- Requests that came, and their replies, on any image.
-use Rattle.std.specs.Prelude.{◌≡◌, ◌≢◌, ◌≤◌, ◌<◌, ◌-◌, ◌*◌, ◌⊎◌, ℕ, List, [], ◌∷◌, ◌++◌, All, Option, None, Some, Result, Ok, Err, IfErr, length, map, take}
+use Rattle.std.specs.Prelude.{◌≡◌, ◌≢◌, ◌≤◌, ◌<◌, ◌+◌, ◌-◌, ◌*◌, ◌⊎◌, ℕ, List, [], ◌∷◌, ◌++◌, All, Option, None, Some, Result, Ok, Err, IfErr, length, map, take}
 use Rattle.std.specs.List.{flat_map}
 use Rattle.sdbt_base.specs.Told.{Got, GotPart, IsAtEnd}
 use Rattle.device_course.specs.States.{Outside}
@@ -22,6 +22,7 @@ use Rattle.nbd_core.specs.Exchanges.{Exchange, sent_of, told_of}
 use Rattle.nbd_core.specs.Room.{Room, Came, IsShorter}
 use Rattle.nbd_core.specs.Requests.{AwaitsRequest, IsBrokenRequest, DataEnd}
 use Rattle.nbd_core.specs.Short.{AreShort, Spends, updates_in}
+use Rattle.nbd_core.specs.Near.{IsNear, left_by, needed_for}
 use Rattle.nbd_core.specs.Turns.{Turns, Halts, BeginsWith, ComesTo, DrawsKeys, IsOfCommit, MayHalt, OnArray}
 use Rattle.nbd_core.specs.declared.stop.Stop.TheVariants as stops
 use Rattle.nbd_core.specs.declared.halts.Halt.{Halt}
@@ -40,7 +41,7 @@ pub record IsReplyTo (size : ℕ) (request : Request) (reply : Reply) : Type 0 w
   pub bytes : length reply.bytes ≡ bytes_told request.kind reply.outcome request.length
 
 -- how a request ended of which these bytes came behind its head: its reply was put, or a part of it;
--- or none was
+-- or none was, and at most those pages were added that it needs
 abbrev pub AnswerEnd : Type 0 → Outside → Outside → Session → ℕ → Request → Option (List ℕ) → List ℕ → List ℕ → Option (List ℕ) → Option (List ℕ) → Result Session Halt → Type 0
 AnswerEnd tells before after session size request left gone ahead written written_now (Ok next) =
     (length gone ≡ bytes_behind request.kind request.length) × (reply : Reply) × IsReplyTo size request reply × Got written (reply_bytes reply) written_now
@@ -51,7 +52,7 @@ AnswerEnd tells before after session size request left gone ahead written writte
     × Turns tells before after session None (record { head = request; bytes = gone }) reply × (tells → IsDamage after.history.present reply.outcome)
 AnswerEnd tells before after session size request left gone ahead written written_now (Err halt) =
     (written_now ≡ written) × DataEnd left (bytes_behind request.kind request.length) (gone ++ ahead) halt × MayHalt request.kind (refusal size request) halt
-    × Halts tells before after session request.kind halt
+    × Halts tells before after session request.kind halt × ((n : ℕ) → needed_by session ≤ 41 * n → after.head ≤ before.head + left_by halt (needed_for size request n))
 
 pub record Answered (tells : Type 0) (before after : Outside) (session : Session) (size : ℕ) (request : Request) (left left_now : Option (List ℕ)) (old new : Room) (written written_now : Option (List ℕ)) (result : Result Session Halt) : Type 0 where
   pub gone : List ℕ
@@ -123,6 +124,11 @@ IsAhead capacity size rest tail part (Err halts.Memory) last ahead = ahead ≡ [
 IsAhead capacity size rest tail part (Err halts.BadRoot) last ahead = ⊥
 IsAhead capacity size rest tail part (Err halts.NoDevice) last ahead = ⊥
 
+-- how a run goes on to its end from the last of its states: to what lies ahead, and to so many pages
+pub record EndsFrom (capacity size : ℕ) (rest tail part : List ℕ) (now : ℕ) (result : Result (Unit {0}) Halt) (last : Held) (ahead : List Held) : Type 0 where
+  pub to : IsAhead capacity size rest tail part result last ahead
+  pub near : IsNear size rest result now last ahead
+
 -- requests that came, and the replies that were put, one for each in their order. From each state that
 -- the run may have begun from the replies are those of the array, and each moment of the run has one
 -- of the devices that they lead through; and with enough pages free each request is done. A reply that
@@ -141,7 +147,7 @@ pub record Served (From : Held → Type 0) (tells : Type 0) (before after : Outs
   pub replied : put ≡ flat_map replied_bytes exchanges ++ part
   pub ends : ServedEnd size rest part left_now new.ahead result
   pub limit : IfErr result (λ halt. halt ≡ halts.Client stops.Limit → new.left ≡ 0)
-  pub led : (entry : Held) → From entry → OnArray before after entry (map sent_of exchanges) (map told_of exchanges) (IsAhead before.capacity size rest new.ahead part result)
+  pub led : (entry : Held) → From entry → OnArray before after entry (map sent_of exchanges) (map told_of exchanges) (EndsFrom before.capacity size rest new.ahead part after.head result)
   pub damage : tells → All (HasMetDamage before.history after.history) exchanges
   pub short : AreShort size (after.capacity - after.head) 0 exchanges
   pub unfinished : result ≡ Err halts.Unfinished → after.capacity - after.head < 41 * updates_in size 0 exchanges

@@ -56,8 +56,8 @@ pub record Spends (size free n : ℕ) (request : Request) (now : Session) (outco
   pub short : IsShort size free n request outcome
   pub needs : needed_by now ≤ 41 * updates_by size n request outcome
 
--- what a flush did to them, of which so many were needed
-pub record FlushSpends (needed free : ℕ) (now : Session) (outcome : Outcome) : Type 0 where
+-- what a flush did to them, of which so many were needed; it adds none where too few are free
+pub record FlushSpends (needed free head head_now : ℕ) (now : Session) (outcome : Outcome) : Type 0 where
   pub only : (outcome ≡ outcomes.Done) ⊎ (outcome ≡ outcomes.NoSpace)
   pub done : outcome ≡ outcomes.Done → needed_by now ≡ 0
-  pub full : outcome ≡ outcomes.NoSpace → (needed_by now ≡ needed) × (free < needed)
+  pub full : outcome ≡ outcomes.NoSpace → (needed_by now ≡ needed) × (free < needed) × (head_now ≡ head)

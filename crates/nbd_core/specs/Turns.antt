@@ -2,7 +2,6 @@
 use Rattle.std.specs.Prelude.{◌≡◌, ◌⊎◌, ◌-◌, ℕ, List, [], ◌∷◌, ◌++◌, Option, None, Some, Result, Ok, Err, IfOk, IfSome}
 use Rattle.sdbt_base.specs.Arrays.{session_on}
 use Rattle.platform.specs.declared.platforms.Platform.{Ghosts as PlatformGhosts}
-use Rattle.platform.specs.History.{History}
 use Rattle.page_store.specs.Stands.{Stands}
 use Rattle.device_terms.specs.Served.{IsServedImage}
 use Rattle.device_course.specs.Course.{MadeBetween}
@@ -31,10 +30,11 @@ LeadsOn P platform platform_now session now Does result =
     P.tells → (entry : Held) → IsHeld (P.history platform).present (P.head platform) session entry
     → IfOk result (λ outcome. (next : Held) × IsHeld (P.history platform_now).present (P.head platform_now) now next × (next.device ≡ entry.device) × Does outcome entry next)
 
--- a request with its reply, from this state: it led to another, for which the session stands with
--- which the run goes on, and the device came to be the one of that state
+-- a request with its reply, from this state: it led to another, with as many pages as there are, for
+-- which the session stands with which the run goes on; and the device came to be the one of that state
 pub record Turned (old new : Outside) (after : Option Session) (entry : Held) (sent : RequestSent) (reply : Reply) : Type 0 where
   pub next : Held
+  pub pages : next.pages ≡ new.head
   pub held : IfSome after (λ now. IsHeld new.history.present new.head now next)
   pub turn : Turn old.capacity entry sent reply next
   pub made : MadeBetween old.history new.history entry.device (Some next.device ∷ []) next.device
@@ -148,6 +148,7 @@ Flushed tells old new session (Err halt) = Halts tells old new session kinds.Flu
 -- a disconnect: its commit was done, or it halted the run
 pub record Ended (old new : Outside) (entry : Held) : Type 0 where
   pub next : Held
+  pub pages : next.pages ≡ new.head
   pub is : Ends old.capacity entry next
   pub made : MadeBetween old.history new.history entry.device (Some next.device ∷ []) next.device
 
@@ -162,9 +163,10 @@ pub record OnArray (old new : Outside) (entry : Held) (asked : List RequestSent)
   pub led : Led (Turn old.capacity) device_of (MadeBetween old.history new.history) entry asked replies ahead
   pub ends : IsEnd (last_of entry led.states) ahead
 
--- from each of these states the device stayed
-abbrev pub Stayed : (Held → Type 0) → History → History → Type 0
-Stayed From old new = (entry : Held) → From entry → MadeBetween old new entry.device [] entry.device
+-- no page was added, and from each of these states the device stayed
+pub record Stayed (From : Held → Type 0) (old new : Outside) : Type 0 where
+  pub pages : new.head ≡ old.head
+  pub made : (entry : Held) → From entry → MadeBetween old.history new.history entry.device [] entry.device
 
 -- the device that the image stands for, with a session just mounted on it
 pub record IsStart (tells : Type 0) (here : Outside) (held : Held) : Type 0 where

@@ -3,6 +3,7 @@ ghost use Rattle.std.specs.Prelude.{◌≡◌, ◌≢◌, ◌+◌, ◌-◌, ◌*
 ghost use Rattle.session_calls.specs.Damage.{IsMounted};
 ghost use Rattle.nbd_core.specs.Ample.{blocks_of_range, unless_refused};
 ghost use Rattle.nbd_core.specs.Damages.{IsDamage, TellsDamage};
+ghost use Rattle.nbd_core.specs.Near.{left_by, needed_at, needed_for};
 ghost use Rattle.nbd_core.specs.Short.{FlushSpends, Spends};
 ghost use Rattle.nbd_core.specs.Stops.{TellsPut};
 ghost use Rattle.sdbt_base.specs.Told.{Got, GotPart};
@@ -224,6 +225,9 @@ fn perform<P: Platform, T: Tape, I: Source, L: Sink>(
     ensures halted { IfErr result (MayHalt request.now.kind (refusal (4096 * blocks_of first) request.now)) }
     ensures damage { P.tells → IfOk result
         (λ done. IsDamage (P.history platform.new).present done.outcome) }
+    ensures adds { (n : ℕ) → needed_by first ≤ 41 * n → IfErr result
+        (λ halt. P.head platform.new ≤ P.head platform.old
+        + left_by halt (needed_for (4096 * blocks_of first) request.now n)) }
     ensures spends { (n : ℕ) → needed_by first ≤ 41 * n → IfOk result
         (λ done. Spends (4096 * blocks_of first) (P.capacity platform.new - P.head platform.new) n
         request.now done.session done.outcome) }
@@ -286,6 +290,8 @@ fn serve_blocks<P: Platform, T: Tape, I: Source>(
     ensures room { IfOk result (λ outcome. request.now.kind ≡ RequestKind.Read → outcome ≡ Outcome.Done
         → 16 + request.now.length ≤ length desk.new.reply.items) }
     ensures ends { IsByHead request.now.kind refused result }
+    ensures adds { P.head platform.new ≤ P.head platform.old
+        + unless_refused refused (needed_at request.now.kind 0 request.now.offset request.now.length) }
     ensures damage { P.tells → IsMounted (P.history platform.old).present session.old
         → TellsDamage (P.history platform.new).present result }
     ensures short { IfOk result (λ outcome. refused ≡ None → request.now.kind ≡ RequestKind.Write
@@ -342,8 +348,11 @@ fn flush<P: Platform, T: Tape, L: Sink>(
         (around P.Platform T.Tape L.Sink platform.new tape.new ledger.new) session result }
     ensures sound { IfOk result (λ done. done.outcome ≢ Outcome.Damaged) }
     ensures comes { IfOk result (λ done. MayCome RequestKind.Flush done.outcome) }
+    ensures adds { IfErr result (λ halt. P.head platform.new ≤ P.head platform.old
+        + left_by halt (needed_by session)) }
     ensures spends { IfOk result (λ done. FlushSpends (needed_by session)
-        (P.capacity platform.new - P.head platform.new) done.session done.outcome) }
+        (P.capacity platform.new - P.head platform.new) (P.head platform.old)
+        (P.head platform.new) done.session done.outcome) }
 {
     match commit_session(session, platform, tape, ledger) {
         Ok(done) => Ok(Performed {
@@ -382,6 +391,8 @@ fn finish<P: Platform, T: Tape, L: Sink>(
     ensures ends { EndsByDisconnect result }
     ensures short { result ≡ Err Halt.Unfinished
         → P.capacity platform.new - P.head platform.new < needed_by session }
+    ensures adds { IfErr result (λ halt. P.head platform.new ≤ P.head platform.old
+        + left_by halt (needed_by session)) }
     ensures finishes { Finishes P.tells
         (around P.Platform T.Tape L.Sink platform.old tape.old ledger.old)
         (around P.Platform T.Tape L.Sink platform.new tape.new ledger.new) session result }

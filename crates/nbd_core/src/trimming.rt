@@ -32,6 +32,7 @@ pub(crate) fn trim<P: Platform>(
     ensures blame { (rest : Counts)
         → Blames (record rest { platform = P.faults platform.old })
         (record rest { platform = P.faults platform.new }) result }
+    ensures head { P.head platform.new ≡ P.head platform.old }
     ensures halts { IfErr result (λ halt. halt ≡ Halt.Platform) }
     ensures comes { IfOk result (MayCome RequestKind.Trim) }
     ensures leads { LeadsOn P.Platform platform.old platform.new session.old session.new

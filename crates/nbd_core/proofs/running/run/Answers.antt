@@ -27,9 +27,9 @@ returns-clause-talks g c =
 pub returns-in-Ok-None-clause-talks : goal.returns-in-Ok-None-clause-talks
 returns-in-Ok-None-clause-talks g c =
     let e = c.check_cell.ensures in
-    inl (silent_look _ _ _ _ _ _ tt (λ told. one_look _ _ (e.time told) (e.image told)))
+    inl (silent_look _ _ _ _ _ _ tt e.head (λ told. one_look _ _ (e.time told) (e.image told)))
 
 pub returns-in-Err-clause-talks : goal.returns-in-Err-clause-talks
 returns-in-Err-clause-talks g c =
     let e = c.check_cell.ensures in
-    inl (silent_look _ _ _ _ _ _ (early_look c.in-Err.stop _ c.in-Err.ensures.stops c.after_look.ensures) (λ told. one_look _ _ (e.time told) (e.image told)))
+    inl (silent_look _ _ _ _ _ _ (early_look c.in-Err.stop _ c.in-Err.ensures.stops c.after_look.ensures) e.head (λ told. one_look _ _ (e.time told) (e.image told)))

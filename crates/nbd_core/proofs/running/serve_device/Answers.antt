@@ -26,10 +26,10 @@ returns-in-Err-clause-spans g c =
     spans_look _ _ _ _ refl refl looks.head looks.capacity (g.met.P.Platform.has_room c.mount_session.new.platform) looks.image looks.time
 
 pub returns-in-Ok-None-clause-talks : goal.returns-in-Ok-None-clause-talks
-returns-in-Ok-None-clause-talks g c = inl (silent_look _ _ _ _ _ _ tt c.mount_session.ensures.looks.time)
+returns-in-Ok-None-clause-talks g c = inl (silent_look _ _ _ _ _ _ tt c.mount_session.ensures.looks.head c.mount_session.ensures.looks.time)
 
 pub returns-in-Err-clause-talks : goal.returns-in-Err-clause-talks
-returns-in-Err-clause-talks g c = inl (silent_look _ _ _ _ _ _ (early_mount _ _ _ c.in-Err.stop _ c.in-Err.ensures.stops c.after_mount.ensures) c.mount_session.ensures.looks.time)
+returns-in-Err-clause-talks g c = inl (silent_look _ _ _ _ _ _ (early_mount _ _ _ c.in-Err.stop _ c.in-Err.ensures.stops c.after_mount.ensures) c.mount_session.ensures.looks.head c.mount_session.ensures.looks.time)
 
 pub serve_client-requires-clause-fresh : goal.serve_client-requires-clause-fresh
 serve_client-requires-clause-fresh g c = fresh_found g.P.Platform _ _ c.in-Ok-Some.session c.mount_session.result (c.in-Ok-Some.is ∙ ap Ok c.in-Ok-Some.field-0-is) c.mount_session.ensures.finds

@@ -67,4 +67,4 @@ returns-in-Err-clause-blame g c = blame_as _ _ c.in-Err.halt (c.in-Err.ensures.b
 pub returns-in-Err-clause-answered : goal.returns-in-Err-clause-answered
 returns-in-Err-clause-answered g c =
     let came = c.in-Err.ensures.bytes in
-    record { gone = came.gone; came = came.came; ends = answer_halted _ _ _ _ _ c.args.request.now _ came.gone _ _ c.in-Err.halt came.ends c.in-Err.ensures.halted came.did; limit = came.limit }
+    record { gone = came.gone; came = came.came; ends = answer_halted _ _ _ _ _ c.args.request.now _ came.gone _ _ c.in-Err.halt came.ends c.in-Err.ensures.halted came.did c.in-Err.ensures.adds; limit = came.limit }

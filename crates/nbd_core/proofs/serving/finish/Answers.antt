@@ -1,4 +1,4 @@
-use Rattle.std.proofs.Common.{◌≡◌, ◌∙◌, true, false, ap, refl, rules, sym, None, []}
+use Rattle.std.proofs.Common.{◌≡◌, ◌∙◌, true, false, ap, arith, refl, rules, sym, None, []}
 use denote.Enum.Bare.{same_true, sameb}
 use Rattle.nbd_lang.specs.contracts.replies.Outcome.{the_type}
 use Rattle.nbd_lang.specs.declared.replies.Outcome.{Outcome}
@@ -46,7 +46,15 @@ returns-in-Ok-clause-short g c is = absurd cc
 
 pub returns-in-Ok-2-clause-short : goal.returns-in-Ok-2-clause-short
 returns-in-Ok-2-clause-short g c is =
-    not_done _ _ c.in-Ok.done.session c.in-Ok.done.outcome (λ same. let no : false ≡ true = c.if-eq.ensures ∙ ap (λ (o : Outcome). sameb the_type o Done) same in cc) c.in-Ok.ensures.spends
+    (not_done _ _ _ _ c.in-Ok.done.session c.in-Ok.done.outcome (λ same. let no : false ≡ true = c.if-eq.ensures ∙ ap (λ (o : Outcome). sameb the_type o Done) same in cc) c.in-Ok.ensures.spends).0
+
+pub returns-in-Ok-2-clause-adds : goal.returns-in-Ok-2-clause-adds
+returns-in-Ok-2-clause-adds g c =
+    let spent = not_done _ _ _ _ c.in-Ok.done.session c.in-Ok.done.outcome (λ same. let no : false ≡ true = c.if-eq.ensures ∙ ap (λ (o : Outcome). sameb the_type o Done) same in cc) c.in-Ok.ensures.spends in
+    omega (arith, spent.1)
+
+pub returns-in-Err-clause-adds : goal.returns-in-Err-clause-adds
+returns-in-Err-clause-adds g c = c.in-Err.ensures.adds
 
 pub returns-in-Err-clause-short : goal.returns-in-Err-clause-short
 returns-in-Err-clause-short g c is = absurd (flush_finished c.in-Err.halt (c.in-Err.ensures.halts None []) is)

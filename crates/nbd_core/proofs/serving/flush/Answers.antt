@@ -3,6 +3,7 @@ use Rattle.nbd_core.proofs.BlameLaws.{blame_commit, blame_committed, commit_come
 use Rattle.platform.proofs.Moments.{During-now}
 use Rattle.device_terms.specs.Served.{IsServedImage}
 use Rattle.nbd_core.proofs.DamageLaws.{commit_sound}
+use Rattle.nbd_core.proofs.NearLaws.{commit_adds}
 use Rattle.nbd_core.proofs.ShortLaws.{flush_spent}
 use Rattle.nbd_core.proofs.TurnLaws.{commit_halted, flushed_to}
 use Rattle.nbd_core.proofs.serving.flush.Goals as goal
@@ -46,3 +47,6 @@ returns-in-Ok-clause-spends g c = flush_spent g.P.Platform _ _ _ _ _ _ _ _ c.in-
 
 pub returns-in-Ok-clause-comes : goal.returns-in-Ok-clause-comes
 returns-in-Ok-clause-comes g c = commit_comes c.in-Ok.done.reply _ c.outcome_of.ensures
+
+pub returns-in-Err-clause-adds : goal.returns-in-Err-clause-adds
+returns-in-Err-clause-adds g c = commit_adds g.P.Platform g.T.Tape _ _ _ _ _ c.in-Err.stop _ c.after_commit.ensures c.in-Err.ensures.answers c.in-Err.ensures.goes.adds

@@ -8,6 +8,7 @@ use Rattle.device_session.specs.Sessions.{Session}
 use Rattle.nbd_core.proofs.DataLaws.{data_over, data_went, no_data}
 use Rattle.nbd_core.proofs.BlameLaws.{blame_as, blame_on, flush_comes, flush_may_halt}
 use Rattle.nbd_core.proofs.DamageLaws.{on_performed}
+use Rattle.nbd_core.proofs.NearLaws.{blocks_add, flush_adds}
 use Rattle.nbd_core.proofs.ShortLaws.{blocks_spend, flush_spends}
 use Rattle.nbd_core.proofs.TurnLaws.{blocks_halted, blocks_performed, flush_performed}
 use Rattle.nbd_core.specs.Turns.{ComesTo, MayHalt}
@@ -59,7 +60,7 @@ returns-in-Ok-clause-damage g c told = c.in-Ok.ensures.damage told (c.requires.r
 pub returns-then-is_flush-clause-spends : goal.returns-then-is_flush-clause-spends
 returns-then-is_flush-clause-spends g c n few =
     let both = c.if-is_flush.ensures.0 refl in
-    flush_spends _ _ n c.args.request.now c.args.first c.flush.result both.0
+    flush_spends _ _ _ _ n c.args.request.now c.args.first c.flush.result both.0
     (ap (λ (s : ℕ). refusal s c.args.request.now) (size_of_session c.args.first _ c.blocks-2.ensures) ∙ sym c.refusal-refused.ensures ∙ both.1) few c.flush.ensures.spends
 
 pub returns-in-Ok-clause-spends : goal.returns-in-Ok-clause-spends
@@ -89,3 +90,14 @@ pub returns-in-Ok-clause-comes : goal.returns-in-Ok-clause-comes
 returns-in-Ok-clause-comes g c =
     let whole = c.refusal-refused.ensures ∙ ap (λ (s : ℕ). refusal s c.args.request.now) (sym (size_of_session c.args.first _ c.blocks-2.ensures)) in
     subst (λ (r : Option Outcome). ComesTo c.args.request.now.kind r c.in-Ok.outcome) whole c.in-Ok.ensures.ends
+
+pub returns-then-is_flush-clause-adds : goal.returns-then-is_flush-clause-adds
+returns-then-is_flush-clause-adds g c n few =
+    let both = c.if-is_flush.ensures.0 refl in
+    flush_adds _ n _ _ c.args.request.now c.args.first c.flush.result both.0
+    (ap (λ (s : ℕ). refusal s c.args.request.now) (size_of_session c.args.first _ c.blocks-2.ensures) ∙ sym c.refusal-refused.ensures ∙ both.1) few c.flush.ensures.adds
+
+pub returns-in-Err-clause-adds : goal.returns-in-Err-clause-adds
+returns-in-Err-clause-adds g c n few =
+    let whole = c.refusal-refused.ensures ∙ ap (λ (s : ℕ). refusal s c.args.request.now) (sym (size_of_session c.args.first _ c.blocks-2.ensures)) in
+    blocks_add _ n _ _ c.args.request.now c.refusal-refused.result c.in-Err.halt whole c.in-Err.ensures.ends c.requires.kind (λ flush none. let no : false ≡ true = c.if-is_flush.ensures.1 (flush, none) in cc) c.in-Err.ensures.adds

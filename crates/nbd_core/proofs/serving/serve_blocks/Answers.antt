@@ -3,6 +3,7 @@ use Rattle.byte_arrays.specs.Ranges.{covered_blocks, touched_blocks}
 use Rattle.nbd_lang.specs.declared.requests.RequestKind.TheVariants.{Read, Trim, Write}
 use Rattle.nbd_core.specs.Ample.{blocks_of_range, unless_refused}
 use Rattle.session_calls.proofs.CallLaws.{along_more}
+use Rattle.nbd_core.proofs.NearLaws.{needed_is}
 use Rattle.nbd_core.proofs.ShortLaws.{cost_is, read_short, refused_short, trim_short, write_short}
 use Rattle.nbd_lang.specs.Requests.{bytes_behind}
 use Rattle.session_calls.specs.Along.{drawn_by}
@@ -86,3 +87,16 @@ returns-in-Trim-clause-ends g c = by_head_platform c.args.request.now.kind Trim 
 
 pub returns-in-Write-clause-ends : goal.returns-in-Write-clause-ends
 returns-in-Write-clause-ends g c = by_head_write c.args.request.now.kind c.args.refused c.write.result c.in-Write.is c.in_default.is c.write.ensures.ends
+
+pub returns-in-Some-clause-adds : goal.returns-in-Some-clause-adds
+returns-in-Some-clause-adds g c = omega arith
+
+pub returns-in-Read-clause-adds : goal.returns-in-Read-clause-adds
+returns-in-Read-clause-adds g c = omega (arith, (c.read.ensures.along (drawn_by g.T.Tape c.args.tape.now)).adds)
+
+pub returns-in-Trim-clause-adds : goal.returns-in-Trim-clause-adds
+returns-in-Trim-clause-adds g c = omega (arith, c.trim.ensures.head)
+
+pub returns-in-Write-clause-adds : goal.returns-in-Write-clause-adds
+returns-in-Write-clause-adds g c =
+    omega (arith, needed_is c.args.refused c.args.request.now.kind Write 0 c.args.request.now.offset c.args.request.now.length c.in_default.is c.in-Write.is, c.write.ensures.along.adds)

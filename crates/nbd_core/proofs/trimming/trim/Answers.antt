@@ -109,3 +109,9 @@ returns-clause-damage g c told mounted = done_sound _
 
 pub returns-in-Err-clause-comes : goal.returns-in-Err-clause-comes
 returns-in-Err-clause-comes g c = stop_comes Trim c.in-Err.stop _ tt c.after_stop.ensures
+
+pub returns-in-Err-clause-head : goal.returns-in-Err-clause-head
+returns-in-Err-clause-head g c = c.in-Err.ensures.head ∙ c.loop-block.invariant.head
+
+pub returns-clause-head : goal.returns-clause-head
+returns-clause-head g c = c.loop-block.invariant.head
