@@ -1,60 +1,173 @@
--- What stopped a call for a block may stop the line that made the call.
-use Rattle.std.proofs.Common.{◌≡◌, ℕ, List, Result, Ok, Err, inl, subst, sym}
-use Rattle.std.specs.Prelude.{IfErr}
+-- Why a line is answered so, by its calls: what stopped a call for a block may stop the line that made the call; and which table there is behind a reply.
+use Rattle.std.proofs.Common.{◌≡◌, ℕ, List, Option, None, Some, Result, Ok, Err, inl, inr, refl, ap, subst, sym}
 use Rattle.platform.specs.Image.{Image}
 use Rattle.device_session.specs.Sessions.{Session}
+use Rattle.device_session.specs.declared.refusals.CommitReply.{CommitReply}
+use Rattle.device_session.specs.declared.refusals.CommitReply.TheVariants as commits
 use Rattle.session_calls.specs.Blame.{IsOfCall}
 use Rattle.session_calls.specs.Commits.{LeavesLedger}
-use Rattle.session_calls.specs.Damage.{MeetsDamage, ReadsAny, TrimsAny}
+use Rattle.session_calls.specs.Damage.{IsWrongPage, MeetsDamage, ReadsAny, TrimsAny, WritesAny}
 use Rattle.session_calls.specs.declared.stops.DeviceStop.{DeviceStop}
 use Rattle.session_calls.specs.declared.stops.DeviceStop.TheVariants as stops
-use Rattle.session_calls.proofs.DamageLaws.{trim_meets}
-use Rattle.volume_lines.specs.Lines.{Line, Read, Trim, asked}
+use Rattle.session_calls.proofs.DamageLaws.{trim_meets, write_meets}
+use Rattle.volume_table.specs.declared.volume.Volume.{Volume}
+use Rattle.volume_lines.specs.Lines.{Line, Create, Read, Write, Trim, Destroy, Commit, asked}
 use Rattle.volume_lines.specs.declared.lines.Line.{Line as Parsed}
-use Rattle.volume_desk.specs.Causes.{Changes, Commits, Draws, LooksUp, StopsBy}
+use Rattle.volume_lines.specs.Replies as told
+use Rattle.volume_lines.specs.Replies.{Reply, said}
+use Rattle.volume_lines.specs.declared.replies.Reply.{Reply as Given}
+use Rattle.volume_lines.specs.declared.replies.Reply.TheVariants as given
+use Rattle.volume_desk.specs.Causes.{AnswersAny, Changes, Commits, Draws, HasBlock, IsAccepted, LacksBlock, MayStop, MeetsRecord, Sizes, StopsAny, TakesAny, TurnsTable}
+use Rattle.volume_desk.specs.Turns.{IsBlockAt, NoBlock, commit_reply, destroy_reply}
 
-pub read_stops : (Known : Type 0) (image after : Image) (session : Session) (at : ℕ) (bytes name : List ℕ) (block : ℕ) (stop : DeviceStop) → ReadsAny Known image after session at bytes (Err stop)
-    → StopsBy Known after (Read name block) stop
-read_stops Known image after session at bytes name block stops.Platform any = (tt, λ known. tt)
-read_stops Known image after session at bytes name block stops.Memory any = absurd any
-read_stops Known image after session at bytes name block stops.Tape any = absurd any
-read_stops Known image after session at bytes name block stops.Ledger any = absurd any
-read_stops Known image after session at bytes name block stops.BadRoot any = absurd any
-read_stops Known image after session at bytes name block (stops.BadRecord addr) any = (tt, λ known. inl (any known))
+-- ---- stops
 
-pub trim_stops : (Known : Type 0) (image after : Image) (session : Session) (at : ℕ) (name : List ℕ) (block : ℕ) (stop : DeviceStop) → TrimsAny Known image after session at (Err stop)
-    → StopsBy Known after (Trim name block) stop
-trim_stops Known image after session at name block stops.Platform any = (tt, λ known. tt)
-trim_stops Known image after session at name block stops.Memory any = (tt, λ known. tt)
-trim_stops Known image after session at name block stops.Tape any = absurd any
-trim_stops Known image after session at name block stops.Ledger any = absurd any
-trim_stops Known image after session at name block stops.BadRoot any = absurd any
-trim_stops Known image after session at name block (stops.BadRecord addr) any = (tt, trim_meets Known image after session at (Err (stops.BadRecord addr)) any)
+pub read_may : (Known : Type 0) (image after : Image) (session : Session) (at : ℕ) (bytes name : List ℕ) (block : ℕ) (stop : DeviceStop) → ReadsAny Known image after session at bytes (Err stop)
+    → MayStop Known after (Read name block) stop
+read_may Known image after session at bytes name block stops.Platform any = tt
+read_may Known image after session at bytes name block stops.Memory any = absurd any
+read_may Known image after session at bytes name block stops.Tape any = absurd any
+read_may Known image after session at bytes name block stops.Ledger any = absurd any
+read_may Known image after session at bytes name block stops.BadRoot any = absurd any
+read_may Known image after session at bytes name block (stops.BadRecord addr) any = any
+
+pub trim_may : (Known : Type 0) (image after : Image) (session : Session) (at : ℕ) (name : List ℕ) (block : ℕ) (stop : DeviceStop) → TrimsAny Known image after session at (Err stop)
+    → MayStop Known after (Trim name block) stop
+trim_may Known image after session at name block stops.Platform any = tt
+trim_may Known image after session at name block stops.Memory any = tt
+trim_may Known image after session at name block stops.Tape any = absurd any
+trim_may Known image after session at name block stops.Ledger any = absurd any
+trim_may Known image after session at name block stops.BadRoot any = absurd any
+trim_may Known image after session at name block (stops.BadRecord addr) any = trim_meets Known image after session at (Err (stops.BadRecord addr)) any
+
+pub write_may : (Known : Type 0) (image after : Image) (session : Session) (at : ℕ) (name : List ℕ) (block : ℕ) (content : List ℕ) (stop : DeviceStop) → WritesAny Known image after session at (Err stop)
+    → MayStop Known after (Write name block content) stop
+write_may Known image after session at name block content stops.Platform any = tt
+write_may Known image after session at name block content stops.Memory any = tt
+write_may Known image after session at name block content stops.Tape any = tt
+write_may Known image after session at name block content stops.Ledger any = absurd any
+write_may Known image after session at name block content stops.BadRoot any = absurd any
+write_may Known image after session at name block content (stops.BadRecord addr) any = write_meets Known image after session at (Err (stops.BadRecord addr)) any
 
 -- a line that may stop at whatever a call for a block comes to
-pub call_stops : (Known : Type 0) (image : Image) (it : Line) (stop : DeviceStop) → Draws it → Changes it → LooksUp it → IsOfCall stop → (Known → MeetsDamage image stop) → StopsBy Known image it stop
-call_stops Known image it stops.Platform draws changes looks of_call met = (tt, met)
-call_stops Known image it stops.Tape draws changes looks of_call met = (draws, met)
-call_stops Known image it stops.Memory draws changes looks of_call met = (changes, met)
-call_stops Known image it (stops.BadRecord addr) draws changes looks of_call met = (looks, met)
-call_stops Known image it stops.Ledger draws changes looks of_call met = absurd of_call
-call_stops Known image it stops.BadRoot draws changes looks of_call met = absurd of_call
-
-pub calls_stop : {T : Type 0} (Known : Type 0) (image : Image) (it : Line) (result : Result T DeviceStop) → Draws it → Changes it → LooksUp it → IfErr result IsOfCall → (Known → IfErr result (MeetsDamage image))
-    → IfErr result (StopsBy Known image it)
-calls_stop Known image it (Ok done) draws changes looks of_call met = tt
-calls_stop Known image it (Err stop) draws changes looks of_call met = call_stops Known image it stop draws changes looks of_call met
+pub call_may : (Known : Type 0) (image : Image) (it : Line) (stop : DeviceStop) → Draws it → Changes it → ((addr : ℕ) → (Known → IsWrongPage image addr) → MeetsRecord Known image it addr) → IsOfCall stop → (Known → MeetsDamage image stop)
+    → MayStop Known image it stop
+call_may Known image it stops.Platform draws changes meets of_call met = tt
+call_may Known image it stops.Tape draws changes meets of_call met = draws
+call_may Known image it stops.Memory draws changes meets of_call met = changes
+call_may Known image it (stops.BadRecord addr) draws changes meets of_call met = meets addr met
+call_may Known image it stops.Ledger draws changes meets of_call met = absurd of_call
+call_may Known image it stops.BadRoot draws changes meets of_call met = absurd of_call
 
 -- and one that commits
-pub commit_stops : {W : Type 0} (Known : Type 0) (image : Image) (it : Line) (ledger ledger_now : W) (stop : DeviceStop) → Draws it → Changes it → Commits it → LeavesLedger ledger ledger_now stop → StopsBy Known image it stop
-commit_stops Known image it ledger ledger_now stops.Platform draws changes commits left = (tt, λ known. tt)
-commit_stops Known image it ledger ledger_now stops.Tape draws changes commits left = (draws, λ known. tt)
-commit_stops Known image it ledger ledger_now stops.Memory draws changes commits left = (changes, λ known. tt)
-commit_stops Known image it ledger ledger_now stops.Ledger draws changes commits left = (commits, λ known. tt)
-commit_stops Known image it ledger ledger_now stops.BadRoot draws changes commits left = absurd left
-commit_stops Known image it ledger ledger_now (stops.BadRecord addr) draws changes commits left = absurd left
+pub commit_may : {W : Type 0} (Known : Type 0) (image : Image) (it : Line) (ledger ledger_now : W) (stop : DeviceStop) → Draws it → Changes it → Commits it → LeavesLedger ledger ledger_now stop → MayStop Known image it stop
+commit_may Known image it ledger ledger_now stops.Platform draws changes commits left = tt
+commit_may Known image it ledger ledger_now stops.Tape draws changes commits left = draws
+commit_may Known image it ledger ledger_now stops.Memory draws changes commits left = changes
+commit_may Known image it ledger ledger_now stops.Ledger draws changes commits left = commits
+commit_may Known image it ledger ledger_now stops.BadRoot draws changes commits left = absurd left
+commit_may Known image it ledger ledger_now (stops.BadRecord addr) draws changes commits left = absurd left
 
--- a line that is this one stops as this one
-pub stops_as : {T : Type 0} (Known : Type 0) (image : Image) (line was : Parsed) (buffer : List ℕ) (result : Result T DeviceStop) → line ≡ was → IfErr result (StopsBy Known image (asked was buffer))
-    → IfErr result (StopsBy Known image (asked line buffer))
-stops_as Known image line was buffer result is stops = subst (λ (l : Parsed). IfErr result (StopsBy Known image (asked l buffer))) (sym is) stops
+-- where more is known
+meets_known : (Known Other : Type 0) (image : Image) (it : Line) (addr : ℕ) → (Other → Known) → MeetsRecord Known image it addr → MeetsRecord Other image it addr
+meets_known Known Other image (Create name count) addr known meets = λ other. meets (known other)
+meets_known Known Other image (Read name block) addr known meets = λ other. meets (known other)
+meets_known Known Other image (Write name block content) addr known meets = λ other. meets (known other)
+meets_known Known Other image (Trim name block) addr known meets = λ other. meets (known other)
+meets_known Known Other image (Destroy name) addr known meets = λ other. meets (known other)
+meets_known Known Other image Commit addr known meets = absurd meets
+
+may_known : (Known Other : Type 0) (image : Image) (it : Line) (stop : DeviceStop) → (Other → Known) → MayStop Known image it stop → MayStop Other image it stop
+may_known Known Other image it stops.Platform known may = tt
+may_known Known Other image it stops.Tape known may = may
+may_known Known Other image it stops.Ledger known may = may
+may_known Known Other image it stops.Memory known may = may
+may_known Known Other image it stops.BadRoot known may = absurd may
+may_known Known Other image it (stops.BadRecord addr) known may = meets_known Known Other image it addr known may
+
+pub stops_known : (Known Other : Type 0) (image : Image) (blocks : ℕ) (table : List Volume) (it : Line) (stop : DeviceStop) → (Other → Known) → StopsAny Known image blocks table it stop → StopsAny Other image blocks table it stop
+stops_known Known Other image blocks table it stop known (may, accepted) = (may_known Known Other image it stop known may, accepted)
+
+-- a record that doesn't fit is a wrong page
+record_is_wrong : (Known : Type 0) (image : Image) (it : Line) (addr : ℕ) → MeetsRecord Known image it addr → Known → IsWrongPage image addr
+record_is_wrong Known image (Create name count) addr meets known = meets known
+record_is_wrong Known image (Read name block) addr meets known = inl (meets known)
+record_is_wrong Known image (Write name block content) addr meets known = meets known
+record_is_wrong Known image (Trim name block) addr meets known = meets known
+record_is_wrong Known image (Destroy name) addr meets known = meets known
+record_is_wrong Known image Commit addr meets known = absurd meets
+
+pub may_meets : (Known : Type 0) (image : Image) (it : Line) (stop : DeviceStop) → MayStop Known image it stop → Known → MeetsDamage image stop
+may_meets Known image it stops.Platform may known = tt
+may_meets Known image it stops.Tape may known = tt
+may_meets Known image it stops.Ledger may known = tt
+may_meets Known image it stops.Memory may known = tt
+may_meets Known image it stops.BadRoot may known = absurd may
+may_meets Known image it (stops.BadRecord addr) may known = record_is_wrong Known image it addr may known
+
+-- ---- replies
+
+-- there is no such block
+no_block_said : (table : List Volume) (name : List ℕ) (block : ℕ) (reply : Given) (buffer : List ℕ) → NoBlock table name block reply → LacksBlock table name block (said reply buffer)
+no_block_said table name block given.Unknown buffer lacks = lacks
+no_block_said table name block given.Range buffer out = out
+no_block_said table name block given.Created buffer none = absurd none
+no_block_said table name block given.Exists buffer none = absurd none
+no_block_said table name block given.NoRoom buffer none = absurd none
+no_block_said table name block (given.Content count) buffer none = absurd none
+no_block_said table name block given.Done buffer none = absurd none
+no_block_said table name block given.Full buffer none = absurd none
+no_block_said table name block (given.Destroyed number) buffer none = absurd none
+no_block_said table name block given.Uncommitted buffer none = absurd none
+no_block_said table name block (given.Committed number) buffer none = absurd none
+no_block_said table name block given.Bad buffer none = absurd none
+
+pub read_refused : (here : Sizes) (table : List Volume) (name : List ℕ) (block : ℕ) (reply : Given) (buffer : List ℕ) → NoBlock table name block reply → TurnsTable here table (Read name block) (said reply buffer) table
+read_refused here table name block reply buffer none = inl (no_block_said table name block reply buffer none, refl)
+
+pub write_refused : (here : Sizes) (table : List Volume) (name : List ℕ) (block : ℕ) (content : List ℕ) (reply : Given) (buffer : List ℕ) → NoBlock table name block reply
+    → TurnsTable here table (Write name block content) (said reply buffer) table
+write_refused here table name block content reply buffer none = inl (no_block_said table name block reply buffer none, refl)
+
+pub trim_refused : (here : Sizes) (table : List Volume) (name : List ℕ) (block : ℕ) (reply : Given) (buffer : List ℕ) → NoBlock table name block reply → TurnsTable here table (Trim name block) (said reply buffer) table
+trim_refused here table name block reply buffer none = inl (no_block_said table name block reply buffer none, refl)
+
+-- there is one
+pub has_block : (table : List Volume) (name : List ℕ) (block at : ℕ) → IsBlockAt table name block at → HasBlock table name block
+has_block table name block at is = (is.v, is.named, is.below)
+
+pub read_done : (here : Sizes) (table : List Volume) (name : List ℕ) (block at : ℕ) (reply : Reply) (bytes : List ℕ) → reply ≡ told.Content bytes → IsBlockAt table name block at → TurnsTable here table (Read name block) reply table
+read_done here table name block at reply bytes same is =
+    let done : TurnsTable here table (Read name block) (told.Content bytes) table = inr (table, (has_block table name block at is, refl), inl (tt, refl)) in
+    subst (λ (r : Reply). TurnsTable here table (Read name block) r table) (sym same) done
+
+-- a commit, and a destroy
+pub commit_turns : (here : Sizes) (table : List Volume) (reply : CommitReply) (answer : Given) (buffer : List ℕ) → answer ≡ commit_reply reply → TurnsTable here table Commit (said answer buffer) table
+commit_turns here table (commits.Committed number) answer buffer is =
+    let done : TurnsTable here table Commit (told.Committed number) table = inr (table, refl, inl (tt, refl)) in
+    subst (λ (r : Reply). TurnsTable here table Commit r table) (sym (ap (λ (a : Given). said a buffer) is)) done
+commit_turns here table (commits.Full needed free) answer buffer is =
+    let short : TurnsTable here table Commit told.Full table = inr (table, refl, inr (tt, refl, refl)) in
+    subst (λ (r : Reply). TurnsTable here table Commit r table) (sym (ap (λ (a : Given). said a buffer) is)) short
+
+pub destroy_turns : (here : Sizes) (table left : List Volume) (name : List ℕ) (reply : CommitReply) (answer : Given) (buffer : List ℕ) → answer ≡ destroy_reply reply → IsAccepted here.blocks table (Destroy name) left
+    → TurnsTable here table (Destroy name) (said answer buffer) left
+destroy_turns here table left name (commits.Committed number) answer buffer is accepted =
+    let done : TurnsTable here table (Destroy name) (told.Destroyed number) left = inr (left, accepted, inl (tt, refl)) in
+    subst (λ (r : Reply). TurnsTable here table (Destroy name) r left) (sym (ap (λ (a : Given). said a buffer) is)) done
+destroy_turns here table left name (commits.Full needed free) answer buffer is accepted =
+    let done : TurnsTable here table (Destroy name) told.Uncommitted left = inr (left, accepted, inl (tt, refl)) in
+    subst (λ (r : Reply). TurnsTable here table (Destroy name) r left) (sym (ap (λ (a : Given). said a buffer) is)) done
+
+pub takes_some_any : (Known : Type 0) (image : Image) (here : Sizes) (table left : List Volume) (name buffer : List ℕ) (refused : Option Given) (reply : Given) → refused ≡ Some reply → TakesAny Known image here table left name buffer (Ok refused)
+    → TurnsTable here table (Destroy name) (said reply buffer) left
+takes_some_any Known image here table left name buffer refused reply is takes = subst (λ (r : Option Given). TakesAny Known image here table left name buffer (Ok r)) is takes
+
+pub takes_none_any : (Known : Type 0) (image : Image) (here : Sizes) (table left : List Volume) (name buffer : List ℕ) (refused : Option Given) → refused ≡ None → TakesAny Known image here table left name buffer (Ok refused)
+    → IsAccepted here.blocks table (Destroy name) left
+takes_none_any Known image here table left name buffer refused is takes = subst (λ (r : Option Given). TakesAny Known image here table left name buffer (Ok r)) is takes
+
+-- ---- a line that is this one is answered as this one
+pub any_as : (Known : Type 0) (image : Image) (here : Sizes) (table left : List Volume) (line was : Parsed) (before buffer : List ℕ) (result : Result Given DeviceStop) → line ≡ was → AnswersAny Known image here table left (asked was before) buffer result
+    → AnswersAny Known image here table left (asked line before) buffer result
+any_as Known image here table left line was before buffer result is any = subst (λ (l : Parsed). AnswersAny Known image here table left (asked l before) buffer result) (sym is) any

@@ -42,7 +42,7 @@ use Rattle.volume_terms.specs.Volumes.{changed}
 use Rattle.volume_terms.proofs.DestroyedLaws.{changed_touched, destroy_raises, if_destroyed}
 use Rattle.volume_terms.proofs.KeepingLaws.{committed_tabled}
 use Rattle.device_course.specs.Course.{MadeBetween}
-use Rattle.volume_desk.specs.Turns.{Changed, IsHeld, IsOfAll, IsOfBlocks, Served, ServesAs, Stopped, StopsAt, TakenOut, TakesOut, TurnsTo, commit_reply, destroy_reply}
+use Rattle.volume_desk.specs.Turns.{Changed, HasPages, IsHeld, IsOfAll, IsOfBlocks, Served, ServesAs, Stopped, StopsAt, TakenOut, TakesOut, TurnsTo, commit_reply, destroy_reply}
 
 -- ---- the array is as it was
 
@@ -107,6 +107,16 @@ committed_to P T L platform platform_now tape tape_now ledger ledger_now session
     Refused needed free refl (record { at = same.0.at; pages = same.0.pages; needs = same.0.needs; tabled = held.tabled })
     (needed_by session, needs_of session (P.history platform).present (P.head platform) entry there_open on, same.1, refl) same.2
 
+-- one that stopped was of changes for which enough pages are free
+pub commit_pages : {S R : Type 0} (P : PlatformGhosts S) (T : TapeGhosts R) (platform platform_now : S) (tape tape_now : R) (session : Session) (stop : DeviceStop) (table : List Volume) (entry : Held) → IsOpen session (P.head platform)
+    → IsHeld (P.history platform).present (P.head platform) session table entry → CommitStops P T platform platform_now tape tape_now session stop → HasPages (P.capacity platform) entry Commit
+commit_pages P T platform platform_now tape tape_now session stop table entry there_open held stops_at = (
+  sym held.at.there.session.1 ∙ stops_at.touched,
+  needed_by session,
+  needs_of session (P.history platform).present (P.head platform) entry there_open (array_held (P.history platform).present (P.head platform) session table entry held),
+  omega (arith, stops_at.room, held.pages),
+)
+
 pub commit_served : (old new : Outside) (table : List Volume) (now : Session) (entry : Held) (reply : CommitReply) (given : Given) (buffer : List ℕ) → given ≡ commit_reply reply
     → Committing old.capacity old new table now entry reply → Served old new table table now entry Commit (said given buffer)
 commit_served old new table now entry reply given buffer is (Done number next same held commits made all) =
@@ -150,10 +160,10 @@ stops_none capacity table entry it device.Memory sound = refl
 stops_none capacity table entry it device.BadRoot sound = absurd sound
 stops_none capacity table entry it (device.BadRecord addr) sound = absurd sound
 
-pub stopped_kept : (old new : Outside) (session : Session) (table : List Volume) (entry : Held) (it : Line) (stop : DeviceStop) → IsHeld old.history.present old.head session table entry → CellStays old.history new.history → IsSound stop
+pub stopped_kept : (old new : Outside) (session : Session) (table : List Volume) (entry : Held) (it : Line) (stop : DeviceStop) → IsHeld old.history.present old.head session table entry → CellStays old.history new.history → IsSound stop × HasPages old.capacity entry it
     → Stopped old new table entry it stop
-stopped_kept old new session table entry it stop held stays sound =
-    record { ahead = []; is = stops_none old.capacity table entry it stop sound; made = made_kept old.history new.history entry.device held.at.there.device held.at.served stays }
+stopped_kept old new session table entry it stop held stays (sound, pages) =
+    record { ahead = []; is = stops_none old.capacity table entry it stop sound; pages = pages; made = made_kept old.history new.history entry.device held.at.there.device held.at.served stays }
 
 pub blocks_held : (image : Image) (head : ℕ) (session : Session) (table : List Volume) (entry : Held) → IsHeld image head session table entry → blocks_of session ≡ entry.device.blocks
 blocks_held image head session table entry held = held.at.there.session.0.stands.blocks
@@ -186,6 +196,7 @@ destroy_stopped P T L platform mid platform_now tape tape_then tape_now ledger l
     record {
       ahead = stopped.0;
       is = stopped.1.0;
+      pages = taken.free;
       made = subst (λ (d : Device). MadeBetween (P.history platform) (P.history platform_now) entry.device (marks_of device_of stopped.0) d) (sym (stopped.1.1 entry.device))
           (made_since (P.history platform) (P.history mid) (P.history platform_now) entry.device (last_of on stopped.0).device (marks_of device_of stopped.0) kept stopped.2);
     }
@@ -194,10 +205,10 @@ destroy_stopped P T L platform mid platform_now tape tape_then tape_now ledger l
 
 -- the line is that which was read
 pub turns_as : (image : Image) (head capacity : ℕ) (table table_now : List Volume) (now : Session) (entry : Held) (line it : Parsed) (before buffer : List ℕ) (result : Result Given DeviceStop) → line ≡ it
-    → TurnsTo image head table_now now entry (λ reply next. Serves capacity table entry (asked it before) reply next) buffer result
-    → TurnsTo image head table_now now entry (λ reply next. Serves capacity table entry (asked line before) reply next) buffer result
+    → TurnsTo image head table_now now entry (λ reply next. Serves capacity table entry (asked it before) reply next) (HasPages capacity entry (asked it before)) buffer result
+    → TurnsTo image head table_now now entry (λ reply next. Serves capacity table entry (asked line before) reply next) (HasPages capacity entry (asked line before)) buffer result
 turns_as image head capacity table table_now now entry line it before buffer result is turns =
-    subst (λ (l : Parsed). TurnsTo image head table_now now entry (λ reply next. Serves capacity table entry (asked l before) reply next) buffer result) (sym is) turns
+    subst (λ (l : Parsed). TurnsTo image head table_now now entry (λ reply next. Serves capacity table entry (asked l before) reply next) (HasPages capacity entry (asked l before)) buffer result) (sym is) turns
 
 pub serves_as : (old new : Outside) (table table_now : List Volume) (buffer before : List ℕ) (entry : Held) (line it : Parsed) (result : Result Answered DeviceStop) → line ≡ it
     → ServesAs old new table table_now buffer entry (asked it before) result → ServesAs old new table table_now buffer entry (asked line before) result

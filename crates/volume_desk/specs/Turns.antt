@@ -1,5 +1,5 @@
 -- What a line makes of a session's array and its table, and of the device below them.
-use Rattle.std.specs.Prelude.{◌≡◌, ◌≢◌, ◌≤◌, ◌<◌, ◌+◌, ◌*◌, ◌⊎◌, ℕ, List, [], ◌∷◌, Option, None, Some, Result, Ok, Err, length}
+use Rattle.std.specs.Prelude.{◌≡◌, ◌≢◌, ◌≤◌, ◌<◌, ◌+◌, ◌-◌, ◌*◌, ◌⊎◌, ℕ, true, List, [], ◌∷◌, Option, None, Some, Result, Ok, Err, length}
 use Rattle.sdbt_base.specs.Arrays.{Device, Session as OpenSession, mounted}
 use Rattle.platform.specs.Image.{Image}
 use Rattle.page_store.specs.Floors.{low_of}
@@ -11,13 +11,13 @@ use Rattle.device_session.specs.Sessions.{Session}
 use Rattle.device_session.specs.declared.refusals.CommitReply.{CommitReply}
 use Rattle.device_session.specs.declared.refusals.CommitReply.TheVariants as commits
 use Rattle.line_run.specs.Stops.{IsSound}
-use Rattle.device_course.specs.Held.{Held, device_of, state_of}
+use Rattle.device_course.specs.Held.{Held, Needs, device_of, state_of}
 use Rattle.device_course.specs.Leading.{last_of, marks_of}
 use Rattle.session_calls.specs.declared.stops.DeviceStop.{DeviceStop}
 use Rattle.session_calls.specs.declared.stops.DeviceStop.TheVariants as stops
 use Rattle.volume_table.specs.Tables.{Lacks}
 use Rattle.volume_table.specs.declared.volume.Volume.{Volume}
-use Rattle.volume_lines.specs.Lines.{Line}
+use Rattle.volume_lines.specs.Lines.{Line, Create, Read, Write, Trim, Destroy, Commit}
 use Rattle.volume_lines.specs.declared.lines.Line.{Line as Parsed}
 use Rattle.volume_lines.specs.declared.lines.Line.TheVariants as parsed
 use Rattle.volume_lines.specs.Replies.{Reply, said}
@@ -69,10 +69,20 @@ StopsAt capacity table entry it ahead stops.Memory = ahead ≡ []
 StopsAt capacity table entry it ahead stops.BadRoot = ⊥
 StopsAt capacity table entry it ahead (stops.BadRecord addr) = ⊥
 
--- a stop at what was asked, from this state
+-- pages are free for it: one where it writes a block, and be it the table's; and where it commits, those of the changes that there are
+abbrev pub HasPages : ℕ → Held → Line → Type 0
+HasPages capacity held (Create name count) = held.pages ≢ capacity
+HasPages capacity held (Read name block) = Unit {0}
+HasPages capacity held (Write name block content) = held.pages ≢ capacity
+HasPages capacity held (Trim name block) = Unit {0}
+HasPages capacity held (Destroy name) = held.pages ≢ capacity
+HasPages capacity held Commit = (held.session.touched ≡ true) × (needed : ℕ) × Needs held needed × (needed ≤ capacity - held.pages)
+
+-- a stop at what was asked, from this state: nothing that is said of pages refuses it
 pub record Stopped (old new : Outside) (table : List Volume) (entry : Held) (it : Line) (stop : DeviceStop) : Type 0 where
   pub ahead : List Held
   pub is : StopsAt old.capacity table entry it ahead stop
+  pub pages : HasPages old.capacity entry it
   pub made : MadeBetween old.history new.history entry.device (marks_of device_of ahead) (last_of entry ahead).device
 
 -- the session with which a run goes on
@@ -85,10 +95,10 @@ abbrev pub ServesAs : Outside → Outside → List Volume → List Volume → Li
 ServesAs old new table table_now buffer entry it (Ok done) = Served old new table table_now done.session entry it (said done.reply buffer)
 ServesAs old new table table_now buffer entry it (Err stop) = Stopped old new table entry it stop
 
--- what calls for blocks came to that have a reply; a stop came over no damage
-abbrev pub TurnsTo : Image → ℕ → List Volume → Session → Held → (Reply → Held → Type 0) → List ℕ → Result Given DeviceStop → Type 0
-TurnsTo image head table_now now entry Does buffer (Ok reply) = Changed image head table_now now entry Does (said reply buffer)
-TurnsTo image head table_now now entry Does buffer (Err stop) = IsSound stop
+-- what calls for blocks came to that have a reply; a stop came over no damage, and with this room
+abbrev pub TurnsTo : Image → ℕ → List Volume → Session → Held → (Reply → Held → Type 0) → Type 0 → List ℕ → Result Given DeviceStop → Type 0
+TurnsTo image head table_now now entry Does Room buffer (Ok reply) = Changed image head table_now now entry Does (said reply buffer)
+TurnsTo image head table_now now entry Does Room buffer (Err stop) = IsSound stop × Room
 
 -- a change of a session's array that was done; a stop came over no damage
 abbrev pub ChangesTo : Image → Session → Device → OpenSession → Result (Unit {0}) DeviceStop → Type 0
@@ -125,11 +135,11 @@ pub record TakenOut (image : Image) (head capacity : ℕ) (table table_now : Lis
   pub free : entry.pages ≢ capacity
   pub held : IsHeld image head now table_now (changed entry table_now v)
 
--- or there is a reply that it wasn't, or a stop over no damage
+-- or there is a reply that it wasn't, or a stop over no damage, and with a page free
 abbrev pub TakesOut : Image → ℕ → ℕ → List Volume → List Volume → Session → Held → List ℕ → List ℕ → Result (Option Given) DeviceStop → Type 0
 TakesOut image head capacity table table_now now entry name buffer (Ok None) = TakenOut image head capacity table table_now now entry name
 TakesOut image head capacity table table_now now entry name buffer (Ok (Some reply)) = Changed image head table_now now entry (λ told next. Destroys capacity table entry name told next) (said reply buffer)
-TakesOut image head capacity table table_now now entry name buffer (Err stop) = IsSound stop
+TakesOut image head capacity table table_now now entry name buffer (Err stop) = IsSound stop × (entry.pages ≢ capacity)
 
 -- a line that makes no commit
 abbrev pub IsOfBlocks : Parsed → Type 0

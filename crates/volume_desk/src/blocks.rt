@@ -1,15 +1,15 @@
 //! Reads, writes and trims blocks of volumes.
-ghost use Rattle.std.specs.Prelude.{◌≡◌, ◌<◌, ◌≤◌, ◌^◌, ℕ, List, IfOk, IfErr, length};
+ghost use Rattle.std.specs.Prelude.{◌≡◌, ◌≢◌, ◌<◌, ◌≤◌, ◌^◌, ℕ, List, IfOk, IfErr, length};
 ghost use Rattle.device_session.specs.Open.{IsOpen, blocks_of};
 ghost use Rattle.device_course.specs.Held.{Held};
 ghost use Rattle.session_calls.specs.Along.{Drawn, drawn_by};
-ghost use Rattle.session_calls.specs.Damage.{IsMounted, MeetsDamage};
+ghost use Rattle.session_calls.specs.Damage.{IsMounted};
 ghost use Rattle.volume_table.specs.Tables.{IsTable};
 ghost use Rattle.volume_lines.specs.Lines as lines;
 ghost use Rattle.volume_lines.specs.Replies.{CanWrite, FitsBlock, IsWords, said};
 ghost use Rattle.volume_terms.specs.Turn.{OnBlock, Reads, Trims, Writes};
 ghost use Rattle.session_calls.specs.Calling.{Calls};
-ghost use Rattle.volume_desk.specs.Causes.{StopsBy};
+ghost use Rattle.volume_desk.specs.Causes.{AnswersAny, sizes};
 ghost use Rattle.volume_desk.specs.Turns.{IsBlockAt, IsHeld, NoBlock, TurnsTo};
 
 use device_session::Session;
@@ -53,8 +53,10 @@ pub(crate) fn read<P: Platform>(
     ensures short { IfOk result FitsBlock }
     ensures turns { P.tells → (entry : Held) → IsHeld (P.history platform.old).present (P.head platform.old) session.old table.now entry
         → TurnsTo (P.history platform.new).present (P.head platform.new) table.now session.new entry
-        (λ reply next. OnBlock table.now entry name.now block Reads reply next) buffer.new result }
-    ensures stops { IfErr result (StopsBy (P.tells × IsMounted (P.history platform.old).present session.old) (P.history platform.new).present (lines.Read name.now block)) }
+        (λ reply next. OnBlock table.now entry name.now block Reads reply next) (Unit {0}) buffer.new result }
+    // On any pages: why it is answered so.
+    ensures any { AnswersAny (P.tells × IsMounted (P.history platform.old).present session.old) (P.history platform.new).present
+        (sizes (blocks_of session.old) (P.head platform.new) (P.capacity platform.new)) table.now table.now (lines.Read name.now block) buffer.new result }
 {
     match block_of(table, name, block) {
         Err(reply) => Ok(reply),
@@ -82,8 +84,10 @@ pub(crate) fn write<P: Platform, T: Tape>(
     ensures words { IfOk result IsWords }
     ensures turns { P.tells → (entry : Held) (buffer : List ℕ) → IsHeld (P.history platform.old).present (P.head platform.old) session.old table.now entry
         → TurnsTo (P.history platform.new).present (P.head platform.new) table.now session.new entry
-        (λ reply next. OnBlock table.now entry name.now block (Writes (P.capacity platform.old) content.now) reply next) buffer result }
-    ensures damage { P.tells → IsMounted (P.history platform.old).present session.old → IfErr result (MeetsDamage (P.history platform.new).present) }
+        (λ reply next. OnBlock table.now entry name.now block (Writes (P.capacity platform.old) content.now) reply next) (entry.pages ≢ P.capacity platform.old) buffer result }
+    // On any pages: why it is answered so.
+    ensures any { (buffer : List ℕ) → AnswersAny (P.tells × IsMounted (P.history platform.old).present session.old) (P.history platform.new).present
+        (sizes (blocks_of session.old) (P.head platform.new) (P.capacity platform.new)) table.now table.now (lines.Write name.now block content.now) buffer result }
 {
     match block_of(table, name, block) {
         Err(reply) => Ok(reply),
@@ -113,8 +117,10 @@ pub(crate) fn trim<P: Platform>(
     ensures words { IfOk result IsWords }
     ensures turns { P.tells → (entry : Held) (buffer : List ℕ) → IsHeld (P.history platform.old).present (P.head platform.old) session.old table.now entry
         → TurnsTo (P.history platform.new).present (P.head platform.new) table.now session.new entry
-        (λ reply next. OnBlock table.now entry name.now block Trims reply next) buffer result }
-    ensures stops { IfErr result (StopsBy (P.tells × IsMounted (P.history platform.old).present session.old) (P.history platform.new).present (lines.Trim name.now block)) }
+        (λ reply next. OnBlock table.now entry name.now block Trims reply next) (Unit {0}) buffer result }
+    // On any pages: why it is answered so.
+    ensures any { (buffer : List ℕ) → AnswersAny (P.tells × IsMounted (P.history platform.old).present session.old) (P.history platform.new).present
+        (sizes (blocks_of session.old) (P.head platform.new) (P.capacity platform.new)) table.now table.now (lines.Trim name.now block) buffer result }
 {
     match block_of(table, name, block) {
         Err(reply) => Ok(reply),

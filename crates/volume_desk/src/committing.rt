@@ -1,19 +1,19 @@
 //! Commits, and destroys volumes.
-ghost use Rattle.std.specs.Prelude.{◌≡◌, ◌+◌, ℕ, List, IsOk, IfOk, IfErr, IfSome};
+ghost use Rattle.std.specs.Prelude.{◌≡◌, ◌+◌, ℕ, List, IsOk, IfOk, IfSome};
 ghost use Rattle.sdbt_base.specs.Counts.{counts};
 ghost use Rattle.device_course.specs.States.{around};
 ghost use Rattle.device_session.specs.Open.{IsOpen, blocks_of};
 ghost use Rattle.device_course.specs.Held.{Held};
 ghost use Rattle.session_calls.specs.Along.{drawn_by};
 ghost use Rattle.session_calls.specs.Blame.{IsBlamed};
-ghost use Rattle.session_calls.specs.Damage.{IsMounted, MeetsDamage};
+ghost use Rattle.session_calls.specs.Damage.{IsMounted};
 ghost use Rattle.volume_table.specs.Tables.{IsTable};
 ghost use Rattle.volume_table.specs.declared.volume.Volume.{Volume};
 ghost use Rattle.volume_lines.specs.Lines as lines;
 ghost use Rattle.volume_lines.specs.Replies.{IsWords};
 ghost use Rattle.session_calls.specs.Calling.{Calls};
 ghost use Rattle.session_calls.specs.Carrying.{Carries, IsReady};
-ghost use Rattle.volume_desk.specs.Causes.{StopsBy};
+ghost use Rattle.volume_desk.specs.Causes.{AnswersAny, TakesAny, answer_in, sizes};
 ghost use Rattle.volume_desk.specs.Turns.{IsHeld, ServesAs, TakesOut, commit_reply, destroy_reply, goes_on};
 
 use crate::changing::change;
@@ -42,7 +42,9 @@ pub(crate) fn commit<P: Platform, T: Tape, L: Sink>(
         → IsHeld (P.history platform.old).present (P.head platform.old) session table entry
         → ServesAs (around P.Platform T.Tape L.Sink platform.old tape.old ledger.old)
         (around P.Platform T.Tape L.Sink platform.new tape.new ledger.new) table table buffer entry lines.Commit result }
-    ensures stops { IfErr result (StopsBy P.tells (P.history platform.new).present lines.Commit) }
+    // On any pages: why it is answered so.
+    ensures any { (table : List Volume) (buffer : List ℕ) → AnswersAny P.tells (P.history platform.new).present
+        (sizes (blocks_of session) (P.head platform.new) (P.capacity platform.new)) table table lines.Commit buffer (answer_in result) }
 {
     match commit_session(session, platform, tape, ledger) {
         Ok(done) => Ok(Answered {
@@ -83,7 +85,9 @@ pub(crate) fn destroy<P: Platform, T: Tape, L: Sink>(
         → IsHeld (P.history platform.old).present (P.head platform.old) first table.old entry
         → ServesAs (around P.Platform T.Tape L.Sink platform.old tape.old ledger.old)
         (around P.Platform T.Tape L.Sink platform.new tape.new ledger.new) table.old table.new buffer entry (lines.Destroy name.now) result }
-    ensures stops { IfErr result (StopsBy P.tells (P.history platform.new).present (lines.Destroy name.now)) }
+    // On any pages: why it is answered so.
+    ensures any { (buffer : List ℕ) → AnswersAny P.tells (P.history platform.new).present
+        (sizes (blocks_of first) (P.head platform.new) (P.capacity platform.new)) table.old table.new (lines.Destroy name.now) buffer (answer_in result) }
 {
     let mut session = first;
     let refused = match take_out(table, &mut session, platform, tape, name) {
@@ -126,7 +130,9 @@ fn take_out<P: Platform, T: Tape>(
     ensures words { IfOk result (λ refused. IfSome refused IsWords) }
     ensures turns { P.tells → (entry : Held) (buffer : List ℕ) → IsHeld (P.history platform.old).present (P.head platform.old) session.old table.old entry
         → TakesOut (P.history platform.new).present (P.head platform.new) (P.capacity platform.old) table.old table.new session.new entry name.now buffer result }
-    ensures damage { P.tells → IsMounted (P.history platform.old).present session.old → IfErr result (MeetsDamage (P.history platform.new).present) }
+    // On any pages: why it is answered so.
+    ensures any { (buffer : List ℕ) → TakesAny (P.tells × IsMounted (P.history platform.old).present session.old) (P.history platform.new).present
+        (sizes (blocks_of session.old) (P.head platform.new) (P.capacity platform.new)) table.old table.new name.now buffer result }
 {
     let Some((at, volume)) = table.find(name) else {
         return Ok(Some(Reply::Unknown));

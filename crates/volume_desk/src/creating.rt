@@ -1,16 +1,18 @@
 //! Creates volumes.
-ghost use Rattle.std.specs.Prelude.{◌≡◌, ◌↔◌, ◌+◌, ◌≤◌, ℕ, List, true, false, IfOk, IfErr, IsTrue};
+ghost use Rattle.std.specs.Prelude.{◌≡◌, ◌≢◌, ◌↔◌, ◌+◌, ◌≤◌, ℕ, List, true, false, IfOk, IsTrue};
 ghost use Rattle.device_session.specs.Open.{IsOpen, blocks_of};
 ghost use Rattle.device_course.specs.Held.{Held};
 ghost use Rattle.session_calls.specs.Along.{drawn_by};
-ghost use Rattle.session_calls.specs.Damage.{IsMounted, MeetsDamage};
+ghost use Rattle.session_calls.specs.Damage.{IsMounted};
 ghost use Rattle.volume_table.specs.Names.{IsName};
 ghost use Rattle.volume_table.specs.Tables.{IsTable, Lacks};
 ghost use Rattle.volume_table.specs.declared.volume.Volume.{Volume};
+ghost use Rattle.volume_lines.specs.Lines as lines;
 ghost use Rattle.volume_lines.specs.Replies.{IsWords};
 ghost use Rattle.volume_terms.specs.Turn.{Creates};
 ghost use Rattle.volume_terms.specs.Volumes.{IsCount, IsNamed};
 ghost use Rattle.session_calls.specs.Calling.{Calls};
+ghost use Rattle.volume_desk.specs.Causes.{AnswersAny, sizes};
 ghost use Rattle.volume_desk.specs.Turns.{IsHeld, TurnsTo};
 
 use crate::changing::change;
@@ -38,8 +40,10 @@ pub(crate) fn create<P: Platform, T: Tape>(
     ensures words { IfOk result IsWords }
     ensures turns { P.tells → (entry : Held) (buffer : List ℕ) → IsHeld (P.history platform.old).present (P.head platform.old) session.old table.old entry
         → TurnsTo (P.history platform.new).present (P.head platform.new) table.new session.new entry
-        (λ reply next. Creates (P.capacity platform.old) table.old entry name.now count reply next) buffer result }
-    ensures damage { P.tells → IsMounted (P.history platform.old).present session.old → IfErr result (MeetsDamage (P.history platform.new).present) }
+        (λ reply next. Creates (P.capacity platform.old) table.old entry name.now count reply next) (entry.pages ≢ P.capacity platform.old) buffer result }
+    // On any pages: why it is answered so.
+    ensures any { (buffer : List ℕ) → AnswersAny (P.tells × IsMounted (P.history platform.old).present session.old) (P.history platform.new).present
+        (sizes (blocks_of session.old) (P.head platform.new) (P.capacity platform.new)) table.old table.new (lines.Create name.now count) buffer result }
 {
     if has_volume(table, name) {
         return Ok(Reply::Exists);

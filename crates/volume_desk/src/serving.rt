@@ -1,5 +1,5 @@
 //! Serves a line.
-ghost use Rattle.std.specs.Prelude.{◌≡◌, ◌+◌, ℕ, List, IsOk, IfOk, IfErr};
+ghost use Rattle.std.specs.Prelude.{◌≡◌, ◌+◌, ℕ, List, IsOk, IfOk};
 ghost use Rattle.sdbt_base.specs.Counts.{counts};
 ghost use Rattle.device_course.specs.States.{around};
 ghost use Rattle.device_session.specs.Open.{IsOpen, blocks_of};
@@ -14,8 +14,8 @@ ghost use Rattle.volume_lines.specs.Replies.{CanWrite, FitsBlock, said};
 ghost use Rattle.volume_terms.specs.Turn.{Serves};
 ghost use Rattle.session_calls.specs.Calling.{Calls};
 ghost use Rattle.session_calls.specs.Carrying.{Carries, IsReady};
-ghost use Rattle.volume_desk.specs.Causes.{StopsBy};
-ghost use Rattle.volume_desk.specs.Turns.{IsHeld, IsOfBlocks, ServesAs, TurnsTo, goes_on};
+ghost use Rattle.volume_desk.specs.Causes.{AnswersAny, answer_in, sizes};
+ghost use Rattle.volume_desk.specs.Turns.{HasPages, IsHeld, IsOfBlocks, ServesAs, TurnsTo, goes_on};
 
 use crate::blocks::{read, trim, write};
 use crate::committing::{commit, destroy};
@@ -69,8 +69,10 @@ pub fn serve_line<P: Platform, T: Tape, L: Sink>(
         → ServesAs (around P.Platform T.Tape L.Sink platform.old tape.old ledger.old)
         (around P.Platform T.Tape L.Sink platform.new tape.new ledger.new) desk.old.table desk.new.table desk.new.buffer entry
         (asked line.now desk.old.buffer) result }
-    // On any pages: what it stops at.
-    ensures stops { IfErr result (StopsBy P.tells (P.history platform.new).present (asked line.now desk.old.buffer)) }
+    // On any pages: why it is answered so.
+    ensures any { AnswersAny P.tells (P.history platform.new).present
+        (sizes (blocks_of first) (P.head platform.new) (P.capacity platform.new)) desk.old.table desk.new.table
+        (asked line.now desk.old.buffer) desk.new.buffer (answer_in result) }
 {
     match line {
         Line::Commit => return commit(first, platform, tape, ledger),
@@ -105,9 +107,12 @@ fn serve_blocks<P: Platform, T: Tape>(
     ensures short { IfOk result FitsBlock }
     ensures turns { P.tells → (entry : Held) → IsHeld (P.history platform.old).present (P.head platform.old) session.old desk.old.table entry
         → TurnsTo (P.history platform.new).present (P.head platform.new) desk.new.table session.new entry
-        (λ reply next. Serves (P.capacity platform.old) desk.old.table entry (asked line.now desk.old.buffer) reply next) desk.new.buffer result }
-    ensures stops { IfErr result (StopsBy (P.tells × IsMounted (P.history platform.old).present session.old) (P.history platform.new).present
-        (asked line.now desk.old.buffer)) }
+        (λ reply next. Serves (P.capacity platform.old) desk.old.table entry (asked line.now desk.old.buffer) reply next)
+        (HasPages (P.capacity platform.old) entry (asked line.now desk.old.buffer)) desk.new.buffer result }
+    // On any pages: why it is answered so.
+    ensures any { AnswersAny (P.tells × IsMounted (P.history platform.old).present session.old) (P.history platform.new).present
+        (sizes (blocks_of session.old) (P.head platform.new) (P.capacity platform.new)) desk.old.table desk.new.table
+        (asked line.now desk.old.buffer) desk.new.buffer result }
 {
     match line {
         Line::Create { name, count } => {

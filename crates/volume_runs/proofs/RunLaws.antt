@@ -41,7 +41,7 @@ served_left image left lost served =
     (subst (λ (pages : List (List ℕ)). IsServedCell image.cell (length pages)) (sym lost.recorded) served)
 
 -- the device with which the first run ended, for which its last image stands
-pub ended_with : (old mid : Outside) (result : Result (Unit {0}) Halt) (left left_now written written_now : Option (List ℕ)) (serves : Serves (IsStart (Unit {0}) old) old mid result left left_now written written_now)
+pub ended_with : (old mid : Outside) (result : Result (Unit {0}) Halt) (left left_now written written_now : Option (List ℕ)) (serves : Serves (Unit {0}) (IsStart (Unit {0}) old) old mid result left left_now written written_now)
     (entry : Held) (start : IsStart (Unit {0}) old entry)
     → (device : Device) × Stands mid.history.present (Some device) × EndsWith (IsStart (Unit {0}) old) old mid result left left_now written written_now serves entry start device
 ended_with old mid result left left_now written written_now (inl (halt, is, silent)) entry start = (entry.device, (silent.stayed entry start).0.exits.there.device, refl)
@@ -59,7 +59,7 @@ pub start_of : (old : Outside) (device : Device) → Stands old.history.present 
 start_of old device stands served = starts_on old device stands served
 
 -- from which the second run begins
-pub next_start : (old mid cut : Outside) (result : Result (Unit {0}) Halt) (left left_now written written_now : Option (List ℕ)) (serves : Serves (IsStart (Unit {0}) old) old mid result left left_now written written_now)
+pub next_start : (old mid cut : Outside) (result : Result (Unit {0}) Halt) (left left_now written written_now : Option (List ℕ)) (serves : Serves (Unit {0}) (IsStart (Unit {0}) old) old mid result left left_now written written_now)
     (entry : Held) (start : IsStart (Unit {0}) old entry) → MayLeave mid.history.present cut.history.present → IsServedImage cut.history.present
     → (next : Held) × IsStart (Unit {0}) cut next × EndsWith (IsStart (Unit {0}) old) old mid result left left_now written written_now serves entry start next.device
 next_start old mid cut result left left_now written written_now serves entry start lost served =
@@ -69,7 +69,7 @@ next_start old mid cut result left left_now written written_now serves entry sta
 -- ---- blocks that are free
 
 -- in a run
-pub free_on : (block : ℕ) (old new : Outside) (result : Result (Unit {0}) Halt) (left left_now written written_now : Option (List ℕ)) (serves : Serves (IsStart (Unit {0}) old) old new result left left_now written written_now)
+pub free_on : (block : ℕ) (old new : Outside) (result : Result (Unit {0}) Halt) (left left_now written written_now : Option (List ℕ)) (serves : Serves (Unit {0}) (IsStart (Unit {0}) old) old new result left left_now written written_now)
     (entry : Held) (start : IsStart (Unit {0}) old entry) → block ≢ 0 → IsFree block entry → IsFreeOn block (IsStart (Unit {0}) old) old new result left left_now written written_now serves entry start
 free_on block old new result left left_now written written_now (inl silent) entry start other free = free
 free_on block old new result left left_now written written_now (inr (ending, is, answers)) entry start other free =
@@ -101,14 +101,14 @@ stay_free old mid entry (line ∷ lines) (reply ∷ replies) (state ∷ states) 
     )
 
 -- what is known of the second run, for each start of the first
-pub record Goes (old mid : Outside) (result : Result (Unit {0}) Halt) (left left_now written written_now : Option (List ℕ)) (serves : Serves (IsStart (Unit {0}) old) old mid result left left_now written written_now)
+pub record Goes (old mid : Outside) (result : Result (Unit {0}) Halt) (left left_now written written_now : Option (List ℕ)) (serves : Serves (Unit {0}) (IsStart (Unit {0}) old) old mid result left left_now written written_now)
     (Later : (entry : Held) → IsStart (Unit {0}) old entry → ℕ → Type 0) (entry : Held) (start : IsStart (Unit {0}) old entry) : Type 0 where
   pub next : Held
   pub fresh : next.session ≡ session_on next.device
   pub ends : EndsWith (IsStart (Unit {0}) old) old mid result left left_now written written_now serves entry start next.device
   pub later : (block : ℕ) → block ≢ 0 → IsFree block next → Later entry start block
 
-pub all_free : (old mid : Outside) (result : Result (Unit {0}) Halt) (left left_now written written_now : Option (List ℕ)) (serves : Serves (IsStart (Unit {0}) old) old mid result left left_now written written_now)
+pub all_free : (old mid : Outside) (result : Result (Unit {0}) Halt) (left left_now written written_now : Option (List ℕ)) (serves : Serves (Unit {0}) (IsStart (Unit {0}) old) old mid result left left_now written written_now)
     (Later : (entry : Held) → IsStart (Unit {0}) old entry → ℕ → Type 0) → ((entry : Held) (start : IsStart (Unit {0}) old entry) → Goes old mid result left left_now written written_now serves Later entry start)
     → AllFree (IsStart (Unit {0}) old) Later old mid result left left_now written written_now serves
 all_free old mid result left left_now written written_now (inl silent) Later goes = tt
@@ -151,7 +151,7 @@ all_stay keys grew more old mid cut new entry (line ∷ lines) (reply ∷ replie
   all_stay keys grew more old mid cut new state lines replies states ahead on kept first premises rest,
 )
 
-pub served_stay : (keys grew more : List (List ℕ)) (old mid : Outside) (cut new : History) (result : Result (Unit {0}) Halt) (left left_now written written_now : Option (List ℕ)) (serves : Serves (IsStart (Unit {0}) old) old mid result left left_now written written_now)
+pub served_stay : (keys grew more : List (List ℕ)) (old mid : Outside) (cut new : History) (result : Result (Unit {0}) Halt) (left left_now written written_now : Option (List ℕ)) (serves : Serves (Unit {0}) (IsStart (Unit {0}) old) old mid result left left_now written written_now)
     → DisclosesOn keys grew old.history mid.history cut new → During old.history mid.history (Kept (keys ++ grew)) → AreFirst mid.history.present.recorded new.present.recorded → KeyPremises ((keys ++ grew) ++ more) new.present.recorded
     → AllStay (keys ++ grew) (IsStart (Unit {0}) old) old mid cut new result left left_now written written_now serves
 served_stay keys grew more old mid cut new result left left_now written written_now (inl silent) on kept first premises = tt

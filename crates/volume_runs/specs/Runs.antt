@@ -56,14 +56,14 @@ StayDestroyed keys old mid cut new entry (line ∷ lines) (reply ∷ replies) []
 
 -- the same of all lines that the first run served, from each state that it may have begun from
 abbrev pub AllStay : (keys : List (List ℕ)) (From : Held → Type 0) (old mid : Outside) (cut new : History) (result : Result (Unit {0}) Halt) (left left_now written written_now : Option (List ℕ))
-    → Serves From old mid result left left_now written written_now → Type 0
+    → Serves (Unit {0}) From old mid result left left_now written written_now → Type 0
 AllStay keys From old mid cut new result left left_now written written_now (inl silent) = Unit {0}
 AllStay keys From old mid cut new result left left_now written written_now (inr (ending, is, answers)) =
     (entry : Held) → (from : From entry)
     → StayDestroyed keys old.history mid.history cut new entry answers.lines answers.replies (answers.led entry from).on.led.states (answers.led entry from).on.ahead
 
 -- the block is free at the start of a run, and up to the first state in which a volume has it
-abbrev pub IsFreeOn : (block : ℕ) (From : Held → Type 0) (old new : Outside) (result : Result (Unit {0}) Halt) (left left_now written written_now : Option (List ℕ)) → Serves From old new result left left_now written written_now
+abbrev pub IsFreeOn : (block : ℕ) (From : Held → Type 0) (old new : Outside) (result : Result (Unit {0}) Halt) (left left_now written written_now : Option (List ℕ)) → Serves (Unit {0}) From old new result left left_now written written_now
     → (entry : Held) → From entry → Type 0
 IsFreeOn block From old new result left left_now written written_now (inl silent) entry from = IsFree block entry
 IsFreeOn block From old new result left left_now written written_now (inr (ending, is, answers)) entry from =
@@ -79,13 +79,13 @@ StayFree Later entry (line ∷ lines) (reply ∷ replies) [] ahead = Unit {0}
 
 -- the same of all lines that the first run served, from each state that it may have begun from
 abbrev pub AllFree : (From : Held → Type 0) → ((entry : Held) → From entry → ℕ → Type 0) → (old mid : Outside) (result : Result (Unit {0}) Halt) (left left_now written written_now : Option (List ℕ))
-    → Serves From old mid result left left_now written written_now → Type 0
+    → Serves (Unit {0}) From old mid result left left_now written written_now → Type 0
 AllFree From Later old mid result left left_now written written_now (inl silent) = Unit {0}
 AllFree From Later old mid result left left_now written written_now (inr (ending, is, answers)) =
     (entry : Held) → (from : From entry) → StayFree (Later entry from) entry answers.lines answers.replies (answers.led entry from).on.led.states (answers.led entry from).on.ahead
 
 -- the device is the one with which a run ended that began from this state
-abbrev pub EndsWith : (From : Held → Type 0) (old mid : Outside) (result : Result (Unit {0}) Halt) (left left_now written written_now : Option (List ℕ)) → Serves From old mid result left left_now written written_now
+abbrev pub EndsWith : (From : Held → Type 0) (old mid : Outside) (result : Result (Unit {0}) Halt) (left left_now written written_now : Option (List ℕ)) → Serves (Unit {0}) From old mid result left left_now written written_now
     → (entry : Held) → From entry → Device → Type 0
 EndsWith From old mid result left left_now written written_now (inl silent) entry from device = device ≡ entry.device
 EndsWith From old mid result left left_now written written_now (inr (ending, is, answers)) entry from device =

@@ -31,10 +31,12 @@ use Rattle.volume_lines.specs.Replies.{Reply, Bad, line_of}
 use Rattle.volume_terms.specs.Turn.{Turn}
 use Rattle.volume_terms.specs.Volumes.{IsTabled}
 use Rattle.device_course.specs.Course.{MadeBetween}
-use Rattle.volume_desk.specs.Causes.{MayStop}
-use Rattle.volume_desk.specs.Turns.{IsHeld, Served, Shows, Stopped, StopsAt}
+use Rattle.volume_desk.specs.Causes.{StopsAny, sizes}
+use Rattle.volume_desk.specs.Turns.{HasPages, IsHeld, Served, Shows, Stopped, StopsAt}
 use Rattle.volume_serving.specs.World.{World, IsOn}
-use Rattle.volume_serving.specs.Handled.{ending_of, goes_on, AreMany, AreShown, EndsOn, Handled, IfNext, IsStopOf, OnLines, Replied}
+use Rattle.volume_serving.specs.Handled.{ending_of, goes_on, AreMany, AreShown, EndsOn, Handled, OnLines, Replied}
+use Rattle.volume_serving.specs.Tabled.{IfStopped, IsTurnOn, OnTables}
+use Rattle.volume_serving.proofs.TabledLaws.{if_stopped_behind, if_stopped_longer, next_behind, next_longer, tables_cut, tables_longer, tables_nothing, tables_then}
 
 -- ---- nothing
 
@@ -53,29 +55,18 @@ on_nothing w entry on = record {
     made = made_start w.outside.history None (closed (Some entry.device)) (shut w.outside.history.present (Some entry.device) on.held.at.there.device on.held.at.served);
   };
   ends = (refl, on);
+  pages = tt;
   shown = tt;
 }
 
-pub handled_nothing : (tells : Type 0) (w : World) (written : Option (List ℕ)) → w.outside.head ≤ w.outside.capacity → Handled tells w w (Ok tt) [] written written
-handled_nothing tells w written fits = record {
+pub handled_nothing : (tells : Type 0) (blocks : ℕ) (w : World) (written : Option (List ℕ)) → w.outside.head ≤ w.outside.capacity → Handled tells blocks w w (Ok tt) [] written written
+handled_nothing tells blocks w written fits = record {
   put = [];
   got = Got-nothing written;
-  replied = record { replies = []; part = []; put_is = refl; behind = refl; many = refl; stopped = tt; later = later_none w.outside fits; led = λ told entry on. on_nothing w entry on };
+  replied = record { replies = []; part = []; put_is = refl; behind = refl; many = refl; tables = tables_nothing tells blocks w.table w.outside; later = later_none w.outside fits; led = λ told entry on. on_nothing w entry on };
 }
 
 -- ---- lines behind others
-
-next_behind : (lines more : List (List ℕ)) (replies others : List Reply) (Claim : List ℕ → Type 0) → length replies ≡ length lines → IfNext others more Claim → IfNext (replies ++ others) (lines ++ more) Claim
-next_behind [] more [] others Claim same next = next
-next_behind [] more (r ∷ replies) others Claim same next = absurd (omega (arith, same))
-next_behind (line ∷ lines) more [] others Claim same next = absurd (omega (arith, same))
-next_behind (line ∷ lines) more (r ∷ replies) others Claim same next = next_behind lines more replies others Claim (omega (arith, same)) next
-
-next_longer : (lines more : List (List ℕ)) (replies : List Reply) (Claim : List ℕ → Type 0) → IfNext replies lines Claim → IfNext replies (lines ++ more) Claim
-next_longer [] more [] Claim next = absurd next
-next_longer [] more (r ∷ replies) Claim next = absurd next
-next_longer (line ∷ lines) more [] Claim next = next
-next_longer (line ∷ lines) more (r ∷ replies) Claim next = next_longer lines more replies Claim next
 
 many_then : (one two lines more : ℕ) (ending : Ending) → one ≡ lines → AreMany two more ending → AreMany (one + two) (lines + more) ending
 many_then one two lines more (Ok done) same many = omega (arith, same, many)
@@ -99,13 +90,6 @@ ends_behind new capacity last lines more replies others part ahead (Err (stops.D
 ends_behind new capacity last lines more replies others part ahead (Err (stops.Device device.Memory)) same ends = ends
 ends_behind new capacity last lines more replies others part ahead (Err (stops.Device device.BadRoot)) same ends = absurd ends
 ends_behind new capacity last lines more replies others part ahead (Err (stops.Device (device.BadRecord addr))) same ends = absurd ends
-
-stopped_behind : (lines more : List (List ℕ)) (replies others : List Reply) (ending : Ending) → length replies ≡ length lines → IsStopOf more others ending → IsStopOf (lines ++ more) (replies ++ others) ending
-stopped_behind lines more replies others (Ok done) same stopped = tt
-stopped_behind lines more replies others (Err stops.Source) same stopped = tt
-stopped_behind lines more replies others (Err stops.Limit) same stopped = tt
-stopped_behind lines more replies others (Err stops.Sink) same stopped = tt
-stopped_behind lines more replies others (Err (stops.Device stop)) same stopped = next_behind lines more replies others (λ text. (it : Line) × Spells text it × MayStop it stop) same stopped
 
 -- from an earlier moment on
 pub shown_from : (new : History) (low from : ℕ) (replies : List Reply) (states : List Held) → low ≤ from → AreShown new from replies states → AreShown new low replies states
@@ -172,8 +156,8 @@ on_then old mid new entry lines more replies others part ending capacity same on
     let last : Held = last_of entry led.states in
     let next = two last first.1 in
     let C : ℕ → Type 0 = λ n. (led : Led (Turn n) device_of (MadeBetween mid.outside.history new.outside.history) last more others next.ahead) × EndsOn new n (last_of last led.states) more others part next.ahead ending
-    × AreShown new.outside.history between others led.states in
-    let second = subst C capacity (next.led, next.ends, next.shown) in
+    × AreShown new.outside.history between others led.states × IfStopped (λ (stop : DeviceStop) (it : Line). HasPages n (last_of last led.states) it) more others ending in
+    let second = subst C capacity (next.led, next.ends, next.shown, next.pages) in
     let all = led_both old.outside.capacity old.outside.history mid.outside.history new.outside.history entry lines more replies others next.ahead same led second.0 in
     record {
       ahead = next.ahead;
@@ -181,13 +165,16 @@ on_then old mid new entry lines more replies others part ending capacity same on
       ends = subst (λ (h : Held). EndsOn new old.outside.capacity h (lines ++ more) (replies ++ others) part next.ahead ending)
           (sym (ap (λ (states : List Held). last_of entry states) all.1 ∙ last_of-append entry led.states second.0.states))
           (ends_behind new old.outside.capacity (last_of last second.0.states) lines more replies others part next.ahead ending same second.1);
+      pages = subst (λ (h : Held). IfStopped (λ (stop : DeviceStop) (it : Line). HasPages old.outside.capacity h it) (lines ++ more) (replies ++ others) ending)
+          (sym (ap (λ (states : List Held). last_of entry states) all.1 ∙ last_of-append entry led.states second.0.states))
+          (if_stopped_behind (λ (stop : DeviceStop) (it : Line). HasPages old.outside.capacity (last_of last second.0.states) it) lines more replies others ending same second.3);
       shown = subst (λ (states : List Held). AreShown new.outside.history start (replies ++ others) states) (sym all.1)
           (shown_then mid.outside.history new.outside.history start replies others led.states second.0.states second.0.made.passes.extends led.made.passes.extends.later first.2 second.2);
     }
 
-pub replied_then : (tells : Type 0) (old mid new : World) (ending : Ending) (lines more : List (List ℕ)) (put others : List ℕ) → Replied tells old mid (Ok tt) lines put → Replied tells mid new ending more others
-    → Replied tells old new ending (lines ++ more) (put ++ others)
-replied_then tells old mid new ending lines more put others one two =
+pub replied_then : (tells : Type 0) (blocks : ℕ) (old mid new : World) (ending : Ending) (lines more : List (List ℕ)) (put others : List ℕ) → Replied tells blocks old mid (Ok tt) lines put → Replied tells blocks mid new ending more others
+    → Replied tells blocks old new ending (lines ++ more) (put ++ others)
+replied_then tells blocks old mid new ending lines more put others one two =
     let first : put ≡ flat_map line_of one.replies = one.put_is ∙ ap (λ (l : List ℕ). flat_map line_of one.replies ++ l) one.behind ∙ append-nil (flat_map line_of one.replies) in
     record {
       replies = one.replies ++ two.replies;
@@ -197,18 +184,18 @@ replied_then tells old mid new ending lines more put others one two =
       behind = two.behind;
       many = subst (λ (n : ℕ). AreMany n (length (lines ++ more)) ending) (sym (length-append one.replies two.replies))
           (subst (λ (n : ℕ). AreMany (length one.replies + length two.replies) n ending) (sym (length-append lines more)) (many_then (length one.replies) (length two.replies) (length lines) (length more) ending one.many two.many));
-      stopped = stopped_behind lines more one.replies two.replies ending one.many two.stopped;
+      tables = tables_then tells blocks old.table mid.table new.table mid.outside new.outside lines more one.replies two.replies ending two.later one.many one.tables two.tables;
       later = later_then old.outside mid.outside new.outside one.later two.later;
       led = λ told entry on. on_then old mid new entry lines more one.replies two.replies two.part ending one.later.capacity one.many
           (subst (λ (p : List ℕ). OnLines old mid entry lines one.replies p (Ok tt)) one.behind (one.led told entry on)) (λ last there. two.led told last there);
     }
 
-pub handled_then : (tells : Type 0) (old mid new : World) (ending : Ending) (lines more : List (List ℕ)) (a b c : Option (List ℕ)) → Handled tells old mid (Ok tt) lines a b → Handled tells mid new ending more b c
-    → Handled tells old new ending (lines ++ more) a c
-handled_then tells old mid new ending lines more a b c p q = record {
+pub handled_then : (tells : Type 0) (blocks : ℕ) (old mid new : World) (ending : Ending) (lines more : List (List ℕ)) (a b c : Option (List ℕ)) → Handled tells blocks old mid (Ok tt) lines a b → Handled tells blocks mid new ending more b c
+    → Handled tells blocks old new ending (lines ++ more) a c
+handled_then tells blocks old mid new ending lines more a b c p q = record {
   put = p.put ++ q.put;
   got = Got-then a p.put b q.put c p.got q.got;
-  replied = replied_then tells old mid new ending lines more p.put q.put p.replied q.replied;
+  replied = replied_then tells blocks old mid new ending lines more p.put q.put p.replied q.replied;
 }
 
 -- ---- lines that a stop left
@@ -218,12 +205,6 @@ many_longer replies lines more stops.Source line many = absurd line
 many_longer replies lines more stops.Limit line many = absurd line
 many_longer replies lines more stops.Sink line many = omega (arith, many)
 many_longer replies lines more (stops.Device stop) line many = omega (arith, many)
-
-stopped_longer : (lines more : List (List ℕ)) (replies : List Reply) (stop : Stop) → IsOfLine stop → IsStopOf lines replies (Err stop) → IsStopOf (lines ++ more) replies (Err stop)
-stopped_longer lines more replies stops.Source line stopped = tt
-stopped_longer lines more replies stops.Limit line stopped = tt
-stopped_longer lines more replies stops.Sink line stopped = tt
-stopped_longer lines more replies (stops.Device stop) line stopped = next_longer lines more replies (λ text. (it : Line) × Spells text it × MayStop it stop) stopped
 
 ends_longer : (new : World) (capacity : ℕ) (last : Held) (lines more : List (List ℕ)) (replies : List Reply) (part : List ℕ) (ahead : List Held) (stop : Stop) → IsOfLine stop
     → EndsOn new capacity last lines replies part ahead (Err stop) → EndsOn new capacity last (lines ++ more) replies part ahead (Err stop)
@@ -243,11 +224,12 @@ on_longer old new entry lines more replies part stop line on = record {
   ahead = on.ahead;
   led = record { states = on.led.states; leads = leads_longer (Turn old.outside.capacity) entry lines more replies on.led.states on.led.leads; made = on.led.made };
   ends = ends_longer new old.outside.capacity (last_of entry on.led.states) lines more replies part on.ahead stop line on.ends;
+  pages = if_stopped_longer (λ (stop : DeviceStop) (it : Line). HasPages old.outside.capacity (last_of entry on.led.states) it) lines more replies stop line on.pages;
   shown = on.shown;
 }
 
-pub handled_longer : (tells : Type 0) (old new : World) (stop : Stop) (lines more : List (List ℕ)) (a b : Option (List ℕ)) → IsOfLine stop → Handled tells old new (Err stop) lines a b → Handled tells old new (Err stop) (lines ++ more) a b
-handled_longer tells old new stop lines more a b line p =
+pub handled_longer : (tells : Type 0) (blocks : ℕ) (old new : World) (stop : Stop) (lines more : List (List ℕ)) (a b : Option (List ℕ)) → IsOfLine stop → Handled tells blocks old new (Err stop) lines a b → Handled tells blocks old new (Err stop) (lines ++ more) a b
+handled_longer tells blocks old new stop lines more a b line p =
     let r = p.replied in
     record {
       put = p.put;
@@ -258,11 +240,15 @@ handled_longer tells old new stop lines more a b line p =
         put_is = r.put_is;
         behind = r.behind;
         many = subst (λ (n : ℕ). AreMany (length r.replies) n (Err stop)) (sym (length-append lines more)) (many_longer (length r.replies) (length lines) (length more) stop line r.many);
-        stopped = stopped_longer lines more r.replies stop line r.stopped;
+        tables = tables_longer tells blocks old.table new.table new.outside lines more r.replies stop line r.tables;
         later = r.later;
         led = λ told entry on. on_longer old new entry lines more r.replies r.part stop line (r.led told entry on);
       };
     }
+
+-- over as many blocks
+pub handled_of : (tells : Type 0) (blocks same : ℕ) (old new : World) (ending : Ending) (lines : List (List ℕ)) (a b : Option (List ℕ)) → same ≡ blocks → Handled tells same old new ending lines a b → Handled tells blocks old new ending lines a b
+handled_of tells blocks same old new ending lines a b is handled = subst (λ (n : ℕ). Handled tells n old new ending lines a b) is handled
 
 -- ---- one line
 
@@ -310,10 +296,11 @@ shown_one : (old new : History) (reply : Reply) (next : Held) → moment old ≤
 shown_one old new reply next later shows = (moment new, later, omega arith, subst (λ (image : Image). Shows image reply next) (sym (image_at-now new (moment new) (omega arith))) shows, tt)
 
 -- its reply is put
-pub line_put : (tells : Type 0) (old new : World) (now : Session) (text : List ℕ) (reply : Reply) (a b : Option (List ℕ)) → new.session ≡ Some now → IsLater old.outside new.outside
+pub line_put : (tells : Type 0) (blocks : ℕ) (old new : World) (now : Session) (text : List ℕ) (reply : Reply) (a b : Option (List ℕ)) → new.session ≡ Some now → IsLater old.outside new.outside
+    → IsTurnOn (sizes blocks new.outside.head new.outside.capacity) old.table text reply new.table
     → (tells → (entry : Held) → IsOn old entry → IsTurn old new.outside.history.present new.outside.head now new.table new.outside.history entry text reply) → Got a (line_of reply) b
-    → Handled tells old new (Ok tt) (text ∷ []) a b
-line_put tells old new now text reply a b going later turns got = record {
+    → Handled tells blocks old new (Ok tt) (text ∷ []) a b
+line_put tells blocks old new now text reply a b going later on_table turns got = record {
   put = line_of reply;
   got = got;
   replied = record {
@@ -322,7 +309,7 @@ line_put tells old new now text reply a b going later turns got = record {
     put_is = sym (append-nil (line_of reply ++ []) ∙ append-nil (line_of reply));
     behind = refl;
     many = refl;
-    stopped = tt;
+    tables = record { last = new.table; turns = (new.table, on_table, refl); going = refl; stopped = tt };
     later = later;
     led = λ told entry on.
         let t = turns told entry on in
@@ -330,16 +317,17 @@ line_put tells old new now text reply a b going later turns got = record {
           ahead = [];
           led = record { states = t.next ∷ []; leads = (t.turn, tt); made = t.made };
           ends = (refl, record { session = now; going = going; held = t.held });
+          pages = tt;
           shown = shown_one old.outside.history new.outside.history reply t.next t.made.passes.extends.later t.shows;
         };
   };
 }
 
 -- or only a part of it
-pub line_cut : (tells : Type 0) (old new : World) (now : Session) (image : Image) (head : ℕ) (table_now : List Volume) (text : List ℕ) (reply : Reply) (a b : Option (List ℕ)) → IsLater old.outside new.outside
+pub line_cut : (tells : Type 0) (blocks : ℕ) (old new : World) (now : Session) (image : Image) (head : ℕ) (table_now : List Volume) (text : List ℕ) (reply : Reply) (a b : Option (List ℕ)) → IsLater old.outside new.outside
     → (tells → (entry : Held) → IsOn old entry → IsTurn old image head now table_now new.outside.history entry text reply) → GotPart a (line_of reply) b
-    → Handled tells old new (Err stops.Sink) (text ∷ []) a b
-line_cut tells old new now image head table_now text reply a b later turns (n, got) = record {
+    → Handled tells blocks old new (Err stops.Sink) (text ∷ []) a b
+line_cut tells blocks old new now image head table_now text reply a b later turns (n, got) = record {
   put = take n (line_of reply);
   got = got;
   replied = record {
@@ -348,7 +336,7 @@ line_cut tells old new now image head table_now text reply a b later turns (n, g
     put_is = refl;
     behind = inl (reply, (n, refl));
     many = omega arith;
-    stopped = tt;
+    tables = record { last = old.table; turns = refl; going = tt; stopped = tt };
     later = later;
     led = λ told entry on.
         let t = turns told entry on in
@@ -356,6 +344,7 @@ line_cut tells old new now image head table_now text reply a b later turns (n, g
           ahead = t.next ∷ [];
           led = record { states = []; leads = tt; made = t.made };
           ends = (reply, t.next, refl, (n, refl), t.turn);
+          pages = tt;
           shown = tt;
         };
   };
@@ -373,10 +362,11 @@ stop_ends new capacity table entry text it ahead device.BadRoot spelled tabled i
 stop_ends new capacity table entry text it ahead (device.BadRecord addr) spelled tabled is = absurd is
 
 -- the device stopped at it
-pub line_stop : (tells : Type 0) (old new : World) (session : Session) (text : List ℕ) (it : Line) (stop : DeviceStop) (a : Option (List ℕ)) → old.session ≡ Some session → Spells text it → MayStop it stop → IsLater old.outside new.outside
+pub line_stop : (tells : Type 0) (blocks : ℕ) (old new : World) (session : Session) (text : List ℕ) (it : Line) (stop : DeviceStop) (a : Option (List ℕ)) → old.session ≡ Some session → Spells text it
+    → StopsAny tells new.outside.history.present blocks old.table it stop → IsLater old.outside new.outside
     → (tells → (entry : Held) → IsHeld old.outside.history.present old.outside.head session old.table entry → Stopped old.outside new.outside old.table entry it stop)
-    → Handled tells old new (Err (stops.Device stop)) (text ∷ []) a a
-line_stop tells old new session text it stop a going spelled may later stopped = record {
+    → Handled tells blocks old new (Err (stops.Device stop)) (text ∷ []) a a
+line_stop tells blocks old new session text it stop a going spelled may later stopped = record {
   put = [];
   got = Got-nothing a;
   replied = record {
@@ -385,7 +375,7 @@ line_stop tells old new session text it stop a going spelled may later stopped =
     put_is = refl;
     behind = refl;
     many = omega arith;
-    stopped = (it, spelled, may);
+    tables = record { last = old.table; turns = refl; going = tt; stopped = (it, spelled, may) };
     later = later;
     led = λ told entry on.
         let same : on.session ≡ session = let e : Some on.session ≡ Some session = sym on.going ∙ going in cc in
@@ -395,37 +385,39 @@ line_stop tells old new session text it stop a going spelled may later stopped =
           ahead = s.ahead;
           led = record { states = []; leads = tt; made = s.made };
           ends = stop_ends new old.outside.capacity old.table entry text it s.ahead stop spelled there.tabled s.is;
+          pages = (it, spelled, s.pages);
           shown = tt;
         };
   };
 }
 
 -- a reply that was put, or was not
-pub line_told : (tells : Type 0) (old : World) (outside : Outside) (now : Session) (table_now : List Volume) (text : List ℕ) (reply : Reply) (result : Result Session Stop) (a b : Option (List ℕ)) → IsLater old.outside outside
+pub line_told : (tells : Type 0) (blocks : ℕ) (old : World) (outside : Outside) (now : Session) (table_now : List Volume) (text : List ℕ) (reply : Reply) (result : Result Session Stop) (a b : Option (List ℕ)) → IsLater old.outside outside
+    → IsTurnOn (sizes blocks outside.head outside.capacity) old.table text reply table_now
     → (tells → (entry : Held) → IsOn old entry → IsTurn old outside.history.present outside.head now table_now outside.history entry text reply) → IfOk result (λ s. s ≡ now) → HasPut (line_of reply) (ending_of result) a b
-    → Handled tells old (record { session = goes_on result; table = table_now; outside = outside }) (ending_of result) (text ∷ []) a b
-line_told tells old outside now table_now text reply (Ok session) a b later turns same put =
-    line_put tells old (record { session = Some session; table = table_now; outside = outside }) now text reply a b (ap Some same) later turns put
-line_told tells old outside now table_now text reply (Err stops.Sink) a b later turns same put =
-    line_cut tells old (record { session = None; table = table_now; outside = outside }) now outside.history.present outside.head table_now text reply a b later turns put
-line_told tells old outside now table_now text reply (Err stops.Source) a b later turns same put = absurd put
-line_told tells old outside now table_now text reply (Err stops.Limit) a b later turns same put = absurd put
-line_told tells old outside now table_now text reply (Err (stops.Device stop)) a b later turns same put = absurd put
+    → Handled tells blocks old (record { session = goes_on result; table = table_now; outside = outside }) (ending_of result) (text ∷ []) a b
+line_told tells blocks old outside now table_now text reply (Ok session) a b later on_table turns same put =
+    line_put tells blocks old (record { session = Some session; table = table_now; outside = outside }) now text reply a b (ap Some same) later on_table turns put
+line_told tells blocks old outside now table_now text reply (Err stops.Sink) a b later on_table turns same put =
+    line_cut tells blocks old (record { session = None; table = table_now; outside = outside }) now outside.history.present outside.head table_now text reply a b later turns put
+line_told tells blocks old outside now table_now text reply (Err stops.Source) a b later on_table turns same put = absurd put
+line_told tells blocks old outside now table_now text reply (Err stops.Limit) a b later on_table turns same put = absurd put
+line_told tells blocks old outside now table_now text reply (Err (stops.Device stop)) a b later on_table turns same put = absurd put
 
 -- ---- an input that failed behind lines
 
 on_cut : (old new : World) (entry : Held) (lines : List (List ℕ)) (replies : List Reply) (part : List ℕ) → OnLines old new entry lines replies part (Ok tt)
     → OnLines old new entry lines replies part (Err stops.Source) × OnLines old new entry lines replies part (Err stops.Limit)
 on_cut old new entry lines replies part on = (
-  record { ahead = on.ahead; led = on.led; ends = on.ends; shown = on.shown },
-  record { ahead = on.ahead; led = on.led; ends = on.ends; shown = on.shown },
+  record { ahead = on.ahead; led = on.led; ends = on.ends; pages = tt; shown = on.shown },
+  record { ahead = on.ahead; led = on.led; ends = on.ends; pages = tt; shown = on.shown },
 )
 
 -- a run that handled its lines, and ended so behind them
-handled_ended : (tells : Type 0) (old new : World) (ending : Ending) (lines : List (List ℕ)) (a b : Option (List ℕ)) (p : Handled tells old new (Ok tt) lines a b) → IsBehind line_of no_line p.replied.part ending
-    → AreMany (length p.replied.replies) (length lines) ending → IsStopOf lines p.replied.replies ending
-    → ((entry : Held) → OnLines old new entry lines p.replied.replies p.replied.part (Ok tt) → OnLines old new entry lines p.replied.replies p.replied.part ending) → Handled tells old new ending lines a b
-handled_ended tells old new ending lines a b p behind many stopped on = let r = p.replied in record {
+handled_ended : (tells : Type 0) (blocks : ℕ) (old new : World) (ending : Ending) (lines : List (List ℕ)) (a b : Option (List ℕ)) (p : Handled tells blocks old new (Ok tt) lines a b) → IsBehind line_of no_line p.replied.part ending
+    → AreMany (length p.replied.replies) (length lines) ending → OnTables tells blocks old.table new.table new.outside lines p.replied.replies ending
+    → ((entry : Held) → OnLines old new entry lines p.replied.replies p.replied.part (Ok tt) → OnLines old new entry lines p.replied.replies p.replied.part ending) → Handled tells blocks old new ending lines a b
+handled_ended tells blocks old new ending lines a b p behind many tables on = let r = p.replied in record {
   put = p.put;
   got = p.got;
   replied = record {
@@ -434,41 +426,42 @@ handled_ended tells old new ending lines a b p behind many stopped on = let r = 
     put_is = r.put_is;
     behind = behind;
     many = many;
-    stopped = stopped;
+    tables = tables;
     later = r.later;
     led = λ told entry there. on entry (r.led told entry there);
   };
 }
 
-pub handled_cut : (tells : Type 0) (old new : World) (lines : List (List ℕ)) (a b : Option (List ℕ)) → Handled tells old new (Ok tt) lines a b → Handled tells old new (Err stops.Source) lines a b × Handled tells old new (Err stops.Limit) lines a b
-handled_cut tells old new lines a b p = let r = p.replied in (
-  handled_ended tells old new (Err stops.Source) lines a b p r.behind r.many tt (λ entry on. (on_cut old new entry lines r.replies r.part on).0),
-  handled_ended tells old new (Err stops.Limit) lines a b p r.behind r.many tt (λ entry on. (on_cut old new entry lines r.replies r.part on).1),
+pub handled_cut : (tells : Type 0) (blocks : ℕ) (old new : World) (lines : List (List ℕ)) (a b : Option (List ℕ)) → Handled tells blocks old new (Ok tt) lines a b
+    → Handled tells blocks old new (Err stops.Source) lines a b × Handled tells blocks old new (Err stops.Limit) lines a b
+handled_cut tells blocks old new lines a b p = let r = p.replied in (
+  handled_ended tells blocks old new (Err stops.Source) lines a b p r.behind r.many (tables_cut tells blocks old.table new.table new.outside lines r.replies r.tables).0 (λ entry on. (on_cut old new entry lines r.replies r.part on).0),
+  handled_ended tells blocks old new (Err stops.Limit) lines a b p r.behind r.many (tables_cut tells blocks old.table new.table new.outside lines r.replies r.tables).1 (λ entry on. (on_cut old new entry lines r.replies r.part on).1),
 )
 
 -- ---- how many replies there are
 
-pub count_then : (tells : Type 0) (old mid new : World) (ending : Ending) (lines more : List (List ℕ)) (a b c : Option (List ℕ))
-    → (p : Handled tells old mid (Ok tt) lines a b) (q : Handled tells mid new ending more b c)
-    → length p.replied.replies ≤ length (handled_then tells old mid new ending lines more a b c p q).replied.replies
+pub count_then : (tells : Type 0) (blocks : ℕ) (old mid new : World) (ending : Ending) (lines more : List (List ℕ)) (a b c : Option (List ℕ))
+    → (p : Handled tells blocks old mid (Ok tt) lines a b) (q : Handled tells blocks mid new ending more b c)
+    → length p.replied.replies ≤ length (handled_then tells blocks old mid new ending lines more a b c p q).replied.replies
 unfolding handled_then replied_then
-count_then tells old mid new ending lines more a b c p q = omega (arith, length-append p.replied.replies q.replied.replies)
+count_then tells blocks old mid new ending lines more a b c p q = omega (arith, length-append p.replied.replies q.replied.replies)
 
-pub count_cut : (tells : Type 0) (old new : World) (lines : List (List ℕ)) (a b : Option (List ℕ)) (p : Handled tells old new (Ok tt) lines a b)
-    → (length p.replied.replies ≤ length (handled_cut tells old new lines a b p).0.replied.replies) × (length p.replied.replies ≤ length (handled_cut tells old new lines a b p).1.replied.replies)
+pub count_cut : (tells : Type 0) (blocks : ℕ) (old new : World) (lines : List (List ℕ)) (a b : Option (List ℕ)) (p : Handled tells blocks old new (Ok tt) lines a b)
+    → (length p.replied.replies ≤ length (handled_cut tells blocks old new lines a b p).0.replied.replies) × (length p.replied.replies ≤ length (handled_cut tells blocks old new lines a b p).1.replied.replies)
 unfolding handled_cut handled_ended
-count_cut tells old new lines a b p = (omega arith, omega arith)
+count_cut tells blocks old new lines a b p = (omega arith, omega arith)
 
 -- what is said of lines adds up
-pub replying : (tells : Type 0) → Replying World (λ w. w.outside.head ≤ w.outside.capacity) (Handled tells) (replies_in tells)
-replying tells = record {
+pub replying : (tells : Type 0) (blocks : ℕ) → Replying World (λ w. w.outside.head ≤ w.outside.capacity) (Handled tells blocks) (replies_in tells blocks)
+replying tells blocks = record {
   handling = record {
-    nothing = λ w written fits. handled_nothing tells w written fits;
-    behind = λ old mid new ending lines more a b c p q. handled_then tells old mid new ending lines more a b c p q;
-    longer = λ old new stop lines more a b line p. handled_longer tells old new stop lines more a b line p;
+    nothing = λ w written fits. handled_nothing tells blocks w written fits;
+    behind = λ old mid new ending lines more a b c p q. handled_then tells blocks old mid new ending lines more a b c p q;
+    longer = λ old new stop lines more a b line p. handled_longer tells blocks old new stop lines more a b line p;
   };
   each = λ old new lines a b p. p.replied.many;
-  behind = λ old mid new ending lines more a b c p q. count_then tells old mid new ending lines more a b c p q;
-  failed = λ old new lines a b p. ((handled_cut tells old new lines a b p).0, (count_cut tells old new lines a b p).0);
-  limit = λ old new lines a b p. ((handled_cut tells old new lines a b p).1, (count_cut tells old new lines a b p).1);
+  behind = λ old mid new ending lines more a b c p q. count_then tells blocks old mid new ending lines more a b c p q;
+  failed = λ old new lines a b p. ((handled_cut tells blocks old new lines a b p).0, (count_cut tells blocks old new lines a b p).0);
+  limit = λ old new lines a b p. ((handled_cut tells blocks old new lines a b p).1, (count_cut tells blocks old new lines a b p).1);
 }

@@ -1,2 +1,3 @@
+pub mod TabledLaws
 pub mod HandledLaws
 pub mod ServingLaws

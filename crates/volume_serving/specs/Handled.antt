@@ -11,21 +11,12 @@ use Rattle.device_session.specs.Sessions.{Session}
 use Rattle.device_course.specs.Held.{Held, device_of}
 use Rattle.device_course.specs.Leading.{Led, last_of}
 use Rattle.session_calls.specs.declared.stops.DeviceStop.TheVariants as device
-use Rattle.volume_lines.specs.Grammar.{Spells}
-use Rattle.volume_lines.specs.Lines.{Line}
 use Rattle.volume_lines.specs.Replies.{Reply, line_of}
 use Rattle.volume_terms.specs.Turn.{Turn}
 use Rattle.device_course.specs.Course.{MadeBetween}
-use Rattle.volume_desk.specs.Causes.{MayStop}
-use Rattle.volume_desk.specs.Turns.{Shows}
+use Rattle.volume_desk.specs.Turns.{HasPages, Shows}
+use Rattle.volume_serving.specs.Tabled.{IfNext, IfStopped, OnTables}
 use Rattle.volume_serving.specs.World.{World, IsOn}
-
--- of the line behind those that have replies
-abbrev pub IfNext : List Reply → List (List ℕ) → (List ℕ → Type 0) → Type 0
-IfNext [] (line ∷ lines) Claim = Claim line
-IfNext [] [] Claim = ⊥
-IfNext (reply ∷ replies) (line ∷ lines) Claim = IfNext replies lines Claim
-IfNext (reply ∷ replies) [] Claim = ⊥
 
 -- how many replies there are: one for each line, but where the device or the output stopped the run
 abbrev pub AreMany : ℕ → ℕ → Ending → Type 0
@@ -57,14 +48,6 @@ EndsOn new capacity last lines replies part ahead (Err (stops.Device device.Memo
 EndsOn new capacity last lines replies part ahead (Err (stops.Device device.BadRoot)) = ⊥
 EndsOn new capacity last lines replies part ahead (Err (stops.Device (device.BadRecord addr))) = ⊥
 
--- the line in hand, where the device stopped the run, is one that may stop so
-abbrev pub IsStopOf : List (List ℕ) → List Reply → Ending → Type 0
-IsStopOf lines replies (Err (stops.Device stop)) = IfNext replies lines (λ text. (it : Line) × Spells text it × MayStop it stop)
-IsStopOf lines replies (Ok done) = Unit {0}
-IsStopOf lines replies (Err stops.Source) = Unit {0}
-IsStopOf lines replies (Err stops.Limit) = Unit {0}
-IsStopOf lines replies (Err stops.Sink) = Unit {0}
-
 -- behind each reply there is a moment, in their order and from this one on, at which the image stands for the device of the reply's state; and behind a volume that was destroyed the
 -- root record is of all the pages that there are then
 abbrev pub AreShown : History → ℕ → List Reply → List Held → Type 0
@@ -73,29 +56,31 @@ AreShown new from [] (state ∷ states) = ⊥
 AreShown new from (reply ∷ replies) [] = ⊥
 AreShown new from (reply ∷ replies) (state ∷ states) = (at : ℕ) × (from ≤ at) × (at ≤ moment new) × Shows (image_at new at) reply state × AreShown new at replies states
 
--- the replies are those of volumes, from this state on, the devices that they led through were made in their order, and each of them there was behind its reply
+-- the replies are those of volumes, from this state on, the devices that they led through were made in their order, and each of them there was behind its reply. Where the device stopped the run, pages are free
+-- for the line in hand
 pub record OnLines (old new : World) (entry : Held) (lines : List (List ℕ)) (replies : List Reply) (part : List ℕ) (ending : Ending) : Type 0 where
   pub ahead : List Held
   pub led : Led (Turn old.outside.capacity) device_of (MadeBetween old.outside.history new.outside.history) entry lines replies ahead
   pub ends : EndsOn new old.outside.capacity (last_of entry led.states) lines replies part ahead ending
+  pub pages : IfStopped (λ stop it. HasPages old.outside.capacity (last_of entry led.states) it) lines replies ending
   pub shown : AreShown new.outside.history (moment old.outside.history) replies led.states
 
--- a run that handled these lines: what it put is the lines of its replies, and perhaps a part behind them
-pub record Replied (tells : Type 0) (old new : World) (ending : Ending) (lines : List (List ℕ)) (put : List ℕ) : Type 0 where
+-- a run that handled these lines, over a device of so many blocks: what it put is the lines of its replies, and perhaps a part behind them
+pub record Replied (tells : Type 0) (blocks : ℕ) (old new : World) (ending : Ending) (lines : List (List ℕ)) (put : List ℕ) : Type 0 where
   pub replies : List Reply
   pub part : List ℕ
   pub put_is : put ≡ flat_map line_of replies ++ part
   pub behind : IsBehind line_of no_line part ending
   pub many : AreMany (length replies) (length lines) ending
-  pub stopped : IsStopOf lines replies ending
+  pub tables : OnTables tells blocks old.table new.table new.outside lines replies ending
   pub later : IsLater old.outside new.outside
   pub led : tells → (entry : Held) → IsOn old entry → OnLines old new entry lines replies part ending
 
 -- the same of what an output has got
-pub record Handled (tells : Type 0) (old new : World) (ending : Ending) (lines : List (List ℕ)) (written written_now : Option (List ℕ)) : Type 0 where
+pub record Handled (tells : Type 0) (blocks : ℕ) (old new : World) (ending : Ending) (lines : List (List ℕ)) (written written_now : Option (List ℕ)) : Type 0 where
   pub put : List ℕ
   pub got : Got written put written_now
-  pub replied : Replied tells old new ending lines put
+  pub replied : Replied tells blocks old new ending lines put
 
 -- how a part of a run ends that hands a session on, and the session with which the run goes on
 abbrev pub ending_of : Result Session Stop → Ending

@@ -48,7 +48,7 @@ pub fn serve_input<P: Platform, T: Tape, I: Source, O: Sink, L: Sink>(
         (counts (P.faults platform.new) (T.faults tape.new) (I.faults input.new) (O.faults output.new) (L.faults ledger.new)) result }
     // On any pages: what it stops at.
     ensures damage { P.tells → IfErr result (TellsDamage (P.history platform.new).present) }
-    ensures ran { (after : Option Session) × Ran P.tells
+    ensures ran { (after : Option Session) × Ran P.tells (blocks_of first)
         (world P.Platform T.Tape L.Sink (Some first) desk.old.table platform.old tape.old ledger.old)
         (world P.Platform T.Tape L.Sink after desk.new.table platform.new tape.new ledger.new)
         result (I.left input.old) (I.left input.new) (O.written output.old) (O.written output.new) }
@@ -109,7 +109,7 @@ fn serve_piece<P: Platform, T: Tape, O: Sink, L: Sink>(
     ensures table { IfOk result (λ now. IsTable (blocks_of now) desk.new.table) }
     ensures stops { IfErr result IsOfLine }
     ensures pending { (rest : List ℕ) → IsUnfinished pending.old rest → OnOk result (IsUnfinished pending.new (rest_of (rest ++ piece.now))) }
-    ensures handled { (rest : List ℕ) → IsUnfinished pending.old rest → Handled P.tells
+    ensures handled { (rest : List ℕ) → IsUnfinished pending.old rest → Handled P.tells (blocks_of first)
         (world P.Platform T.Tape L.Sink (Some first) desk.old.table platform.old tape.old ledger.old)
         (world P.Platform T.Tape L.Sink (goes_on result) desk.new.table platform.new tape.new ledger.new)
         (ending_of result) (whole_lines_of (rest ++ piece.now)) (O.written output.old) (O.written output.new) }
@@ -149,7 +149,7 @@ fn serve_end<P: Platform, T: Tape, O: Sink, L: Sink>(
     // On any pages: what it stops at.
     ensures damage { P.tells → IfErr result (TellsDamage (P.history platform.new).present) }
     ensures stops { IfErr result IsOfLine }
-    ensures handled { (rest : List ℕ) → IsUnfinished pending.now rest → (after : Option Session) × Handled P.tells
+    ensures handled { (rest : List ℕ) → IsUnfinished pending.now rest → (after : Option Session) × Handled P.tells (blocks_of session)
         (world P.Platform T.Tape L.Sink (Some session) desk.old.table platform.old tape.old ledger.old)
         (world P.Platform T.Tape L.Sink (after) desk.new.table platform.new tape.new ledger.new)
         result (line_at_end rest) (O.written output.old) (O.written output.new) }
@@ -200,7 +200,7 @@ fn answer<P: Platform, T: Tape, O: Sink, L: Sink>(
     ensures damage { P.tells → IfErr result (TellsDamage (P.history platform.new).present) }
     ensures table { IfOk result (λ now. IsTable (blocks_of now) desk.new.table) }
     ensures stops { IfErr result IsOfLine }
-    ensures handled { (text : List ℕ) → IsPending (option_copied line.entry) text → Handled P.tells
+    ensures handled { (text : List ℕ) → IsPending (option_copied line.entry) text → Handled P.tells (blocks_of session)
         (world P.Platform T.Tape L.Sink (Some session) desk.old.table platform.old tape.old ledger.old)
         (world P.Platform T.Tape L.Sink (goes_on result) desk.new.table platform.new tape.new ledger.new)
         (ending_of result) (text ∷ []) (O.written output.old) (O.written output.new) }

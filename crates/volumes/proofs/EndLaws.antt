@@ -87,9 +87,9 @@ not_sink ended due is other sink = other (sym is ∙ ap status_at sink)
 pub halted_at : (halted ended : Halt) (due : ℕ) (written written_now : Option (List ℕ)) → IsTold halted ended written written_now → status_at ended ≡ due → due ≢ 4 → ended ≡ halted
 halted_at halted ended due written written_now told is other = (ended_as halted ended written written_now told (not_sink ended due is other)).0
 
-pub took_halted : (From : Held → Type 0) (old new : Outside) (halted ended : Halt) (left left_now written written_then written_now : Option (List ℕ)) → Serves From old new (Err halted) left left_now written written_then → IsTold halted ended written_then written_now
+pub took_halted : (tells : Type 0) (From : Held → Type 0) (old new : Outside) (halted ended : Halt) (left left_now written written_then written_now : Option (List ℕ)) → Serves tells From old new (Err halted) left left_now written written_then → IsTold halted ended written_then written_now
     → (bytes : List ℕ) × Gave left bytes left_now × Took (status_at ended) bytes left_now
-took_halted From old new halted ended left left_now written written_then written_now (inl (halt, is, silent)) told =
+took_halted tells From old new halted ended left left_now written written_then written_now (inl (halt, is, silent)) told =
     let same : halted ≡ halt = let e : Err halted ≡ Err halt = is in cc in (
       [],
       subst (λ (l : Option (List ℕ)). Gave left [] l) (sym silent.untaken) (Gave-nothing left),
@@ -103,7 +103,7 @@ took_halted From old new halted ended left left_now written written_then written
         nothing = λ two. refl;
       },
     )
-took_halted From old new halted ended left left_now written written_then written_now (inr (ending, is, answers)) told = (
+took_halted tells From old new halted ended left left_now written written_then written_now (inr (ending, is, answers)) told = (
   answers.taken,
   answers.gave,
   record {
@@ -128,9 +128,9 @@ pub ok_ending : (ending : Ending) → Ok tt ≡ halting ending → ending ≡ Ok
 ok_ending (Ok done) is = refl
 ok_ending (Err stop) is = cc
 
-pub took_done : (From : Held → Type 0) (old new : Outside) (left left_now written written_then : Option (List ℕ)) → Serves From old new (Ok tt) left left_now written written_then → (bytes : List ℕ) × Gave left bytes left_now × Took 0 bytes left_now
-took_done From old new left left_now written written_then (inl (halt, is, silent)) = cc
-took_done From old new left left_now written written_then (inr (ending, is, answers)) =
+pub took_done : (tells : Type 0) (From : Held → Type 0) (old new : Outside) (left left_now written written_then : Option (List ℕ)) → Serves tells From old new (Ok tt) left left_now written written_then → (bytes : List ℕ) × Gave left bytes left_now × Took 0 bytes left_now
+took_done tells From old new left left_now written written_then (inl (halt, is, silent)) = cc
+took_done tells From old new left left_now written written_then (inr (ending, is, answers)) =
     let took : TookUntil {T = Unit {0}} (Ok tt) answers.taken left_now = subst (λ (e : Ending). TookUntil e answers.taken left_now) (ok_ending ending is) answers.took in (
       answers.taken,
       answers.gave,

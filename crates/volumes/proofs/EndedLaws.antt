@@ -16,7 +16,8 @@ use Rattle.volume_terms.proofs.DestroyedLaws.{IsAhead, if_destroyed, leaves_noth
 use Rattle.volume_terms.proofs.OwnLaws.{turn_blocks}
 use Rattle.volume_terms.proofs.TableLaws.{not_first}
 use Rattle.volume_desk.specs.Turns.{IsOfAll, Shows}
-use Rattle.volume_serving.specs.Handled.{AreShown, EndsOn, IfNext}
+use Rattle.volume_serving.specs.Handled.{AreShown, EndsOn}
+use Rattle.volume_serving.specs.Tabled.{IfNext}
 use Rattle.volume_serving.specs.World.{World}
 use Rattle.volumes.specs.Destroyed.{AreDestroyed, IsDestroyed}
 use Rattle.volumes.proofs.ReachLaws.{never_later}

@@ -20,7 +20,7 @@ use Rattle.volume_terms.proofs.CountingLaws.{none_short}
 use Rattle.volumes.specs.Halts.{EndsAs, HasCause, IsTold, last_line_of, status_at}
 use Rattle.volumes.specs.Program.{IsAmple, IsComplete, IsUnlessFault}
 use Rattle.volumes.specs.Running.{Answers, Looked, Ran, Serves, halting}
-use Rattle.volumes.specs.Starting.{EndsEarly, HasNoTable, IsRefusal, IsStart}
+use Rattle.volumes.specs.Starting.{EndsEarly, HasNoTable, IsRefusal, IsStart, SpellsNone}
 use Rattle.volumes.specs.declared.halts.Halt.{Halt}
 use Rattle.volumes.specs.declared.halts.Halt.TheVariants as halts
 use Rattle.volumes.proofs.EndLaws.{halted_at, ok_ending}
@@ -31,7 +31,7 @@ use Rattle.volumes.proofs.StatusLaws.{at_eight, at_ten}
 pub record Halting (tells : Type 0) (old new : Outside) (Idle : Type 0) (left left_now written written_now : Option (List ℕ)) (ended : Halt) : Type 0 where
   pub halted : Halt
   pub written_then : Option (List ℕ)
-  pub serves : Serves (IsStart tells old) old new (Err halted) left left_now written written_then
+  pub serves : Serves tells (IsStart tells old) old new (Err halted) left left_now written written_then
   pub looked : Looked {X = Unit {0}} tells old.history.present (Err halted)
   pub idle : tells → IsRefusal halted → Idle × (written_then ≡ written)
   pub told : IsTold halted ended written_then written_now
@@ -40,7 +40,7 @@ pub halting_of : (tells : Type 0) (old new : Outside) (Idle : Type 0) (left left
     → Halting tells old new Idle left left_now written written_now ended
 halting_of tells old new Idle left left_now written written_now ended ran = by ran.halted ran.serves ran.looked ran.idle ran.told
   where
-    by : (halted : Result (Unit {0}) Halt) → Serves (IsStart tells old) old new halted left left_now written ran.written_then → Looked tells old.history.present halted → (tells → IfErr halted (λ halt. IsRefusal halt → Idle × (ran.written_then ≡ written)))
+    by : (halted : Result (Unit {0}) Halt) → Serves tells (IsStart tells old) old new halted left left_now written ran.written_then → Looked tells old.history.present halted → (tells → IfErr halted (λ halt. IsRefusal halt → Idle × (ran.written_then ≡ written)))
         → EndsAs halted (Err ended) ran.written_then written_now → Halting tells old new Idle left left_now written written_now ended
     by (Ok done) serves looked idle told = let e : Err ended ≡ Ok tt = told.0 in cc
     by (Err halted) serves looked idle (other, is, told) =
@@ -50,14 +50,14 @@ halting_of tells old new Idle left left_now written written_now ended ran = by r
 -- and one that was done
 pub record Doing (tells : Type 0) (old new : Outside) (left left_now written written_now : Option (List ℕ)) : Type 0 where
   pub written_then : Option (List ℕ)
-  pub serves : Serves (IsStart tells old) old new (Ok tt) left left_now written written_then
+  pub serves : Serves tells (IsStart tells old) old new (Ok tt) left left_now written written_then
   pub looked : Looked {X = Unit {0}} tells old.history.present (Ok tt)
   pub unput : written_now ≡ written_then
 
 pub doing_of : (tells : Type 0) (old new : Outside) (Idle : Type 0) (left left_now written written_now : Option (List ℕ)) → Ran tells old new Idle left left_now written written_now (Ok tt) → Doing tells old new left left_now written written_now
 doing_of tells old new Idle left left_now written written_now ran = by ran.halted ran.serves ran.looked ran.told
   where
-    by : (halted : Result (Unit {0}) Halt) → Serves (IsStart tells old) old new halted left left_now written ran.written_then → Looked tells old.history.present halted → EndsAs halted (Ok tt) ran.written_then written_now
+    by : (halted : Result (Unit {0}) Halt) → Serves tells (IsStart tells old) old new halted left left_now written ran.written_then → Looked tells old.history.present halted → EndsAs halted (Ok tt) ran.written_then written_now
         → Doing tells old new left left_now written written_now
     by (Ok done) serves looked told = record { written_then = ran.written_then; serves = serves; looked = looked; unput = told.1 }
     by (Err halted) serves looked (other, is, told) = let e : Ok tt ≡ Err other = is in cc
@@ -99,7 +99,7 @@ bad_root_at tells old new Idle left left_now written written_now ended h told ei
       subst (λ (it : Halt). Got written (last_line_of it) written_now) root (said_at tells old new Idle left left_now written written_now ended h told (inl eight)),
     )
 
-no_table_of : (tells : Type 0) (old new : Outside) (halted : Halt) (left left_now written written_then : Option (List ℕ)) → halted ≡ halts.BadDirectory → Serves (IsStart tells old) old new (Err halted) left left_now written written_then
+no_table_of : (tells : Type 0) (old new : Outside) (halted : Halt) (left left_now written written_then : Option (List ℕ)) → halted ≡ halts.BadDirectory → Serves tells (IsStart tells old) old new (Err halted) left left_now written written_then
     → (entry : Held) → IsStart tells old entry → HasNoTable entry
 no_table_of tells old new halted left left_now written written_then is (inl (halt, e, silent)) entry start =
     let same : halt ≡ halts.BadDirectory = let f : Err halted ≡ Err halt = e in cc in
@@ -107,15 +107,23 @@ no_table_of tells old new halted left left_now written written_then is (inl (hal
 no_table_of tells old new halted left left_now written written_then is (inr (Ok done, e, answers)) entry start = cc
 no_table_of tells old new halted left left_now written written_then is (inr (Err stop, e, answers)) entry start = cc
 
+unspelled_of : (tells : Type 0) (old new : Outside) (halted : Halt) (left left_now written written_then : Option (List ℕ)) → halted ≡ halts.BadDirectory → Serves tells (IsStart tells old) old new (Err halted) left left_now written written_then → tells
+    → SpellsNone old.history.present
+unspelled_of tells old new halted left left_now written written_then is (inl (halt, e, silent)) told =
+    let same : halt ≡ halts.BadDirectory = let f : Err halted ≡ Err halt = e in cc in
+    silent.unspelled told same
+unspelled_of tells old new halted left left_now written written_then is (inr (Ok done, e, answers)) told = cc
+unspelled_of tells old new halted left left_now written written_then is (inr (Err stop, e, answers)) told = cc
+
 pub refused_at : (tells : Type 0) (old new : Outside) (Idle : Type 0) (left left_now written written_now : Option (List ℕ)) (ended : Halt) → Halting tells old new Idle left left_now written written_now ended → tells
     → status_at ended ≡ 10 → ((old.history.present.cell ≡ None) × Got written (last_line_of halts.NoDevice) written_now)
-    ⊎ (((entry : Held) → IsStart tells old entry → HasNoTable entry) × Got written (last_line_of halts.BadDirectory) written_now)
+    ⊎ (SpellsNone old.history.present × ((entry : Held) → IsStart tells old entry → HasNoTable entry) × Got written (last_line_of halts.BadDirectory) written_now)
 refused_at tells old new Idle left left_now written written_now ended h told ten =
     let same : ended ≡ h.halted = same_halt h.halted ended h.written_then written_now h.told (inr ten) in
     let got = said_at tells old new Idle left left_now written written_now ended h told (inr ten) in
     elim (at_ten ended ten) [
       | inl none ↦ inl (h.looked.empty_only told (ap Err (sym same ∙ none)), subst (λ (it : Halt). Got written (last_line_of it) written_now) none got)
-      | inr bad ↦ inr (no_table_of tells old new h.halted left left_now written h.written_then (sym same ∙ bad) h.serves, subst (λ (it : Halt). Got written (last_line_of it) written_now) bad got)
+      | inr bad ↦ inr (unspelled_of tells old new h.halted left left_now written h.written_then (sym same ∙ bad) h.serves told, no_table_of tells old new h.halted left left_now written h.written_then (sym same ∙ bad) h.serves, subst (λ (it : Halt). Got written (last_line_of it) written_now) bad got)
     ]
 
 -- the status of a run that halted so
@@ -171,7 +179,7 @@ no_table_due tells old new Idle left left_now written written_now ended h entry 
       due_early h.halted ended halt entry h.written_then written_now same h.told (silent.stayed entry start).1
   | inr (ending, is, answers) ↦
       let there = answers.led entry start in
-      absurd (none there.table there.tabled)
+      absurd (none answers.first there.tabled)
 ]
 
 -- none is served
@@ -180,7 +188,7 @@ done_tabled tells old new left left_now written written_now d entry start none =
   | inl (halt, is, silent) ↦ (let e : Ok tt ≡ Err halt = is in cc)
   | inr (ending, is, answers) ↦
       let there = answers.led entry start in
-      none there.table there.tabled
+      none answers.first there.tabled
 ]
 
 -- ---- a run that completes
@@ -202,7 +210,7 @@ some_taken text taken left (Some rest) is gave =
     omega (arith, ap (λ (t : List ℕ). length t) f, length-append taken rest)
 
 complete_lines : (tells : Type 0) (old new : Outside) (left left_now written written_now : Option (List ℕ)) (entry : Held) (text : List ℕ) → IsStart tells old entry → IsAmple left text entry.device.blocks old.head old.capacity
-    → Answers (IsStart tells old) old new (Ok tt) left left_now written written_now → IsComplete text written written_now
+    → Answers tells (IsStart tells old) old new (Ok tt) left left_now written written_now → IsComplete text written written_now
 complete_lines tells old new left left_now written written_now entry text start ample answers =
     let there = answers.led entry start in
     let taken : answers.taken ≡ text = all_taken text answers.taken left left_now ample.text_is answers.gave answers.come.0 in
@@ -225,7 +233,7 @@ complete_lines tells old new left left_now written written_now entry text start 
 
 -- a run without a fault that halted behind its lines lacked memory
 lacked : (tells : Type 0) (old new : Outside) (stop : Stop) (before now : Counts) (left left_now written written_now : Option (List ℕ)) (entry : Held) (text : List ℕ) → IsStart tells old entry → IsAmple left text entry.device.blocks old.head old.capacity
-    → HasCause before now (halts.Stopped stop) → NoneRose before now → Answers (IsStart tells old) old new (Err stop) left left_now written written_now → stop ≡ stops.Device device.Memory
+    → HasCause before now (halts.Stopped stop) → NoneRose before now → Answers tells (IsStart tells old) old new (Err stop) left left_now written written_now → stop ≡ stops.Device device.Memory
 lacked tells old new stops.Source before now left left_now written written_now entry text start ample cause quiet answers = absurd (quiet.input cause.0)
 lacked tells old new stops.Sink before now left left_now written written_now entry text start ample cause quiet answers = absurd (quiet.output cause.0)
 lacked tells old new stops.Limit before now left left_now written written_now entry text start ample cause quiet answers =
@@ -269,7 +277,7 @@ complete_halted tells old new Idle before now left left_now written written_now 
       | inr (ending, is, answers) ↦ by ending is answers cause_then
     ]))
   where
-    by : (ending : Ending) → Err h.halted ≡ halting ending → Answers (IsStart tells old) old new ending left left_now written h.written_then → HasCause before now h.halted → h.halted ≡ halts.Stopped (stops.Device device.Memory)
+    by : (ending : Ending) → Err h.halted ≡ halting ending → Answers tells (IsStart tells old) old new ending left left_now written h.written_then → HasCause before now h.halted → h.halted ≡ halts.Stopped (stops.Device device.Memory)
     by (Ok done) is answers cause_then = cc
     by (Err stop) is answers cause_then =
         let e : h.halted ≡ halts.Stopped stop = cc in
@@ -281,5 +289,5 @@ complete_done tells old new left left_now written written_now d entry start text
   | inl (halt, is, silent) ↦ (let e : Ok tt ≡ Err halt = is in cc)
   | inr (ending, is, answers) ↦
       subst (λ (w : Option (List ℕ)). IsComplete text written w) (sym d.unput)
-      (complete_lines tells old new left left_now written d.written_then entry text start ample (subst (λ (e : Ending). Answers (IsStart tells old) old new e left left_now written d.written_then) (ok_ending ending is) answers))
+      (complete_lines tells old new left left_now written d.written_then entry text start ample (subst (λ (e : Ending). Answers tells (IsStart tells old) old new e left left_now written d.written_then) (ok_ending ending is) answers))
 ]

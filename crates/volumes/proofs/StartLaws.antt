@@ -15,13 +15,14 @@ use Rattle.device_terms.proofs.MomentLaws.{stays_then}
 use Rattle.device_course.specs.States.{IsAt, Outside}
 use Rattle.device_course.proofs.MadeLaws.{made_kept, made_since, shut}
 use Rattle.device_session.specs.Open.{blocks_of, needed_by}
+use Rattle.device_session.specs.Reading.{FindsContent}
 use Rattle.device_session.specs.Sessions.{Session}
 use Rattle.device_session.proofs.CountLaws.{needs_none}
 use Rattle.line_run.specs.Stops.{Ending}
 use Rattle.line_run.specs.declared.stop.Stop.TheVariants as stops
 use Rattle.device_course.specs.Held.{Held, device_of, state_of}
 use Rattle.device_course.specs.Leading.{Leads, last_of, marks_of}
-use Rattle.session_calls.specs.Damage.{ReadsAny}
+use Rattle.session_calls.specs.Damage.{IsMounted, ReadsAny}
 use Rattle.session_calls.specs.Goes.{ReadsBlock}
 use Rattle.session_calls.specs.Mounts.{IsFound, IsMountStop, MountLeads}
 use Rattle.session_calls.specs.declared.stops.DeviceStop.{DeviceStop}
@@ -34,12 +35,13 @@ use Rattle.volume_terms.specs.Turn.{Turn}
 use Rattle.volume_terms.specs.Volumes.{IsTabled}
 use Rattle.volume_terms.proofs.OwnLaws.{are_some, own_replies, volume_there}
 use Rattle.device_course.specs.Course.{MadeBetween}
-use Rattle.volume_desk.specs.Turns.{IsHeld}
+use Rattle.volume_desk.specs.Turns.{HasPages, IsHeld}
 use Rattle.volume_serving.specs.Handled.{AreShown, EndsOn}
 use Rattle.volume_serving.specs.Ran.{Ran as RanLines}
+use Rattle.volume_serving.specs.Tabled.{IfStopped, OnTables}
 use Rattle.volume_serving.proofs.HandledLaws.{shown_from}
 use Rattle.volumes.specs.Running.{Answers, IsEarly, IsIdle, IsSilent, OnVolumes, Serves}
-use Rattle.volumes.specs.Starting.{EndsEarly, FindsTable, IsFrom, IsOfTable, IsRefusal, IsStart}
+use Rattle.volumes.specs.Starting.{EndsEarly, FindsFirst, FindsTable, IsFrom, IsOfTable, IsRefusal, IsSpelled, IsStart, SpellsNone}
 use Rattle.volumes.specs.declared.halts.Halt.{Halt}
 use Rattle.volumes.specs.declared.halts.Halt.TheVariants as halts
 use Rattle.session_calls.proofs.SpanLaws.{led_of, mounted_at}
@@ -51,12 +53,13 @@ use Rattle.volumes.proofs.EndedLaws.{ahead_of, are_destroyed, blocks_below}
 abbrev pub Since : (Held → Type 0) → (Held → Type 0) → Outside → Outside → Type 0
 Since Earlier From first second = (entry : Held) → Earlier entry → From entry × MadeBetween first.history second.history entry.device [] entry.device
 
-silent_since : (Earlier From : Held → Type 0) (first second third : Outside) (halt : Halt) (left left_now written written_now : Option (List ℕ)) → Since Earlier From first second → IsSilent From second third halt left left_now written written_now
-    → IsSilent Earlier first third halt left left_now written written_now
-silent_since Earlier From first second third halt left left_now written written_now since silent = record {
+silent_since : (tells : Type 0) (Earlier From : Held → Type 0) (first second third : Outside) (halt : Halt) (left left_now written written_now : Option (List ℕ)) → (tells → second.history.present ≡ first.history.present) → Since Earlier From first second → IsSilent tells From second third halt left left_now written written_now
+    → IsSilent tells Earlier first third halt left left_now written written_now
+silent_since tells Earlier From first second third halt left left_now written written_now image since silent = record {
   untaken = silent.untaken;
   unput = silent.unput;
   early = silent.early;
+  unspelled = λ told is. subst (λ (i : Image). SpellsNone i) (image told) (silent.unspelled told is);
   stayed = λ entry early.
       let s = since entry early in
       let there = silent.stayed entry s.0 in
@@ -68,6 +71,7 @@ pub record Onwards (old new : Outside) (session : Option Session) (table_now : L
   pub leads : Leads (Turn old.capacity) entry lines replies states
   pub made : MadeBetween old.history new.history entry.device (marks_of device_of (states ++ ahead)) (device_of (last_of entry (states ++ ahead)))
   pub ends : EndsOn (record { session = session; table = table_now; outside = new }) old.capacity (last_of entry states) lines replies part ahead ending
+  pub pages : IfStopped (λ stop it. HasPages old.capacity (last_of entry states) it) lines replies ending
   pub shown : AreShown new.history (moment old.history) replies states
 
 onwards_since : (first second third : Outside) (session : Option Session) (table_now : List Volume) (entry : Held) (lines : List (List ℕ)) (replies : List Reply) (part : List ℕ) (ending : Ending) (states ahead : List Held) → second.capacity ≡ first.capacity
@@ -76,15 +80,15 @@ onwards_since first second third session table_now entry lines replies part endi
   leads = subst (λ (n : ℕ). Leads (Turn n) entry lines replies states) same on.leads;
   made = made_since first.history second.history third.history entry.device (device_of (last_of entry (states ++ ahead))) (marks_of device_of (states ++ ahead)) kept on.made;
   ends = subst (λ (n : ℕ). EndsOn (record { session = session; table = table_now; outside = third }) n (last_of entry states) lines replies part ahead ending) same on.ends;
+  pages = subst (λ (n : ℕ). IfStopped (λ stop it. HasPages n (last_of entry states) it) lines replies ending) same on.pages;
   shown = shown_from third.history (moment first.history) (moment second.history) replies states kept.passes.extends.later on.shown;
 }
 
 volumes_of : (old new : Outside) (session : Option Session) (table table_now : List Volume) (entry : Held) (lines : List (List ℕ)) (replies : List Reply) (part : List ℕ) (ending : Ending) (states ahead : List Held) → entry.device.blocks < 2 ^ 64
-    → IsTabled entry table → Onwards old new session table_now entry lines replies part ending states ahead → OnVolumes old new session table_now entry lines replies part ending
+    → IsTabled entry table → Onwards old new session table_now entry lines replies part ending states ahead → OnVolumes old new session table table_now entry lines replies part ending
 volumes_of old new session table table_now entry lines replies part ending states ahead below tabled on = record {
-  table = table;
   tabled = tabled;
-  on = record { ahead = ahead; led = record { states = states; leads = on.leads; made = on.made }; ends = on.ends; shown = on.shown };
+  on = record { ahead = ahead; led = record { states = states; leads = on.leads; made = on.made }; ends = on.ends; pages = on.pages; shown = on.shown };
   own = λ name.
       let start = volume_there entry table name tabled in
       let mine = are_some old.capacity name entry lines replies states on.leads in
@@ -94,24 +98,23 @@ volumes_of old new session table table_now entry lines replies part ending state
       (ahead_of (record { session = session; table = table_now; outside = new }) old.capacity (last_of entry states) lines replies part ahead ending on.ends) on.shown;
 }
 
-volumes_since : (first second third : Outside) (session : Option Session) (table_now : List Volume) (entry : Held) (lines : List (List ℕ)) (replies : List Reply) (part : List ℕ) (ending : Ending) → second.capacity ≡ first.capacity
-    → MadeBetween first.history second.history entry.device [] entry.device → OnVolumes second third session table_now entry lines replies part ending → OnVolumes first third session table_now entry lines replies part ending
-volumes_since first second third session table_now entry lines replies part ending same kept there =
+volumes_since : (first second third : Outside) (session : Option Session) (table table_now : List Volume) (entry : Held) (lines : List (List ℕ)) (replies : List Reply) (part : List ℕ) (ending : Ending) → second.capacity ≡ first.capacity
+    → MadeBetween first.history second.history entry.device [] entry.device → OnVolumes second third session table table_now entry lines replies part ending → OnVolumes first third session table table_now entry lines replies part ending
+volumes_since first second third session table table_now entry lines replies part ending same kept there =
     let states : List Held = there.on.led.states in
     let on : Onwards first third session table_now entry lines replies part ending states there.on.ahead =
-    onwards_since first second third session table_now entry lines replies part ending states there.on.ahead same kept (record { leads = there.on.led.leads; made = there.on.led.made; ends = there.on.ends; shown = there.on.shown }) in
+    onwards_since first second third session table_now entry lines replies part ending states there.on.ahead same kept (record { leads = there.on.led.leads; made = there.on.led.made; ends = there.on.ends; pages = there.on.pages; shown = there.on.shown }) in
     record {
-      table = there.table;
       tabled = there.tabled;
-      on = record { ahead = there.on.ahead; led = record { states = states; leads = on.leads; made = on.made }; ends = on.ends; shown = on.shown };
+      on = record { ahead = there.on.ahead; led = record { states = states; leads = on.leads; made = on.made }; ends = on.ends; pages = on.pages; shown = on.shown };
       own = there.own;
       destroyed = are_destroyed first.capacity first.history third.history (moment first.history) entry lines replies states there.on.ahead (blocks_below second.history.present entry.device kept.exits.there.device) (omega arith) on.leads
           (ahead_of (record { session = session; table = table_now; outside = third }) first.capacity (last_of entry states) lines replies part there.on.ahead ending on.ends) on.shown;
     }
 
-answers_since : (Earlier From : Held → Type 0) (first second third : Outside) (ending : Ending) (left left_now written written_now : Option (List ℕ)) → second.capacity ≡ first.capacity → Since Earlier From first second
-    → Answers From second third ending left left_now written written_now → Answers Earlier first third ending left left_now written written_now
-answers_since Earlier From first second third ending left left_now written written_now same since answers = record {
+answers_since : (tells : Type 0) (Earlier From : Held → Type 0) (first second third : Outside) (ending : Ending) (left left_now written written_now : Option (List ℕ)) → second.capacity ≡ first.capacity → (tells → second.history.present ≡ first.history.present) → Since Earlier From first second
+    → Answers tells From second third ending left left_now written written_now → Answers tells Earlier first third ending left left_now written written_now
+answers_since tells Earlier From first second third ending left left_now written written_now same image since answers = record {
   taken = answers.taken;
   lines = answers.lines;
   gave = answers.gave;
@@ -122,21 +125,24 @@ answers_since Earlier From first second third ending left left_now written writt
   got = answers.got;
   behind = answers.behind;
   many = answers.many;
-  stopped = answers.stopped;
   prompt = answers.prompt;
   session = answers.session;
+  blocks = answers.blocks;
+  first = answers.first;
   table = answers.table;
+  spelled = (answers.spelled.0, λ told. subst (λ (i : Image). IsSpelled i answers.blocks answers.first) (image told) (answers.spelled.1 told));
+  tables = answers.tables;
   led = λ entry early.
       let s = since entry early in
-      volumes_since first second third answers.session answers.table entry answers.lines answers.replies answers.part ending same s.1 (answers.led entry s.0);
+      volumes_since first second third answers.session answers.first answers.table entry answers.lines answers.replies answers.part ending same s.1 (answers.led entry s.0);
 }
 
-pub serves_since : (Earlier From : Held → Type 0) (first second third : Outside) (result : Result (Unit {0}) Halt) (left left_now written written_now : Option (List ℕ)) → second.capacity ≡ first.capacity → Since Earlier From first second
-    → Serves From second third result left left_now written written_now → Serves Earlier first third result left left_now written written_now
-serves_since Earlier From first second third result left left_now written written_now same since (inl (halt, is, silent)) =
-    inl (halt, is, silent_since Earlier From first second third halt left left_now written written_now since silent)
-serves_since Earlier From first second third result left left_now written written_now same since (inr (ending, is, answers)) =
-    inr (ending, is, answers_since Earlier From first second third ending left left_now written written_now same since answers)
+pub serves_since : (tells : Type 0) (Earlier From : Held → Type 0) (first second third : Outside) (result : Result (Unit {0}) Halt) (left left_now written written_now : Option (List ℕ)) → second.capacity ≡ first.capacity → (tells → second.history.present ≡ first.history.present) → Since Earlier From first second
+    → Serves tells From second third result left left_now written written_now → Serves tells Earlier first third result left left_now written written_now
+serves_since tells Earlier From first second third result left left_now written written_now same image since (inl (halt, is, silent)) =
+    inl (halt, is, silent_since tells Earlier From first second third halt left left_now written written_now image since silent)
+serves_since tells Earlier From first second third result left left_now written written_now same image since (inr (ending, is, answers)) =
+    inr (ending, is, answers_since tells Earlier From first second third ending left left_now written written_now same image since answers)
 
 -- ---- a mount
 
@@ -195,11 +201,12 @@ ends_stop tells cell pages device.Ledger entry told served is = absurd is
 ends_stop tells cell pages (device.BadRecord addr) entry told served is = absurd is
 
 pub silent_stop : (tells : Type 0) (old new : Outside) (stop : DeviceStop) (left written : Option (List ℕ)) → (tells → length old.history.present.recorded ≡ old.head) → IsMountStop tells old.history.present.cell old.head stop → (tells → CellStays old.history new.history)
-    → IsSilent (IsStart tells old) old new (halts.Stopped (stops.Device stop)) left left written written
+    → IsSilent tells (IsStart tells old) old new (halts.Stopped (stops.Device stop)) left left written written
 silent_stop tells old new stop left written pages is stays = record {
   untaken = refl;
   unput = refl;
   early = early_stop tells old.history.present.cell old.head stop is;
+  unspelled = λ told bad. cc;
   stayed = λ entry start. (
     made_kept old.history new.history entry.device start.stands start.served (stays start.told),
     ends_stop tells old.history.present.cell old.head stop entry start.told (subst (λ (n : ℕ). IsServedCell old.history.present.cell n) (pages start.told) start.served) is,
@@ -209,11 +216,12 @@ silent_stop tells old new stop left written pages is stays = record {
 no_device : (image : Image) (there : Device) → Stands image (Some there) → image.cell ≡ None → ⊥
 no_device image there (root, parts, by) empty = let both : None ≡ Some (root_bytes root) = sym empty ∙ by.cell in cc
 
-pub silent_none : (tells : Type 0) (old new : Outside) (left written : Option (List ℕ)) → (tells → old.history.present.cell ≡ None) → IsSilent (IsStart tells old) old new halts.NoDevice left left written written
+pub silent_none : (tells : Type 0) (old new : Outside) (left written : Option (List ℕ)) → (tells → old.history.present.cell ≡ None) → IsSilent tells (IsStart tells old) old new halts.NoDevice left left written written
 silent_none tells old new left written empty = record {
   untaken = refl;
   unput = refl;
   early = tt;
+  unspelled = λ told bad. cc;
   stayed = λ entry start. absurd (no_device old.history.present entry.device start.stands (empty start.told));
 }
 
@@ -245,26 +253,44 @@ ends_table image now entry (halts.Stopped (stops.Device device.Ledger)) none = a
 ends_table image now entry (halts.Stopped (stops.Device device.Memory)) none = absurd none
 ends_table image now entry (halts.Stopped (stops.Device device.BadRoot)) none = absurd none
 
+-- which has none, on any pages
+spells_none : (image : Image) (session : Session) (halt : Halt) → halt ≡ halts.BadDirectory → IsMounted image session → FindsFirst image session (Err halt) → SpellsNone image
+spells_none image session halt bad mounted finds =
+    let found = subst (λ (h : Halt). FindsFirst image session (Err h)) bad finds in
+    (blocks_of session, found.0, record { session = session; mounted = mounted; many = refl; found = found.1 }, found.2)
+
 pub silent_table : (tells : Type 0) (old new : Outside) (first now : Session) (halt : Halt) (left written : Option (List ℕ)) → IsOfTable halt → (tells → CellStays old.history new.history)
     → (tells → (there : Device) (array : OpenSession) → IsAt old.history.present (Some first) (mounted there array) → FindsTable new.history.present now there array (Err halt))
-    → IsSilent (IsFrom tells old first) old new halt left left written written
-silent_table tells old new first now halt left written of stays finds = record {
+    → (tells → IsMounted old.history.present first) → (tells → FindsFirst old.history.present first (Err halt)) → IsSilent tells (IsFrom tells old first) old new halt left left written written
+silent_table tells old new first now halt left written of stays finds mounted found = record {
   untaken = refl;
   unput = refl;
   early = early_table halt of;
+  unspelled = λ told bad. spells_none old.history.present first halt bad (mounted told) (found told);
   stayed = λ entry from. (
     made_kept old.history new.history entry.device from.at.there.device from.at.served (stays from.told),
     ends_table new.history.present now entry halt (finds from.told entry.device entry.session from.at),
   );
 }
 
+pub spelled_of : (image : Image) (session : Session) (table : List Volume) → IsMounted image session → FindsContent image.readable session.grove 0 (table_bytes table) → IsSpelled image (blocks_of session) table
+spelled_of image session table mounted found = record { session = session; mounted = mounted; many = refl; found = found }
+
+-- what a read of block 0 comes to, on any pages
+pub first_table : (Known : Type 0) (image after : Image) (session : Session) (bytes : List ℕ) (table : List Volume) → ReadsAny Known image after session 0 bytes (Ok tt) → bytes ≡ table_bytes table → Known → FindsFirst image session (Ok table)
+first_table Known image after session bytes table any is known = subst (λ (b : List ℕ). FindsContent image.readable session.grove 0 b) is (any known)
+
+pub first_none : (Known : Type 0) (image after : Image) (session : Session) (bytes : List ℕ) (blocks : ℕ) → ReadsAny Known image after session 0 bytes (Ok tt) → blocks ≡ blocks_of session → ((table : List Volume) → IsTable blocks table → bytes ≢ table_bytes table) → Known
+    → FindsFirst image session (Err halts.BadDirectory)
+first_none Known image after session bytes blocks any same none known = (bytes, any known, λ table is. none table (subst (λ (n : ℕ). IsTable n table) (sym same) is))
+
 -- lines that were served behind it
 pub answers_behind : (tells : Type 0) (old mid new : Outside) (first now : Session) (after : Option Session) (table table_now : List Volume) (ending : Ending) (left left_now written written_now : Option (List ℕ)) → mid.head ≡ old.head → mid.capacity ≡ old.capacity
     → needed_by now ≤ needed_by first → (tells → CellStays old.history mid.history) → IsTable (blocks_of first) table
-    → (tells → (there : Device) (array : OpenSession) → IsAt old.history.present (Some first) (mounted there array) → FindsTable mid.history.present now there array (Ok table))
-    → RanLines tells (record { session = Some now; table = table; outside = mid }) (record { session = after; table = table_now; outside = new }) ending left left_now written written_now
-    → Answers (IsFrom tells old first) old new ending left left_now written written_now
-answers_behind tells old mid new first now after table table_now ending left left_now written written_now head capacity needs stays whole finds ran =
+    → (tells → (there : Device) (array : OpenSession) → IsAt old.history.present (Some first) (mounted there array) → FindsTable mid.history.present now there array (Ok table)) → (tells → IsSpelled old.history.present (blocks_of first) table)
+    → blocks_of now ≡ blocks_of first → RanLines tells (blocks_of now) (record { session = Some now; table = table; outside = mid }) (record { session = after; table = table_now; outside = new }) ending left left_now written written_now
+    → Answers tells (IsFrom tells old first) old new ending left left_now written written_now
+answers_behind tells old mid new first now after table table_now ending left left_now written written_now head capacity needs stays whole finds spelled many ran =
     let replied = ran.handled.replied in
     record {
       taken = ran.taken;
@@ -277,10 +303,13 @@ answers_behind tells old mid new first now after table table_now ending left lef
       got = subst (λ (bytes : List ℕ). Got written bytes written_now) replied.put_is ran.handled.got;
       behind = replied.behind;
       many = replied.many;
-      stopped = replied.stopped;
       prompt = ran.prompt;
       session = after;
+      blocks = blocks_of first;
+      first = table;
       table = table_now;
+      spelled = (whole, spelled);
+      tables = subst (λ (n : ℕ). OnTables tells n table table_now new ran.lines replied.replies ending) many replied.tables;
       led = λ entry from.
           let found = finds from.told entry.device entry.session from.at in
           let stands = from.at.there.session.0.stands in
@@ -290,7 +319,7 @@ answers_behind tells old mid new first now after table table_now ending left lef
           let kept : MadeBetween old.history mid.history entry.device [] entry.device = made_kept old.history mid.history entry.device from.at.there.device from.at.served (stays from.told) in
           let below : entry.device.blocks < 2 ^ 64 = omega (arith, sym stands.blocks, stands.in_range.blocks_most) in
           volumes_of old new after table table_now entry ran.lines replied.replies replied.part ending on.led.states on.ahead below tabled
-          (onwards_since old mid new after table_now entry ran.lines replied.replies replied.part ending on.led.states on.ahead capacity kept (record { leads = on.led.leads; made = on.led.made; ends = on.ends; shown = on.shown }));
+          (onwards_since old mid new after table_now entry ran.lines replied.replies replied.part ending on.led.states on.ahead capacity kept (record { leads = on.led.leads; made = on.led.made; ends = on.ends; pages = on.pages; shown = on.shown }));
     }
 
 -- ---- block 0

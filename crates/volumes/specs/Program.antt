@@ -14,7 +14,7 @@ use Rattle.volume_terms.specs.Counting.{IsNotShort, needed_for_line}
 use Rattle.volume_terms.specs.Volumes.{IsTabled}
 use Rattle.volumes.specs.Halts.{exit_of, last_line_of}
 use Rattle.volumes.specs.Running.{IsIdle, Ran}
-use Rattle.volumes.specs.Starting.{HasNoTable, IsStart}
+use Rattle.volumes.specs.Starting.{HasNoTable, IsStart, SpellsNone}
 use Rattle.volumes.specs.declared.halts.Halt.{Halt}
 use Rattle.volumes.specs.declared.halts.Halt.TheVariants as halts
 
@@ -59,7 +59,7 @@ pub record Refuses {S R I O L : Type 0} (tells : Type 0) (words : List (List ℕ
   pub bad_root_only : tells → status ≡ 8 → (IsServedImage old.outside.history.present → ⊥) × Said (halts.Stopped (stops.Device device.BadRoot)) old new
   pub bad_root : tells → (IsServedImage old.outside.history.present → ⊥) → words ≡ [] → IsUnlessFault 8 status
   pub refused_only : tells → status ≡ 10 → ((old.outside.history.present.cell ≡ None) × Said halts.NoDevice old new)
-      ⊎ (((entry : Held) → IsStart tells old.outside entry → HasNoTable entry) × Said halts.BadDirectory old new)
+      ⊎ (SpellsNone old.outside.history.present × ((entry : Held) → IsStart tells old.outside entry → HasNoTable entry) × Said halts.BadDirectory old new)
   pub no_device : tells → old.outside.history.present.cell ≡ None → words ≡ [] → IsUnlessFault 10 status
   pub no_table : (entry : Held) → IsStart tells old.outside entry → HasNoTable entry → words ≡ [] → IsUnlessFault 10 status ⊎ (status ≡ 11)
 

@@ -12,15 +12,17 @@ use Rattle.line_run.specs.declared.stop.Stop.TheVariants as stops
 use Rattle.device_course.specs.Held.{Held}
 use Rattle.device_course.specs.Leading.{last_of}
 use Rattle.session_calls.specs.declared.stops.DeviceStop.TheVariants as device
+use Rattle.volume_table.specs.Tables.{IsTable}
 use Rattle.volume_table.specs.declared.volume.Volume.{Volume}
 use Rattle.volume_lines.specs.Replies.{Reply, line_of}
 use Rattle.volume_terms.specs.Own.{HasOwn}
 use Rattle.volume_terms.specs.Volumes.{IsTabled}
 use Rattle.device_course.specs.Course.{MadeBetween}
-use Rattle.volume_serving.specs.Handled.{AreMany, IsStopOf, OnLines}
+use Rattle.volume_serving.specs.Handled.{AreMany, OnLines}
+use Rattle.volume_serving.specs.Tabled.{OnTables}
 use Rattle.volumes.specs.Destroyed.{AreDestroyed}
 use Rattle.volumes.specs.Halts.{EndsAs}
-use Rattle.volumes.specs.Starting.{EndsEarly, HaltsAtDamage, IsRefusal, IsStart}
+use Rattle.volumes.specs.Starting.{EndsEarly, HaltsAtDamage, IsRefusal, IsSpelled, IsStart, SpellsNone}
 use Rattle.volumes.specs.declared.halts.Halt.{Halt}
 use Rattle.volumes.specs.declared.halts.Halt.TheVariants as halts
 
@@ -49,24 +51,25 @@ IsEarly (halts.Stopped (stops.Device device.Platform)) = Unit {0}
 IsEarly (halts.Stopped (stops.Device device.Memory)) = Unit {0}
 IsEarly (halts.Stopped _) = ⊥
 
--- a run that halted so before it took anything, and put nothing. From each of these states the device stayed
-pub record IsSilent (From : Held → Type 0) (old new : Outside) (halt : Halt) (left left_now written written_now : Option (List ℕ)) : Type 0 where
+-- a run that halted so before it took anything, and put nothing; for want of a table only where the pages spell none. From each of these states the device stayed
+pub record IsSilent (tells : Type 0) (From : Held → Type 0) (old new : Outside) (halt : Halt) (left left_now written written_now : Option (List ℕ)) : Type 0 where
   pub untaken : left_now ≡ left
   pub unput : written_now ≡ written
   pub early : IsEarly halt
+  pub unspelled : tells → halt ≡ halts.BadDirectory → SpellsNone old.history.present
   pub stayed : (entry : Held) → From entry → MadeBetween old.history new.history entry.device [] entry.device × EndsEarly entry halt
 
--- the replies to lines, from this state on, whose block 0 has a table. They are those of its volumes, each of which has its own, and of those that were destroyed nothing is left; and the
+-- the replies to lines, from this state on, whose block 0 has this table. They are those of its volumes, each of which has its own, and of those that were destroyed nothing is left; and the
 -- devices that they led through were made in their order. A session and a table stand for the last state where the run goes on behind the lines
-pub record OnVolumes (old new : Outside) (session : Option Session) (table_now : List Volume) (entry : Held) (lines : List (List ℕ)) (replies : List Reply) (part : List ℕ) (ending : Ending) : Type 0 where
-  pub table : List Volume
+pub record OnVolumes (old new : Outside) (session : Option Session) (table table_now : List Volume) (entry : Held) (lines : List (List ℕ)) (replies : List Reply) (part : List ℕ) (ending : Ending) : Type 0 where
   pub tabled : IsTabled entry table
   pub on : OnLines (record { session = None; table = table; outside = old }) (record { session = session; table = table_now; outside = new }) entry lines replies part ending
   pub own : (name : List ℕ) → HasOwn entry (last_of entry on.led.states) name lines replies
   pub destroyed : AreDestroyed old.history new.history entry lines replies on.led.states on.ahead
 
--- a run that served lines, and ended so: what it took, the lines of that, its replies to them, and a part of one more where the output failed
-pub record Answers (From : Held → Type 0) (old new : Outside) (ending : Ending) (left left_now written written_now : Option (List ℕ)) : Type 0 where
+-- a run that served lines, and ended so: what it took, the lines of that, its replies to them, and a part of one more where the output failed. On any pages the replies are such as their lines may have over the table that
+-- block 0 spelled, and what those before them made of it; and a line at which the device stopped the run is one that may stop so
+pub record Answers (tells : Type 0) (From : Held → Type 0) (old new : Outside) (ending : Ending) (left left_now written written_now : Option (List ℕ)) : Type 0 where
   pub taken : List ℕ
   pub lines : List (List ℕ)
   pub gave : Gave left taken left_now
@@ -77,11 +80,14 @@ pub record Answers (From : Held → Type 0) (old new : Outside) (ending : Ending
   pub got : Got written (flat_map line_of replies ++ part) written_now
   pub behind : IsBehind line_of no_line part ending
   pub many : AreMany (length replies) (length lines) ending
-  pub stopped : IsStopOf lines replies ending
   pub prompt : IsPrompt taken (length replies)
   pub session : Option Session
+  pub blocks : ℕ
+  pub first : List Volume
   pub table : List Volume
-  pub led : (entry : Held) → From entry → OnVolumes old new session table entry lines replies part ending
+  pub spelled : IsTable blocks first × (tells → IsSpelled old.history.present blocks first)
+  pub tables : OnTables tells blocks first table new lines replies ending
+  pub led : (entry : Held) → From entry → OnVolumes old new session first table entry lines replies part ending
 
 -- how a run halts whose lines end so
 abbrev pub halting : Ending → Result (Unit {0}) Halt
@@ -89,16 +95,16 @@ halting (Ok done) = Ok tt
 halting (Err stop) = Err (halts.Stopped stop)
 
 -- a run served no line, or it served lines, from each of these states
-abbrev pub Serves : (Held → Type 0) → Outside → Outside → Result (Unit {0}) Halt → Option (List ℕ) → Option (List ℕ) → Option (List ℕ) → Option (List ℕ) → Type 0
-Serves From old new result left left_now written written_now =
-    ((halt : Halt) × (result ≡ Err halt) × IsSilent From old new halt left left_now written written_now)
-    ⊎ ((ending : Ending) × (result ≡ halting ending) × Answers From old new ending left left_now written written_now)
+abbrev pub Serves : Type 0 → (Held → Type 0) → Outside → Outside → Result (Unit {0}) Halt → Option (List ℕ) → Option (List ℕ) → Option (List ℕ) → Option (List ℕ) → Type 0
+Serves tells From old new result left left_now written written_now =
+    ((halt : Halt) × (result ≡ Err halt) × IsSilent tells From old new halt left left_now written written_now)
+    ⊎ ((ending : Ending) × (result ≡ halting ending) × Answers tells From old new ending left left_now written written_now)
 
 -- a run but for its last line, and that line: why it halted, and what it did until then; a refusal left all as it was, and a record that it names doesn't fit its place, on any pages
 pub record Ran (tells : Type 0) (old new : Outside) (Idle : Type 0) (left left_now written written_now : Option (List ℕ)) (ending : Result (Unit {0}) Halt) : Type 0 where
   pub halted : Result (Unit {0}) Halt
   pub written_then : Option (List ℕ)
-  pub serves : Serves (IsStart tells old) old new halted left left_now written written_then
+  pub serves : Serves tells (IsStart tells old) old new halted left left_now written written_then
   pub looked : Looked tells old.history.present halted
   pub idle : tells → IfErr halted (λ halt. IsRefusal halt → Idle × (written_then ≡ written))
   pub damage : tells → IfErr halted (HaltsAtDamage new.history.present)

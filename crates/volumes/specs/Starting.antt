@@ -1,15 +1,16 @@
 -- From what a run over volumes begins: a device with a session just mounted on it, and the table in its block 0.
-use Rattle.std.specs.Prelude.{◌≡◌, ◌≢◌, ◌≤◌, ◌*◌, List, Some, Result, Ok, Err}
+use Rattle.std.specs.Prelude.{◌≡◌, ◌≢◌, ◌≤◌, ◌*◌, ℕ, List, Some, Result, Ok, Err}
 use Rattle.sdbt_base.specs.Arrays.{Device, Session as OpenSession, content_of, mounted, session_on}
 use Rattle.platform.specs.Image.{Image}
 use Rattle.page_store.specs.Stands.{Stands}
 use Rattle.device_terms.specs.Served.{IsServedImage}
 use Rattle.device_course.specs.States.{IsAt, Outside}
-use Rattle.device_session.specs.Open.{needed_by}
+use Rattle.device_session.specs.Open.{blocks_of, needed_by}
+use Rattle.device_session.specs.Reading.{FindsContent}
 use Rattle.device_session.specs.Sessions.{Session}
 use Rattle.line_run.specs.declared.stop.Stop.TheVariants as stops
 use Rattle.device_course.specs.Held.{Held, state_of}
-use Rattle.session_calls.specs.Damage.{IsWrongPage}
+use Rattle.session_calls.specs.Damage.{IsMounted, IsWrongPage}
 use Rattle.session_calls.specs.declared.stops.DeviceStop.TheVariants as device
 use Rattle.volume_table.specs.Tables.{IsTable, table_bytes}
 use Rattle.volume_table.specs.declared.volume.Volume.{Volume}
@@ -44,6 +45,28 @@ FindsTable image now there array (Ok table) = IsAt image (Some now) (mounted the
 FindsTable image now there array (Err halts.BadDirectory) = (table : List Volume) → IsTable there.blocks table → content_of array.contents 0 ≢ table_bytes table
 FindsTable image now there array (Err (halts.Stopped (stops.Device device.Platform))) = Unit {0}
 FindsTable image now there array (Err _) = ⊥
+
+-- on any pages: a session on the root record in the cell, of a device with so many blocks, finds these bytes in block 0
+pub record HasFirst (image : Image) (blocks : ℕ) (bytes : List ℕ) : Type 0 where
+  pub session : Session
+  pub mounted : IsMounted image session
+  pub many : blocks_of session ≡ blocks
+  pub found : FindsContent image.readable session.grove 0 bytes
+
+-- they spell this table
+abbrev pub IsSpelled : Image → ℕ → List Volume → Type 0
+IsSpelled image blocks table = HasFirst image blocks (table_bytes table)
+
+-- or none
+abbrev pub SpellsNone : Image → Type 0
+SpellsNone image = (blocks : ℕ) × (bytes : List ℕ) × HasFirst image blocks bytes × ((table : List Volume) → IsTable blocks table → bytes ≢ table_bytes table)
+
+-- what a look at block 0 comes to with this session
+abbrev pub FindsFirst : Image → Session → Result (List Volume) Halt → Type 0
+FindsFirst image session (Ok table) = FindsContent image.readable session.grove 0 (table_bytes table)
+FindsFirst image session (Err halts.BadDirectory) =
+    (bytes : List ℕ) × FindsContent image.readable session.grove 0 bytes × ((table : List Volume) → IsTable (blocks_of session) table → bytes ≢ table_bytes table)
+FindsFirst image session (Err _) = Unit {0}
 
 -- a halt of a look at the table
 abbrev pub IsOfTable : Halt → Type 0

@@ -11,7 +11,7 @@ ghost use Rattle.session_calls.specs.Carrying.{Carries, IsReady};
 ghost use Rattle.volumes.specs.Halts.{Blames};
 ghost use Rattle.session_calls.specs.Spans.{Spans};
 ghost use Rattle.volumes.specs.Running.{IsIdle, Looked, Ran, Serves};
-ghost use Rattle.volumes.specs.Starting.{FindsTable, HaltsAtDamage, HaltsBehind, IsFrom, IsOfTable, IsRefusal, IsStart};
+ghost use Rattle.volumes.specs.Starting.{FindsFirst, FindsTable, HaltsAtDamage, HaltsBehind, IsFrom, IsOfTable, IsRefusal, IsStart};
 
 use crate::halts::{Halt, put_last_line};
 use device_session::Session;
@@ -65,7 +65,7 @@ fn serve_device<P: Platform, T: Tape, I: Source, O: Sink, L: Sink>(
         (around P.Platform T.Tape L.Sink platform.new tape.new ledger.new) (IsOk result) }
     ensures blame { Blames (counts (P.faults platform.old) (T.faults tape.old) (I.faults input.old) (O.faults output.old) (L.faults ledger.old))
         (counts (P.faults platform.new) (T.faults tape.new) (I.faults input.new) (O.faults output.new) (L.faults ledger.new)) result }
-    ensures serves { Serves (IsStart P.tells (around P.Platform T.Tape L.Sink platform.old tape.old ledger.old))
+    ensures serves { Serves P.tells (IsStart P.tells (around P.Platform T.Tape L.Sink platform.old tape.old ledger.old))
         (around P.Platform T.Tape L.Sink platform.old tape.old ledger.old)
         (around P.Platform T.Tape L.Sink platform.new tape.new ledger.new)
         result (I.left input.old) (I.left input.new) (O.written output.old) (O.written output.new) }
@@ -97,7 +97,7 @@ fn serve_volumes<P: Platform, T: Tape, I: Source, O: Sink, L: Sink>(
         (around P.Platform T.Tape L.Sink platform.new tape.new ledger.new) first None (IsOk result) }
     ensures blame { Blames (counts (P.faults platform.old) (T.faults tape.old) (I.faults input.old) (O.faults output.old) (L.faults ledger.old))
         (counts (P.faults platform.new) (T.faults tape.new) (I.faults input.new) (O.faults output.new) (L.faults ledger.new)) result }
-    ensures serves { Serves (IsFrom P.tells (around P.Platform T.Tape L.Sink platform.old tape.old ledger.old) first)
+    ensures serves { Serves P.tells (IsFrom P.tells (around P.Platform T.Tape L.Sink platform.old tape.old ledger.old) first)
         (around P.Platform T.Tape L.Sink platform.old tape.old ledger.old)
         (around P.Platform T.Tape L.Sink platform.new tape.new ledger.new)
         result (I.left input.old) (I.left input.new) (O.written output.old) (O.written output.new) }
@@ -140,6 +140,8 @@ fn read_table<P: Platform>(session: &mut Session, platform: &mut P) -> Result<Ta
     ensures table { IfOk result (IsTable (blocks_of session.old)) }
     ensures finds { P.tells → (there : Device) (array : OpenSession) → IsAt (P.history platform.old).present (Some session.old) (mounted there array)
         → FindsTable (P.history platform.new).present session.new there array result }
+    // On any pages: the table is that which they spell, or they spell none.
+    ensures spelled { P.tells → IsMounted (P.history platform.old).present session.old → FindsFirst (P.history platform.old).present session.old result }
     ensures early { IfErr result IsOfTable }
     ensures damage { P.tells → IsMounted (P.history platform.old).present session.old → IfErr result (HaltsBehind (P.history platform.new).present) }
 {

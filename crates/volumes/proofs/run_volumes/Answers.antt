@@ -68,7 +68,7 @@ returns-in-Ok-clause-exits g c = record {
   is = inl refl;
   refused = (λ two. absurd (omega (arith, two)), λ other. absurd (other (no_words string_bytes c.args.words.now (eqb-true _ _ (sym c.if-not-is_empty.ensures)))));
   blame = blamed_none _ _ c.in-Ok.ensures.blame;
-  taken = took_done _ _ _ _ _ _ _ (doing_of _ _ _ _ _ _ _ _ c.in-Ok.ensures.ran).serves;
+  taken = took_done _ _ _ _ _ _ _ _ (doing_of _ _ _ _ _ _ _ _ c.in-Ok.ensures.ran).serves;
 }
 
 pub returns-in-Err-clause-exits : goal.returns-in-Err-clause-exits
@@ -86,7 +86,7 @@ returns-in-Err-clause-exits g c = record {
       subst (λ (n : ℕ). IsBlamedAt n before now) (sym c.status.ensures) (blamed before now c.in-Err.halt c.in-Err.ensures.blame);
   taken =
       let h = halting_of _ _ _ _ _ _ _ _ c.in-Err.halt c.in-Err.ensures.ran in
-      let took = took_halted _ _ _ h.halted c.in-Err.halt _ _ _ _ _ h.serves h.told in
+      let took = took_halted _ _ _ _ h.halted c.in-Err.halt _ _ _ _ _ h.serves h.told in
       (took.0, took.1, subst (λ (n : ℕ). Took n took.0 (g.I.Source.left c.run.new.input)) (sym c.status.ensures) took.2);
 }
 

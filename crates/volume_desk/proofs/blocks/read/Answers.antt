@@ -1,10 +1,12 @@
 use Rattle.std.proofs.Common.{Ok, Err, ap, refl, subst, sym, ◌∙◌, arith}
 use Rattle.sdbt_base.specs.Arrays.{content_of}
+use Rattle.device_session.specs.Open.{blocks_of}
 use Rattle.script_lang.specs.Arrays.{trimmed}
 use Rattle.volume_lines.specs.Replies.{Reply}
 use Rattle.volume_terms.specs.Turn.{OnBlock, Reads}
 use Rattle.session_calls.proofs.CallLaws.{calls_done, calls_none, calls_of, calls_stopped, no_draw}
-use Rattle.volume_desk.proofs.CauseLaws.{read_stops}
+use Rattle.volume_desk.specs.Causes.{sizes}
+use Rattle.volume_desk.proofs.CauseLaws.{has_block, read_done, read_may, read_refused}
 use Rattle.volume_desk.proofs.DeskLaws.{changed_none, no_block, read_sound}
 use Rattle.volume_desk.proofs.TurnLaws.{held_still}
 use Rattle.volume_desk.proofs.blocks.read.Goals as goal
@@ -39,8 +41,16 @@ returns-in-Err-read_block-clause-calls g c drawn =
 
 pub returns-in-Err-read_block-clause-turns : goal.returns-in-Err-read_block-clause-turns
 returns-in-Err-read_block-clause-turns g c told entry held =
-    read_sound (g.P.Platform.history c.read_block.new.platform).present c.read_block.new.session entry.device entry.session c.in-Ok.at c.read_block.new.out c.in-Err-read_block.stop (c.in-Err-read_block.ensures.leads told entry.device entry.session held.at)
+    (read_sound (g.P.Platform.history c.read_block.new.platform).present c.read_block.new.session entry.device entry.session c.in-Ok.at c.read_block.new.out c.in-Err-read_block.stop (c.in-Err-read_block.ensures.leads told entry.device entry.session held.at), tt)
 
-pub returns-in-Err-read_block-clause-stops : goal.returns-in-Err-read_block-clause-stops
-returns-in-Err-read_block-clause-stops g c =
-    read_stops _ (g.P.Platform.history c.args.platform.now).present (g.P.Platform.history c.read_block.new.platform).present c.args.session.now c.in-Ok.at c.read_block.new.out c.args.name.now c.args.block c.in-Err-read_block.stop c.in-Err-read_block.ensures.any
+pub returns-in-Err-clause-any : goal.returns-in-Err-clause-any
+returns-in-Err-clause-any g c = read_refused (sizes (blocks_of c.args.session.now) (g.P.Platform.head c.args.platform.now) (g.P.Platform.capacity c.args.platform.now)) c.args.table.now c.args.name.now c.args.block c.in-Err.reply c.args.buffer.now c.in-Err.ensures.none
+
+pub returns-in-Ok-read_block-clause-any : goal.returns-in-Ok-read_block-clause-any
+returns-in-Ok-read_block-clause-any g c = read_done (sizes (blocks_of c.args.session.now) (g.P.Platform.head c.read_block.new.platform) (g.P.Platform.capacity c.read_block.new.platform)) c.args.table.now c.args.name.now c.args.block c.in-Ok.at _ _ c.reply_with_content.ensures.value c.in-Ok.ensures.found
+
+pub returns-in-Err-read_block-clause-any : goal.returns-in-Err-read_block-clause-any
+returns-in-Err-read_block-clause-any g c = (
+  read_may _ (g.P.Platform.history c.args.platform.now).present (g.P.Platform.history c.read_block.new.platform).present c.args.session.now c.in-Ok.at c.read_block.new.out c.args.name.now c.args.block c.in-Err-read_block.stop c.in-Err-read_block.ensures.any,
+  (c.args.table.now, (has_block c.args.table.now c.args.name.now c.args.block c.in-Ok.at c.in-Ok.ensures.found, refl)),
+)

@@ -1,9 +1,11 @@
-use Rattle.std.proofs.Common.{◌≡◌, ◌≢◌, ℕ, Ok, Err, ap, refl, arith}
+use Rattle.std.proofs.Common.{◌≡◌, ◌≢◌, ◌≤◌, ℕ, Ok, Err, inl, inr, ap, refl, arith}
+use Rattle.device_session.specs.Open.{blocks_of}
 use Rattle.session_calls.specs.Along.{drawn_by}
 use Rattle.volume_terms.specs.Turn.{Writes}
 use Rattle.volume_terms.proofs.KeepingLaws.{wrote}
 use Rattle.session_calls.proofs.CallLaws.{calls_done, calls_none, calls_of, calls_stopped}
-use Rattle.session_calls.proofs.DamageLaws.{write_meets}
+use Rattle.volume_desk.specs.Causes.{sizes}
+use Rattle.volume_desk.proofs.CauseLaws.{has_block, write_may, write_refused}
 use Rattle.volume_desk.proofs.DeskLaws.{changed_none, held_wrote, no_block, write_sound}
 use Rattle.volume_desk.proofs.blocks.write.Goals as goal
 
@@ -45,8 +47,24 @@ returns-in-Err-write_block-clause-calls g c =
     calls_stopped g.P.Platform 1 1 _ _ _ _ _ _ c.in-Err-write_block.stop (omega arith) (calls_of g.P.Platform 1 _ _ _ _ _ _ (Err c.in-Err-write_block.stop) c.in-Err-write_block.ensures.goes)
 
 pub returns-in-Err-write_block-clause-turns : goal.returns-in-Err-write_block-clause-turns
-returns-in-Err-write_block-clause-turns g c told entry buffer held =
-    write_sound (g.P.Platform.history c.write_block.new.platform).present c.write_block.new.session entry.device entry.session c.in-Ok.at c.args.content.now c.in-Err-write_block.stop (c.in-Err-write_block.ensures.leads told entry.device entry.session held.at)
+returns-in-Err-write_block-clause-turns g c told entry buffer held = (
+  write_sound (g.P.Platform.history c.write_block.new.platform).present c.write_block.new.session entry.device entry.session c.in-Ok.at c.args.content.now c.in-Err-write_block.stop (c.in-Err-write_block.ensures.leads told entry.device entry.session held.at),
+  λ full. omega (arith, held.pages, full, c.if-head-capacity.false, c.head.ensures, c.capacity.ensures),
+)
 
-pub returns-in-Err-write_block-clause-damage : goal.returns-in-Err-write_block-clause-damage
-returns-in-Err-write_block-clause-damage g c told mounted = write_meets _ (g.P.Platform.history c.args.platform.now).present (g.P.Platform.history c.write_block.new.platform).present c.args.session.now c.in-Ok.at (Err c.in-Err-write_block.stop) c.in-Err-write_block.ensures.any (told, mounted)
+pub returns-in-Err-clause-any : goal.returns-in-Err-clause-any
+returns-in-Err-clause-any g c buffer = write_refused (sizes (blocks_of c.args.session.now) (g.P.Platform.head c.args.platform.now) (g.P.Platform.capacity c.args.platform.now)) c.args.table.now c.args.name.now c.args.block c.args.content.now c.in-Err.reply buffer c.in-Err.ensures.none
+
+pub returns-then-head-capacity-clause-any : goal.returns-then-head-capacity-clause-any
+returns-then-head-capacity-clause-any g c buffer =
+    let full : g.P.Platform.capacity c.args.platform.now ≤ g.P.Platform.head c.args.platform.now = omega (arith, c.if-head-capacity.true, c.head.ensures, c.capacity.ensures) in
+    inr (c.args.table.now, (has_block c.args.table.now c.args.name.now c.args.block c.in-Ok.at c.in-Ok.ensures.found, refl), inr (full, refl, refl))
+
+pub returns-in-Ok-write_block-clause-any : goal.returns-in-Ok-write_block-clause-any
+returns-in-Ok-write_block-clause-any g c buffer = inr (c.args.table.now, (has_block c.args.table.now c.args.name.now c.args.block c.in-Ok.at c.in-Ok.ensures.found, refl), inl (tt, refl))
+
+pub returns-in-Err-write_block-clause-any : goal.returns-in-Err-write_block-clause-any
+returns-in-Err-write_block-clause-any g c buffer = (
+  write_may _ (g.P.Platform.history c.args.platform.now).present (g.P.Platform.history c.write_block.new.platform).present c.args.session.now c.in-Ok.at c.args.name.now c.args.block c.args.content.now c.in-Err-write_block.stop c.in-Err-write_block.ensures.any,
+  (c.args.table.now, (has_block c.args.table.now c.args.name.now c.args.block c.in-Ok.at c.in-Ok.ensures.found, refl)),
+)

@@ -1,14 +1,16 @@
 use Rattle.std.proofs.Common.{inl, inr, refl}
 use Rattle.platform.proofs.Moments.{During-now}
 use Rattle.device_terms.specs.Served.{IsServedImage}
+use Rattle.device_session.specs.Open.{blocks_of}
 use Rattle.device_course.specs.Held.{after_commit}
 use Rattle.session_calls.proofs.HeldLaws.{commit_stopped}
 use Rattle.volume_lines.specs.Lines.{Commit}
 use Rattle.volume_lines.specs.Replies.{Committed}
+use Rattle.volume_desk.specs.Causes.{sizes}
 use Rattle.volume_desk.specs.Turns.{StopsAt}
 use Rattle.session_calls.proofs.CarryLaws.{carries_committed, carries_going, carries_stopped}
-use Rattle.volume_desk.proofs.CauseLaws.{commit_stops}
-use Rattle.volume_desk.proofs.TurnLaws.{array_held, commit_served, committed_to}
+use Rattle.volume_desk.proofs.CauseLaws.{commit_may, commit_turns}
+use Rattle.volume_desk.proofs.TurnLaws.{array_held, commit_pages, commit_served, committed_to}
 use Rattle.volume_desk.proofs.committing.commit.Goals as goal
 
 pub returns-in-Ok-clause-carries : goal.returns-in-Ok-clause-carries
@@ -31,7 +33,10 @@ returns-in-Err-clause-serves g c told entry table buffer held =
     (λ needed needs room. inr (Committed (after_commit entry needed).device.number, after_commit entry needed, refl, (needed, needs, room, refl, refl)))
     c.requires.ready.is_open (array_held _ _ _ table entry held) c.in-Err.ensures.answers (During-now _ _ IsServedImage (c.in-Err.ensures.goes.keeps.serves told held.at.served))
     (c.in-Err.ensures.leads told entry.device entry.session held.at) in
-    record { ahead = stopped.0; is = stopped.1; made = stopped.2 }
+    record { ahead = stopped.0; is = stopped.1; pages = commit_pages g.P.Platform g.T.Tape _ _ _ _ _ c.in-Err.stop table entry c.requires.ready.is_open held c.in-Err.ensures.answers; made = stopped.2 }
 
-pub returns-in-Err-clause-stops : goal.returns-in-Err-clause-stops
-returns-in-Err-clause-stops g c = commit_stops _ _ Commit c.args.ledger.now c.commit_session.new.ledger c.in-Err.stop tt tt tt c.in-Err.ensures.goes.unput
+pub returns-in-Ok-clause-any : goal.returns-in-Ok-clause-any
+returns-in-Ok-clause-any g c table buffer = commit_turns (sizes (blocks_of c.args.session) (g.P.Platform.head c.commit_session.new.platform) (g.P.Platform.capacity c.commit_session.new.platform)) table c.in-Ok.done.reply c.reply_to_commit.result buffer c.reply_to_commit.ensures
+
+pub returns-in-Err-clause-any : goal.returns-in-Err-clause-any
+returns-in-Err-clause-any g c table buffer = (commit_may g.P.Platform.tells (g.P.Platform.history c.commit_session.new.platform).present Commit c.args.ledger.now c.commit_session.new.ledger c.in-Err.stop tt tt tt c.in-Err.ensures.goes.unput, (table, refl))

@@ -3,11 +3,13 @@ use Rattle.platform.proofs.Moments.{During-now}
 use Rattle.device_terms.specs.Served.{IsServedImage}
 use Rattle.device_course.specs.States.{around}
 use Rattle.device_session.specs.Open.{blocks_of}
+use Rattle.session_calls.specs.Damage.{IsMounted}
 use Rattle.volume_lines.specs.Lines.{Destroy}
 use Rattle.volume_terms.specs.Volumes.{changed}
 use Rattle.session_calls.proofs.CarryLaws.{carries_along, carries_committed, carries_end, carries_going, carries_stopped, carries_then}
 use Rattle.device_course.proofs.MadeLaws.{made_kept}
-use Rattle.volume_desk.proofs.CauseLaws.{call_stops, commit_stops}
+use Rattle.volume_desk.specs.Causes.{sizes}
+use Rattle.volume_desk.proofs.CauseLaws.{commit_may, destroy_turns, stops_known, takes_none_any, takes_some_any}
 use Rattle.volume_desk.proofs.TurnLaws.{changed_served, committed_to, destroy_served, destroy_stopped, stopped_kept, takes_none, takes_some}
 use Rattle.volume_desk.proofs.committing.destroy.Goals as goal
 
@@ -60,10 +62,19 @@ returns-in-Err-commit_session-clause-serves g c told entry buffer held =
     destroy_stopped g.P.Platform g.T.Tape g.L.Sink _ _ _ _ _ _ _ _ _ c.in-Err-commit_session.stop _ _ entry c.args.name.now along.capacity taken kept along.is_open c.in-Err-commit_session.ensures.answers
     (During-now _ _ IsServedImage (c.in-Err-commit_session.ensures.goes.keeps.serves told taken.held.at.served)) (c.in-Err-commit_session.ensures.leads told entry.device (changed entry c.take_out.new.table taken.v).session taken.held.at)
 
-pub returns-in-Err-clause-stops : goal.returns-in-Err-clause-stops
-returns-in-Err-clause-stops g c =
-    call_stops _ _ (Destroy c.args.name.now) c.in-Err.stop tt tt tt c.in-Err.ensures.calls.stops (λ told. c.in-Err.ensures.damage told (c.requires.ready.mounted told))
+pub returns-in-Some-clause-any : goal.returns-in-Some-clause-any
+returns-in-Some-clause-any g c buffer = takes_some_any (g.P.Platform.tells × IsMounted (g.P.Platform.history c.args.platform.now).present c.args.first) (g.P.Platform.history c.take_out.new.platform).present (sizes (blocks_of c.args.first) (g.P.Platform.head c.take_out.new.platform) (g.P.Platform.capacity c.take_out.new.platform)) c.args.table.now c.take_out.new.table c.args.name.now buffer c.in-Ok.refused c.in-Some.reply c.in-Some.is (c.in-Ok.ensures.any buffer)
 
-pub returns-in-Err-commit_session-clause-stops : goal.returns-in-Err-commit_session-clause-stops
-returns-in-Err-commit_session-clause-stops g c =
-    commit_stops _ _ (Destroy c.args.name.now) c.args.ledger.now c.commit_session.new.ledger c.in-Err-commit_session.stop tt tt tt c.in-Err-commit_session.ensures.goes.unput
+pub returns-in-Err-clause-any : goal.returns-in-Err-clause-any
+returns-in-Err-clause-any g c buffer =
+    stops_known (g.P.Platform.tells × IsMounted (g.P.Platform.history c.args.platform.now).present c.args.first) g.P.Platform.tells (g.P.Platform.history c.take_out.new.platform).present (blocks_of c.args.first) c.args.table.now (Destroy c.args.name.now) c.in-Err.stop (λ told. (told, c.requires.ready.mounted told)) (c.in-Err.ensures.any buffer)
+
+pub returns-in-Ok-commit_session-clause-any : goal.returns-in-Ok-commit_session-clause-any
+returns-in-Ok-commit_session-clause-any g c buffer =
+    destroy_turns (sizes (blocks_of c.args.first) (g.P.Platform.head c.commit_session.new.platform) (g.P.Platform.capacity c.commit_session.new.platform)) c.args.table.now c.take_out.new.table c.args.name.now c.in-Ok-commit_session.done.reply c.reply_to_destroy.result buffer c.reply_to_destroy.ensures (takes_none_any (g.P.Platform.tells × IsMounted (g.P.Platform.history c.args.platform.now).present c.args.first) (g.P.Platform.history c.take_out.new.platform).present (sizes (blocks_of c.args.first) (g.P.Platform.head c.take_out.new.platform) (g.P.Platform.capacity c.take_out.new.platform)) c.args.table.now c.take_out.new.table c.args.name.now buffer c.in-Ok.refused c.in_default.is (c.in-Ok.ensures.any buffer))
+
+pub returns-in-Err-commit_session-clause-any : goal.returns-in-Err-commit_session-clause-any
+returns-in-Err-commit_session-clause-any g c buffer = (
+  commit_may _ _ (Destroy c.args.name.now) c.args.ledger.now c.commit_session.new.ledger c.in-Err-commit_session.stop tt tt tt c.in-Err-commit_session.ensures.goes.unput,
+  (c.take_out.new.table, takes_none_any (g.P.Platform.tells × IsMounted (g.P.Platform.history c.args.platform.now).present c.args.first) (g.P.Platform.history c.take_out.new.platform).present (sizes (blocks_of c.args.first) (g.P.Platform.head c.take_out.new.platform) (g.P.Platform.capacity c.take_out.new.platform)) c.args.table.now c.take_out.new.table c.args.name.now buffer c.in-Ok.refused c.in_default.is (c.in-Ok.ensures.any buffer)),
+)

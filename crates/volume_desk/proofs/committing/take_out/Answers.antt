@@ -1,7 +1,11 @@
-use Rattle.std.proofs.Common.{◌≡◌, ◌≢◌, ◌+◌, refl, arith}
+use Rattle.std.proofs.Common.{◌≡◌, ◌≢◌, ◌≤◌, ◌+◌, inl, inr, refl, arith}
+use Rattle.std.specs.List.{remove}
 use Rattle.std.proofs.lemmas.Option.{slice_get_within}
 use Rattle.device_session.specs.Open.{blocks_of}
 use Rattle.session_calls.specs.Along.{drawn_by}
+use Rattle.session_calls.specs.Damage.{IsMounted}
+use Rattle.volume_lines.specs.Lines.{Destroy}
+use Rattle.volume_desk.proofs.CauseLaws.{call_may}
 use Rattle.volume_terms.proofs.TableLaws.{inside_of}
 use Rattle.session_calls.proofs.CallLaws.{calls_done, calls_none, calls_stopped}
 use Rattle.volume_desk.proofs.DeskLaws.{changed_none, held_changed, named_at}
@@ -63,4 +67,25 @@ pub returns-in-Err-clause-table : goal.returns-in-Err-clause-table
 returns-in-Err-clause-table g c = c.remove.ensures.table (blocks_of c.args.session.now) c.requires.table
 
 pub returns-in-Err-clause-turns : goal.returns-in-Err-clause-turns
-returns-in-Err-clause-turns g c told entry buffer held = c.in-Err.ensures.leads told entry.device entry.session held.at
+returns-in-Err-clause-turns g c told entry buffer held = (
+  c.in-Err.ensures.leads told entry.device entry.session held.at,
+  λ full. omega (arith, held.pages, full, c.if-head-capacity.false, c.head.ensures, c.capacity.ensures),
+)
+
+pub returns-in_default-clause-any : goal.returns-in_default-clause-any
+returns-in_default-clause-any g c buffer = inl (c.in_default.ensures.none, refl)
+
+pub returns-then-head-capacity-clause-any : goal.returns-then-head-capacity-clause-any
+returns-then-head-capacity-clause-any g c buffer =
+    let found = c.in-Some.ensures.found in
+    let full : g.P.Platform.capacity c.args.platform.now ≤ g.P.Platform.head c.args.platform.now = omega (arith, c.if-head-capacity.true, c.head.ensures, c.capacity.ensures) in
+    inr (remove c.args.table.now c.in-Some.at, (c.in-Some.volume, found.1, (c.in-Some.at, found.0, refl)), inr (full, refl, refl))
+
+pub returns-in-Ok-clause-any : goal.returns-in-Ok-clause-any
+returns-in-Ok-clause-any g c buffer = let found = c.in-Some.ensures.found in (c.in-Some.volume, found.1, (c.in-Some.at, found.0, c.remove.ensures.removed))
+
+pub returns-in-Err-clause-any : goal.returns-in-Err-clause-any
+returns-in-Err-clause-any g c buffer =
+    let found = c.in-Some.ensures.found in
+    let may = call_may (g.P.Platform.tells × IsMounted (g.P.Platform.history c.args.platform.now).present c.args.session.now) _ (Destroy c.args.name.now) c.in-Err.stop tt tt (λ addr met. met) c.in-Err.ensures.calls.stops (λ known. c.in-Err.ensures.damage known.0 known.1) in
+    (may, (c.remove.new.self, (c.in-Some.volume, found.1, (c.in-Some.at, found.0, c.remove.ensures.removed))))

@@ -2,10 +2,10 @@ use Rattle.std.proofs.Common.{◌+◌, arith}
 use Rattle.device_session.specs.Open.{blocks_of}
 use Rattle.session_calls.specs.Along.{drawn_by}
 use Rattle.session_calls.specs.Damage.{IsMounted}
-use Rattle.volume_lines.specs.Lines.{asked}
 use Rattle.volume_lines.specs.declared.lines.Line.TheVariants as parsed
 use Rattle.session_calls.proofs.CallLaws.{calls_more}
-use Rattle.volume_desk.proofs.CauseLaws.{calls_stop, stops_as}
+use Rattle.volume_desk.specs.Causes.{sizes}
+use Rattle.volume_desk.proofs.CauseLaws.{any_as}
 use Rattle.volume_desk.proofs.TurnLaws.{turns_as}
 use Rattle.volume_desk.proofs.serving.serve_blocks.Goals as goal
 
@@ -33,20 +33,18 @@ pub returns-in-Trim-clause-turns : goal.returns-in-Trim-clause-turns
 returns-in-Trim-clause-turns g c told entry held =
     turns_as _ _ _ _ _ _ entry c.args.line.now (parsed.Trim c.in-Trim.name c.in-Trim.block) c.args.desk.now.buffer _ c.trim.result c.in-Trim.is (c.trim.ensures.turns told entry _ held)
 
-pub returns-in-Create-clause-stops : goal.returns-in-Create-clause-stops
-returns-in-Create-clause-stops g c =
-    stops_as _ _ c.args.line.now (parsed.Create c.in-Create.name c.in-Create.count) c.args.desk.now.buffer c.create.result c.in-Create.is
-    (calls_stop _ _ (asked (parsed.Create c.in-Create.name c.in-Create.count) c.args.desk.now.buffer) c.create.result tt tt tt c.create.ensures.calls.stops (λ (known : g.P.Platform.tells × IsMounted (g.P.Platform.history c.args.platform.now).present c.args.session.now). c.create.ensures.damage known.0 known.1))
+pub returns-in-Create-clause-any : goal.returns-in-Create-clause-any
+returns-in-Create-clause-any g c =
+    any_as (g.P.Platform.tells × IsMounted (g.P.Platform.history c.args.platform.now).present c.args.session.now) (g.P.Platform.history c.create.new.platform).present (sizes (blocks_of c.args.session.now) (g.P.Platform.head c.create.new.platform) (g.P.Platform.capacity c.create.new.platform)) c.args.desk.now.table c.create.new.table c.args.line.now (parsed.Create c.in-Create.name c.in-Create.count) c.args.desk.now.buffer _ c.create.result c.in-Create.is (c.create.ensures.any _)
 
-pub returns-in-Read-clause-stops : goal.returns-in-Read-clause-stops
-returns-in-Read-clause-stops g c =
-    stops_as _ _ c.args.line.now (parsed.Read c.in-Read.name c.in-Read.block) c.args.desk.now.buffer c.read.result c.in-Read.is c.read.ensures.stops
+pub returns-in-Read-clause-any : goal.returns-in-Read-clause-any
+returns-in-Read-clause-any g c =
+    any_as (g.P.Platform.tells × IsMounted (g.P.Platform.history c.args.platform.now).present c.args.session.now) (g.P.Platform.history c.read.new.platform).present (sizes (blocks_of c.args.session.now) (g.P.Platform.head c.read.new.platform) (g.P.Platform.capacity c.read.new.platform)) c.args.desk.now.table c.args.desk.now.table c.args.line.now (parsed.Read c.in-Read.name c.in-Read.block) c.args.desk.now.buffer _ c.read.result c.in-Read.is c.read.ensures.any
 
-pub returns-in-Write-clause-stops : goal.returns-in-Write-clause-stops
-returns-in-Write-clause-stops g c =
-    stops_as _ _ c.args.line.now (parsed.Write c.in-Write.name c.in-Write.block c.in-Write.count) c.args.desk.now.buffer c.write.result c.in-Write.is
-    (calls_stop _ _ (asked (parsed.Write c.in-Write.name c.in-Write.block c.in-Write.count) c.args.desk.now.buffer) c.write.result tt tt tt c.write.ensures.calls.stops (λ (known : g.P.Platform.tells × IsMounted (g.P.Platform.history c.args.platform.now).present c.args.session.now). c.write.ensures.damage known.0 known.1))
+pub returns-in-Write-clause-any : goal.returns-in-Write-clause-any
+returns-in-Write-clause-any g c =
+    any_as (g.P.Platform.tells × IsMounted (g.P.Platform.history c.args.platform.now).present c.args.session.now) (g.P.Platform.history c.write.new.platform).present (sizes (blocks_of c.args.session.now) (g.P.Platform.head c.write.new.platform) (g.P.Platform.capacity c.write.new.platform)) c.args.desk.now.table c.args.desk.now.table c.args.line.now (parsed.Write c.in-Write.name c.in-Write.block c.in-Write.count) c.args.desk.now.buffer _ c.write.result c.in-Write.is (c.write.ensures.any _)
 
-pub returns-in-Trim-clause-stops : goal.returns-in-Trim-clause-stops
-returns-in-Trim-clause-stops g c =
-    stops_as _ _ c.args.line.now (parsed.Trim c.in-Trim.name c.in-Trim.block) c.args.desk.now.buffer c.trim.result c.in-Trim.is c.trim.ensures.stops
+pub returns-in-Trim-clause-any : goal.returns-in-Trim-clause-any
+returns-in-Trim-clause-any g c =
+    any_as (g.P.Platform.tells × IsMounted (g.P.Platform.history c.args.platform.now).present c.args.session.now) (g.P.Platform.history c.trim.new.platform).present (sizes (blocks_of c.args.session.now) (g.P.Platform.head c.trim.new.platform) (g.P.Platform.capacity c.trim.new.platform)) c.args.desk.now.table c.args.desk.now.table c.args.line.now (parsed.Trim c.in-Trim.name c.in-Trim.block) c.args.desk.now.buffer _ c.trim.result c.in-Trim.is (c.trim.ensures.any _)

@@ -1,9 +1,11 @@
 use Rattle.std.proofs.Common.{◌+◌}
 use Rattle.device_session.specs.Open.{blocks_of}
+use Rattle.session_calls.specs.Damage.{IsMounted}
 use Rattle.volume_lines.specs.Lines.{asked}
+use Rattle.volume_desk.specs.Causes.{answer_in, sizes}
 use Rattle.volume_lines.specs.declared.lines.Line.TheVariants as parsed
 use Rattle.session_calls.proofs.CarryLaws.{carries_along, carries_end, carries_going}
-use Rattle.volume_desk.proofs.CauseLaws.{stops_as}
+use Rattle.volume_desk.proofs.CauseLaws.{any_as, stops_known}
 use Rattle.volume_desk.proofs.TurnLaws.{changed_served, serves_as, stopped_kept}
 use Rattle.volume_desk.proofs.serving.serve_line.Goals as goal
 
@@ -33,12 +35,15 @@ pub returns-in-Err-clause-serves : goal.returns-in-Err-clause-serves
 returns-in-Err-clause-serves g c told entry held =
     stopped_kept _ _ c.args.first _ entry (asked c.args.line.now c.args.desk.now.buffer) c.in-Err.stop held (c.serve_blocks.ensures.calls.along.cell told) (c.in-Err.ensures.turns told entry held)
 
-pub returns-in-Commit-clause-stops : goal.returns-in-Commit-clause-stops
-returns-in-Commit-clause-stops g c = stops_as _ _ c.args.line.now parsed.Commit c.args.desk.now.buffer c.commit.result c.in-Commit.is c.commit.ensures.stops
+pub returns-in-Commit-clause-any : goal.returns-in-Commit-clause-any
+returns-in-Commit-clause-any g c =
+    any_as g.P.Platform.tells (g.P.Platform.history c.commit.new.platform).present (sizes (blocks_of c.args.first) (g.P.Platform.head c.commit.new.platform) (g.P.Platform.capacity c.commit.new.platform)) c.args.desk.now.table c.args.desk.now.table c.args.line.now parsed.Commit c.args.desk.now.buffer _ (answer_in c.commit.result) c.in-Commit.is (c.commit.ensures.any c.args.desk.now.table _)
 
-pub returns-in-Destroy-clause-stops : goal.returns-in-Destroy-clause-stops
-returns-in-Destroy-clause-stops g c =
-    stops_as _ _ c.args.line.now (parsed.Destroy c.in-Destroy.name) c.args.desk.now.buffer c.destroy.result c.in-Destroy.is c.destroy.ensures.stops
+pub returns-in-Destroy-clause-any : goal.returns-in-Destroy-clause-any
+returns-in-Destroy-clause-any g c =
+    any_as g.P.Platform.tells (g.P.Platform.history c.destroy.new.platform).present (sizes (blocks_of c.args.first) (g.P.Platform.head c.destroy.new.platform) (g.P.Platform.capacity c.destroy.new.platform)) c.args.desk.now.table c.destroy.new.table c.args.line.now (parsed.Destroy c.in-Destroy.name) c.args.desk.now.buffer _ (answer_in c.destroy.result) c.in-Destroy.is (c.destroy.ensures.any _)
 
-pub returns-in-Err-clause-stops : goal.returns-in-Err-clause-stops
-returns-in-Err-clause-stops g c = (c.in-Err.ensures.stops.0, λ told. c.in-Err.ensures.stops.1 (told, c.requires.ready.mounted told))
+pub returns-in-Err-clause-any : goal.returns-in-Err-clause-any
+returns-in-Err-clause-any g c =
+    stops_known (g.P.Platform.tells × IsMounted (g.P.Platform.history c.args.platform.now).present c.args.first) g.P.Platform.tells (g.P.Platform.history c.serve_blocks.new.platform).present (blocks_of c.args.first) c.args.desk.now.table (asked c.args.line.now c.args.desk.now.buffer) c.in-Err.stop
+    (λ told. (told, c.requires.ready.mounted told)) c.in-Err.ensures.any

@@ -1,5 +1,7 @@
-use Rattle.std.proofs.Common.{None, Some, refl}
+use Rattle.std.proofs.Common.{None, Some, inl, inr, refl}
 use Rattle.device_course.specs.States.{around}
+use Rattle.device_session.specs.Open.{blocks_of}
+use Rattle.volume_desk.proofs.CauseLaws.{may_meets}
 use Rattle.volume_lines.specs.Lines.{asked}
 use Rattle.volume_lines.specs.Replies.{Bad, said}
 use Rattle.volume_serving.specs.World.{World, world}
@@ -12,16 +14,17 @@ use Rattle.volume_serving.proofs.serving.answer.Goals as goal
 pub returns-in_default-clause-handled : goal.returns-in_default-clause-handled
 returns-in_default-clause-handled g c text kept =
     let old : World = world g.P.Platform g.T.Tape g.L.Sink (Some c.args.session) c.args.desk.now.table c.args.platform.now c.args.tape.now c.args.ledger.now in
-    line_told g.P.Platform.tells old old.outside c.args.session c.args.desk.now.table text Bad c.tell.result (g.O.Sink.written c.args.output.now) (g.O.Sink.written c.tell.new.output)
-    (later_none old.outside (g.met.P.Platform.has_room c.args.platform.now)) (λ told entry on. bad_turn old c.args.session entry text refl (c.in_default.ensures.none text kept) on) c.tell.ensures.session c.tell.ensures.put
+    line_told g.P.Platform.tells (blocks_of c.args.session) old old.outside c.args.session c.args.desk.now.table text Bad c.tell.result (g.O.Sink.written c.args.output.now) (g.O.Sink.written c.tell.new.output)
+    (later_none old.outside (g.met.P.Platform.has_room c.args.platform.now)) (inr (c.in_default.ensures.none text kept, refl, refl)) (λ told entry on. bad_turn old c.args.session entry text refl (c.in_default.ensures.none text kept) on) c.tell.ensures.session c.tell.ensures.put
 
 pub returns-in-Ok-clause-handled : goal.returns-in-Ok-clause-handled
 returns-in-Ok-clause-handled g c text kept =
     let old : World = world g.P.Platform g.T.Tape g.L.Sink (Some c.args.session) c.args.desk.now.table c.args.platform.now c.args.tape.now c.args.ledger.now in
     let carries = c.serve_line.ensures.carries in
-    line_told g.P.Platform.tells old (around g.P.Platform g.T.Tape g.L.Sink c.serve_line.new.platform c.serve_line.new.tape c.serve_line.new.ledger) c.in-Ok.done.session c.serve_line.new.desk.table text (said c.in-Ok.done.reply c.serve_line.new.desk.buffer)
+    line_told g.P.Platform.tells (blocks_of c.args.session) old (around g.P.Platform g.T.Tape g.L.Sink c.serve_line.new.platform c.serve_line.new.tape c.serve_line.new.ledger) c.in-Ok.done.session c.serve_line.new.desk.table text (said c.in-Ok.done.reply c.serve_line.new.desk.buffer)
     c.tell-in-Ok.result (g.O.Sink.written c.args.output.now) (g.O.Sink.written c.tell-in-Ok.new.output)
     (record { capacity = carries.capacity; rises = carries.rises; within = g.met.P.Platform.has_room c.serve_line.new.platform })
+    (inl (asked c.in-Some.line c.read_line.new.buffer, c.in-Some.ensures.found text kept, c.in-Ok.ensures.any))
     (λ told entry on. served_turn old _ c.args.session c.in-Ok.done.session c.serve_line.new.desk.table entry text (asked c.in-Some.line c.read_line.new.buffer) _ refl (c.in-Some.ensures.found text kept) on (λ held. c.in-Ok.ensures.serves told entry held))
     c.tell-in-Ok.ensures.session c.tell-in-Ok.ensures.put
 
@@ -30,7 +33,7 @@ returns-in-Err-clause-handled g c text kept =
     let old : World = world g.P.Platform g.T.Tape g.L.Sink (Some c.args.session) c.args.desk.now.table c.args.platform.now c.args.tape.now c.args.ledger.now in
     let new : World = world g.P.Platform g.T.Tape g.L.Sink None c.serve_line.new.desk.table c.serve_line.new.platform c.serve_line.new.tape c.serve_line.new.ledger in
     let carries = c.serve_line.ensures.carries in
-    line_stop g.P.Platform.tells old new c.args.session text (asked c.in-Some.line c.read_line.new.buffer) c.in-Err.stop (g.O.Sink.written c.args.output.now) refl (c.in-Some.ensures.found text kept) c.in-Err.ensures.stops.0
+    line_stop g.P.Platform.tells (blocks_of c.args.session) old new c.args.session text (asked c.in-Some.line c.read_line.new.buffer) c.in-Err.stop (g.O.Sink.written c.args.output.now) refl (c.in-Some.ensures.found text kept) c.in-Err.ensures.any
     (record { capacity = carries.capacity; rises = carries.rises; within = g.met.P.Platform.has_room c.serve_line.new.platform }) (λ told entry held. c.in-Err.ensures.serves told entry held)
 
 pub returns-in_default-clause-carries : goal.returns-in_default-clause-carries
@@ -43,4 +46,4 @@ pub returns-in-Ok-clause-carries : goal.returns-in-Ok-clause-carries
 returns-in-Ok-clause-carries g c = carries_told _ _ _ c.args.session c.in-Ok.done.session _ c.tell-in-Ok.result refl c.tell-in-Ok.ensures.session c.in-Ok.ensures.carries
 
 pub returns-in-Err-clause-damage : goal.returns-in-Err-clause-damage
-returns-in-Err-clause-damage g c told = c.in-Err.ensures.stops.1 told
+returns-in-Err-clause-damage g c told = may_meets g.P.Platform.tells _ (asked c.in-Some.line c.read_line.new.buffer) c.in-Err.stop c.in-Err.ensures.any.0 told

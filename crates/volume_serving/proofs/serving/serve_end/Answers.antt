@@ -1,5 +1,6 @@
 use Rattle.std.proofs.Common.{◌≡◌, ℕ, List, [], ◌∷◌, Result, Option, Some, Ok, Err, refl, sym, subst, rules}
 use Rattle.std.specs.Prelude.{IsOk, IsTrue}
+use Rattle.device_session.specs.Open.{blocks_of}
 use Rattle.device_session.specs.Sessions.{Session}
 use Rattle.line_run.specs.Pending.{IsPending}
 use Rattle.line_run.specs.Stops.{Ending}
@@ -26,8 +27,8 @@ returns-then-is_empty-clause-handled g c rest pending =
     let old : World = world g.P.Platform g.T.Tape g.L.Sink (Some c.args.session) c.args.desk.now.table c.args.platform.now c.args.tape.now c.args.ledger.now in
     let empty : rest ≡ [] = (c.is_empty.ensures rest pending.is_pending).0 (search rules) in (
       Some c.args.session,
-      subst (λ (line : List ℕ). Handled g.P.Platform.tells old old (Ok tt) (line_at_end line) written written) (sym empty)
-          (handled_nothing g.P.Platform.tells old written (g.met.P.Platform.has_room c.args.platform.now)),
+      subst (λ (line : List ℕ). Handled g.P.Platform.tells (blocks_of c.args.session) old old (Ok tt) (line_at_end line) written written) (sym empty)
+          (handled_nothing g.P.Platform.tells (blocks_of c.args.session) old written (g.met.P.Platform.has_room c.args.platform.now)),
     )
 
 pub returns-then-is_empty-clause-carries : goal.returns-then-is_empty-clause-carries
@@ -46,6 +47,6 @@ returns-clause-handled g c rest pending =
     let some : rest ≡ [] → ⊥ = λ e. let yes : IsTrue c.is_empty.result = (c.is_empty.ensures rest pending.is_pending).1 e in search rules in
     let kept = subst (λ (p : Option (List ℕ)). IsPending p rest) (sym c.line.ensures) pending.is_pending in (
       goes_on c.answer.result,
-      subst (λ (ending : Ending). Handled P.tells old new ending (line_at_end rest) (written c.args.output.now) (written c.answer.new.output)) (sym c.close.ensures.ending)
-          (subst (λ (lines : List (List ℕ)). Handled P.tells old new (ending_of c.answer.result) lines (written c.args.output.now) (written c.answer.new.output)) (at_end rest some) (c.answer.ensures.handled rest kept)),
+      subst (λ (ending : Ending). Handled P.tells (blocks_of c.args.session) old new ending (line_at_end rest) (written c.args.output.now) (written c.answer.new.output)) (sym c.close.ensures.ending)
+          (subst (λ (lines : List (List ℕ)). Handled P.tells (blocks_of c.args.session) old new (ending_of c.answer.result) lines (written c.args.output.now) (written c.answer.new.output)) (at_end rest some) (c.answer.ensures.handled rest kept)),
     )

@@ -4,11 +4,12 @@ use Rattle.sdbt_base.specs.Counts.{counts}
 use Rattle.sdbt_base.specs.Told.{IsAtEnd}
 use Rattle.text_lines.specs.Lines.{rest_of}
 use Rattle.session_calls.proofs.CarryLaws.{carries_end, carries_going, carries_start, carries_then}
+use Rattle.device_session.specs.Open.{blocks_of}
 use Rattle.volume_serving.specs.World.{World, world}
 use Rattle.line_run.proofs.BlameLaws.{blamed_behind, blamed_take, fell_not}
 use Rattle.line_run.proofs.TakeLaws.{none_given, nothing_left, taken_of}
 use Rattle.volume_serving.specs.Handled.{Handled}
-use Rattle.volume_serving.proofs.HandledLaws.{replying}
+use Rattle.volume_serving.proofs.HandledLaws.{handled_of, replying}
 use Rattle.line_run.proofs.ReadingLaws.{IsReading, IsReading-start, IsReading-more, IsReading-stop, IsReading-end, IsReading-failed, IsReading-limit}
 use Rattle.volume_serving.proofs.serving.serve_input.Goals as goal
 
@@ -19,7 +20,7 @@ loop-left-init g c =
       table = c.requires.table;
       carries = carries_start _ _ c.args.first c.requires.ready;
       quiet = refl;
-      reading = IsReading-start _ (Handled P.tells) (replying P.tells).handling (world P g.T.Tape g.L.Sink (Some c.args.first) c.args.desk.now.table c.args.platform.now c.args.tape.now c.args.ledger.now) (g.I.Source.left c.args.input.now)
+      reading = IsReading-start _ (Handled P.tells (blocks_of c.args.first)) (replying P.tells (blocks_of c.args.first)).handling (world P g.T.Tape g.L.Sink (Some c.args.first) c.args.desk.now.table c.args.platform.now c.args.tape.now c.args.ledger.now) (g.I.Source.left c.args.input.now)
           (g.O.Sink.written c.args.output.now) c.new-pending.result _ (g.met.P.Platform.has_room c.args.platform.now) c.new-pending.ensures (omega arith);
     }
 
@@ -32,8 +33,8 @@ returns-in_default-clause-ran g c =
     let mid : World = world P T L (Some l.session) l.desk.table l.platform l.tape l.ledger in
     let same : left c.take.new.self ≡ left l.input = c.in_default.ensures.nothing_taken in (
       Some l.session,
-      IsReading-failed (replying P.tells) old mid (left c.args.input.now) (left c.take.new.self) (written c.args.output.now) (written l.output) l.pending l.left
-          (subst (λ (o : Option (List ℕ)). IsReading (Handled P.tells) old mid (left c.args.input.now) o (written c.args.output.now) (written l.output) l.pending l.left) (sym same) l.invariant.reading)
+      IsReading-failed (replying P.tells (blocks_of c.args.first)) old mid (left c.args.input.now) (left c.take.new.self) (written c.args.output.now) (written l.output) l.pending l.left
+          (subst (λ (o : Option (List ℕ)). IsReading (Handled P.tells (blocks_of c.args.first)) old mid (left c.args.input.now) o (written c.args.output.now) (written l.output) l.pending l.left) (sym same) l.invariant.reading)
           c.loop-left-test.true,
     )
 
@@ -46,12 +47,12 @@ returns-then-count-eq0-clause-ran g c =
     let mid : World = world P T L (Some l.session) l.desk.table l.platform l.tape l.ledger in
     let into : List ℕ = c.take.new.into in
     let same : left l.input ≡ left c.take.new.self = none_given (left l.input) (left c.take.new.self) into c.in-Ok.count c.if-count-eq0.true c.in-Ok.ensures.taken in
-    let reading = subst (λ (o : Option (List ℕ)). IsReading (Handled P.tells) old mid (left c.args.input.now) o (written c.args.output.now) (written l.output) l.pending l.left) same l.invariant.reading in
+    let reading = subst (λ (o : Option (List ℕ)). IsReading (Handled P.tells (blocks_of c.args.first)) old mid (left c.args.input.now) o (written c.args.output.now) (written l.output) l.pending l.left) same l.invariant.reading in
     let end = subst (λ (o : Option (List ℕ)). IsAtEnd o) same (nothing_left (left l.input) c.in-Ok.count c.if-count-eq0.true c.in-Ok.ensures.end) in
     let ended = c.serve_end.ensures.handled (rest_of reading.taken) reading.unfinished in (
       ended.0,
-      IsReading-end (replying P.tells) old mid (world P T L ended.0 e.desk.table e.platform e.tape e.ledger) c.serve_end.result (left c.args.input.now) (left c.take.new.self) (written c.args.output.now) (written l.output) (written e.output)
-          l.pending l.left reading c.loop-left-test.true end c.serve_end.ensures.stops ended.1,
+      IsReading-end (replying P.tells (blocks_of c.args.first)) old mid (world P T L ended.0 e.desk.table e.platform e.tape e.ledger) c.serve_end.result (left c.args.input.now) (left c.take.new.self) (written c.args.output.now) (written l.output) (written e.output)
+          l.pending l.left reading c.loop-left-test.true end c.serve_end.ensures.stops (handled_of _ _ _ _ _ _ _ _ _ l.invariant.carries.blocks ended.1),
     )
 
 pub returns-in-Err-clause-ran : goal.returns-in-Err-clause-ran
@@ -66,9 +67,9 @@ returns-in-Err-clause-ran g c =
     let took = taken_of c.take.new.into (drop c.min-room.result l.piece) c.in-Ok.count l.left (left l.input) (left c.take.new.self)
     (omega (arith, c.in-Ok.ensures.bound, c.take.auto.into)) (grind (arith, common_steps, c.take.auto.into, c.min-room.ensures)) (grind (arith, common_steps, c.take.auto.into, c.min-room.ensures)) c.in-Ok.ensures.taken in (
       None,
-      IsReading-stop (replying P.tells) old mid new (left c.args.input.now) (left l.input) (left c.take.new.self) (written c.args.output.now) (written l.output) (written e.output)
+      IsReading-stop (replying P.tells (blocks_of c.args.first)) old mid new (left c.args.input.now) (left l.input) (left c.take.new.self) (written c.args.output.now) (written l.output) (written e.output)
           l.pending l.left _ c.in-Err.stop reading took.gave took.short took.few c.in-Err.ensures.stops
-          (c.in-Err.ensures.handled (rest_of reading.taken) reading.unfinished),
+          (handled_of _ _ _ _ _ _ _ _ _ l.invariant.carries.blocks (c.in-Err.ensures.handled (rest_of reading.taken) reading.unfinished)),
     )
 
 pub loop-left-preserved : goal.loop-left-preserved
@@ -89,9 +90,9 @@ loop-left-preserved g c =
           let served = ok.ensures.blame.quiet in
           let taken : g.I.Source.faults c.take.new.self ≡ g.I.Source.faults l.input = c.in-Ok.ensures.cause in
           (λ k. counts (served k).platform (served k).tape (taken k) (served k).output (served k).ledger) ∙ l.invariant.quiet;
-      reading = IsReading-more (replying P.tells) old mid new (left c.args.input.now) (left l.input) (left c.take.new.self) (written c.args.output.now) (written l.output) (written e.output)
+      reading = IsReading-more (replying P.tells (blocks_of c.args.first)) old mid new (left c.args.input.now) (left l.input) (left c.take.new.self) (written c.args.output.now) (written l.output) (written e.output)
           l.pending e.pending l.left (l.left - c.in-Ok.count) _ reading took.gave took.less
-          (ok.ensures.pending (rest_of reading.taken) reading.unfinished) (ok.ensures.handled (rest_of reading.taken) reading.unfinished);
+          (ok.ensures.pending (rest_of reading.taken) reading.unfinished) (handled_of _ _ _ _ _ _ _ _ _ l.invariant.carries.blocks (ok.ensures.handled (rest_of reading.taken) reading.unfinished));
     }
 
 pub returns-clause-ran : goal.returns-clause-ran
@@ -100,7 +101,7 @@ returns-clause-ran g c =
     let old : World = world P T L (Some c.args.first) c.args.desk.now.table c.args.platform.now c.args.tape.now c.args.ledger.now in
     let mid : World = world P T L (Some l.session) l.desk.table l.platform l.tape l.ledger in (
       Some l.session,
-      IsReading-limit (replying P.tells) old mid (g.I.Source.left c.args.input.now) (g.I.Source.left l.input) (g.O.Sink.written c.args.output.now) (g.O.Sink.written l.output)
+      IsReading-limit (replying P.tells (blocks_of c.args.first)) old mid (g.I.Source.left c.args.input.now) (g.I.Source.left l.input) (g.O.Sink.written c.args.output.now) (g.O.Sink.written l.output)
           l.pending l.left l.invariant.reading (let none = c.loop-left-test.false in omega arith),
     )
 

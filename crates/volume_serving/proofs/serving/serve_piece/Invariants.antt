@@ -21,7 +21,7 @@ invariant-loop-front g l =
       carries : Carries P.tells (around P T L l.fn.platform l.fn.tape l.fn.ledger) (around P T L l.platform l.tape l.ledger) l.fn.first (Some l.session) (Unit {0});
       quiet : counts (P.faults l.platform) (T.faults l.tape) 0 (O.faults l.output) (L.faults l.ledger) ≡ counts (P.faults l.fn.platform) (T.faults l.fn.tape) 0 (O.faults l.fn.output) (L.faults l.fn.ledger);
       serving : (rest : List ℕ) → IsUnfinished l.fn.pending rest
-          → IsServing (Handled P.tells) (world P T L (Some l.fn.first) l.fn.desk.table l.fn.platform l.fn.tape l.fn.ledger) (world P T L (Some l.session) l.desk.table l.platform l.tape l.ledger)
+          → IsServing (Handled P.tells (blocks_of l.fn.first)) (world P T L (Some l.fn.first) l.fn.desk.table l.fn.platform l.fn.tape l.fn.ledger) (world P T L (Some l.session) l.desk.table l.platform l.tape l.ledger)
           (O.written l.fn.output) (O.written l.output) (rest ++ l.fn.piece) l.pending l.rest;
     }
 

@@ -2,7 +2,7 @@ use Rattle.std.proofs.Common.{Err, subst, ◌∙◌, ℕ}
 use Rattle.volume_table.specs.Tables.{IsTable}
 use Rattle.session_calls.proofs.CallLaws.{no_draw}
 use Rattle.session_calls.proofs.DamageLaws.{read_meets}
-use Rattle.volumes.proofs.StartLaws.{finds_none, finds_stop, finds_table, read_halt}
+use Rattle.volumes.proofs.StartLaws.{first_none, first_table, finds_none, finds_stop, finds_table, read_halt}
 use Rattle.volumes.proofs.running.read_table.Goals as goal
 
 pub returns-in-Some-clause-along : goal.returns-in-Some-clause-along
@@ -51,3 +51,12 @@ returns-in-Err-clause-early g c = read_halt _ (g.P.Platform.history c.args.platf
 pub returns-in-Err-clause-damage : goal.returns-in-Err-clause-damage
 returns-in-Err-clause-damage g c told mounted =
     read_meets _ (g.P.Platform.history c.args.platform.now).present (g.P.Platform.history c.read_block.new.platform).present c.args.session.now 0 c.read_block.new.out (Err c.in-Err.stop) c.in-Err.ensures.any (told, mounted)
+
+pub returns-in-Some-clause-spelled : goal.returns-in-Some-clause-spelled
+returns-in-Some-clause-spelled g c told mounted =
+    first_table _ (g.P.Platform.history c.args.platform.now).present (g.P.Platform.history c.read_block.new.platform).present c.args.session.now c.read_block.new.out c.in-Some.table c.in-Ok.ensures.any c.in-Some.ensures.found.1 (told, mounted)
+
+pub returns-in-None-clause-spelled : goal.returns-in-None-clause-spelled
+returns-in-None-clause-spelled g c told mounted =
+    first_none _ (g.P.Platform.history c.args.platform.now).present (g.P.Platform.history c.read_block.new.platform).present c.args.session.now c.read_block.new.out _ c.in-Ok.ensures.any
+    (c.blocks-in-Ok.ensures ∙ (c.in-Ok.ensures.goes no_draw).along.blocks) c.in-None.ensures.none (told, mounted)

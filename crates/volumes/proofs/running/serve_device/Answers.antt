@@ -23,7 +23,7 @@ returns-in-Err-clause-spans g c =
 pub returns-in-Ok-Some-clause-serves : goal.returns-in-Ok-Some-clause-serves
 returns-in-Ok-Some-clause-serves g c =
     let looks = c.mount_session.ensures.looks in
-    serves_since _ _ _ _ _ _ _ _ _ _ looks.capacity
+    serves_since g.P.Platform.tells _ _ _ _ _ _ _ _ _ _ looks.capacity looks.image
     (since_mount g.P.Platform c.args.platform.now c.mount_session.new.platform _ _ c.in-Ok-Some.session c.mount_session.result (c.in-Ok-Some.is ∙ ap Ok c.in-Ok-Some.field-0-is) refl refl refl refl looks c.mount_session.ensures.finds c.mount_session.ensures.leads)
     c.serve_volumes.ensures.serves
 
