@@ -1,9 +1,10 @@
 //! What no clause says: that each call which may answer want of memory does its work where there is
 //! memory, and what the two edges do over a reader and a writer of std.
 use sdbt_base::{
-    Addrs, Line, ListTape, MemSink, MemSource, Memory, ReadSource, Sink, Source, Tape, Unkept,
-    UnkeptList, WriteSink,
+    Addrs, KeySlot, Line, ListTape, MemSink, MemSource, Memory, ReadSource, Sink, Source, Tape,
+    Unkept, UnkeptList, WriteSink,
 };
+use std::alloc::Global;
 use std::test::Fail;
 
 /// How many bytes each of four takes gives, into a line, and none where it fails.
@@ -34,16 +35,17 @@ fn puts(sink: &mut MemSink) -> [(bool, usize); 3] {
     })
 }
 
-/// What four draws give, and none where one fails.
-pub(crate) fn draws<T: Tape>(tape: &mut T) -> [Option<[u8; 32]>; 4] {
+/// What four draws into one place give, and none where one fails.
+pub(crate) fn draws<T: Tape>(alloc: Global, tape: &mut T) -> Result<[Option<[u8; 32]>; 4], Memory> {
+    let mut drawn = KeySlot::new(alloc)?;
     let mut keys = [None; 4];
-    for key in keys.iter_mut() {
-        *key = match tape.draw() {
-            Ok(drawn) => Some(drawn.spend().bytes()),
+    'draws: for key in keys.iter_mut() {
+        *key = match tape.draw(&mut drawn) {
+            Ok(()) => Some(drawn.spend().bytes()),
             Err(_) => None,
         };
     }
-    keys
+    Ok(keys)
 }
 
 #[test]
@@ -68,7 +70,7 @@ fn memory_sink(rt: HostRuntime) -> Result<(), Fail> {
 #[test]
 fn listed_keys(rt: HostRuntime) -> Result<(), Fail> {
     let mut tape = ListTape::new(rt.alloc(), &[[1; 32], [2; 32]], &[2])?;
-    assert!(rt; draws(&mut tape) == [Some([1; 32]), None, Some([2; 32]), None]);
+    assert!(rt; draws(rt.alloc(), &mut tape)? == [Some([1; 32]), None, Some([2; 32]), None]);
     Ok(())
 }
 

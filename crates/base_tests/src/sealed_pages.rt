@@ -1,6 +1,8 @@
 //! Pages whose bytes were worked out outside: the keystream by another ChaCha20.
-use sdbt_base::{FreshKey, Key, RECORD};
+use sdbt_base::{Key, KeySlot, Memory, RECORD};
 use seal_record::{front_wanted, seal, stamped, stream_front, unseal};
+use std::alloc::Global;
+use std::test::Fail;
 
 const ZEROS: [u8; 32] = [0; 32];
 
@@ -27,13 +29,20 @@ const ZERO_END: &[u8; 8] = b"\x29\xf8\x2b\x4f\x5d\x12\xe7\x4e";
 
 const COUNTING_END: &[u8; 8] = b"\x99\x8e\xca\xcf\x67\x3c\x37\x77";
 
-/// The worked body, sealed under a key of these bytes, which comes along.
-fn sealed(bytes: [u8; 32]) -> ([u8; RECORD], Key) {
+/// A body, sealed under a key of these bytes, which comes along.
+fn sealed(
+    alloc: Global,
+    bytes: [u8; 32],
+    body: &[u8; RECORD],
+) -> Result<([u8; RECORD], Key), Memory> {
     let mut page = [0; RECORD];
-    let key = seal(FreshKey::from_bytes(bytes), &body(), &mut page);
-    (page, key)
+    let mut slot = KeySlot::new(alloc)?;
+    slot.put(bytes);
+    let key = seal(&mut slot, body, &mut page);
+    Ok((page, key))
 }
 
+/// The worked body.
 fn body() -> [u8; RECORD] {
     let mut body = [0; RECORD];
     body[..40].copy_from_slice(BODY);
@@ -55,8 +64,8 @@ fn opens(bytes: [u8; 32], addr: u64, page: &[u8; RECORD]) -> (bool, bool) {
 }
 
 #[test]
-fn seals_and_unseals_the_worked_page(rt: HostRuntime) {
-    let (page, key) = sealed(ZEROS);
+fn seals_and_unseals_the_worked_page(rt: HostRuntime) -> Result<(), Fail> {
+    let (page, key) = sealed(rt.alloc(), ZEROS, &body())?;
     assert!(rt; key == Key::from_bytes(ZEROS));
     assert!(rt; page.starts_with(PAGE));
     assert!(rt; page.ends_with(ZERO_END));
@@ -65,20 +74,22 @@ fn seals_and_unseals_the_worked_page(rt: HostRuntime) {
     for (bytes, addr) in [(ZEROS, 2), (ZEROS, 3 << 56), (COUNTING, 3)] {
         assert!(rt; opens(bytes, addr, &page) == (false, false), "at {addr}");
     }
+    Ok(())
 }
 
 #[test]
-fn seals_the_worked_page_under_another_key(rt: HostRuntime) {
-    let (page, key) = sealed(COUNTING);
+fn seals_the_worked_page_under_another_key(rt: HostRuntime) -> Result<(), Fail> {
+    let (page, key) = sealed(rt.alloc(), COUNTING, &body())?;
     assert!(rt; key == Key::from_bytes(COUNTING));
     assert!(rt; page.ends_with(COUNTING_END));
     assert!(rt; opens(COUNTING, 3, &page) == (true, true));
+    Ok(())
 }
 
 #[test]
-fn seals_zeros_to_the_keystream(rt: HostRuntime) {
-    let mut page = [0; RECORD];
-    seal(FreshKey::from_bytes(ZEROS), &[0; RECORD], &mut page);
+fn seals_zeros_to_the_keystream(rt: HostRuntime) -> Result<(), Fail> {
+    let (page, key) = sealed(rt.alloc(), ZEROS, &[0; RECORD])?;
     assert!(rt; page.starts_with(ZERO_STREAM));
-    assert!(rt; ZERO_STREAM.starts_with(&stream_front(&Key::from_bytes(ZEROS))));
+    assert!(rt; ZERO_STREAM.starts_with(&stream_front(&key)));
+    Ok(())
 }

@@ -1,6 +1,7 @@
 //! A tape whose keys follow from a number.
-ghost use Rattle.std.specs.Prelude.{◌≡◌, ◌+◌, ◌*◌, ◌^◌, ◌<◌, ◌≤◌, ◌↔◌, Some, IfOk, OnErr, IsOk, is_ok, length, if◌then◌else◌};
+ghost use Rattle.std.specs.Prelude.{◌≡◌, ◌+◌, ◌*◌, ◌^◌, ◌<◌, ◌≤◌, ◌↔◌, Some, [], OnOk, OnErr, IsOk, is_ok, length, if◌then◌else◌};
 ghost use Rattle.sdbt_base.specs.Faults.{Rose, next_count};
+ghost use Rattle.sdbt_base.specs.Keys.{Fills};
 ghost use Rattle.sdbt_base.specs.Told.{Drew};
 ghost use Rattle.chacha_words.specs.Words.{words};
 ghost use Rattle.key_tape.specs.SeedKeys.{SeedTapeState, seed_bytes, key_at, first_keys};
@@ -8,7 +9,7 @@ ghost use Rattle.key_tape.specs.SeedKeys.{SeedTapeState, seed_bytes, key_at, fir
 use chacha_words::fill_words;
 use rand_chacha::ChaCha20Rng;
 use rand_core::SeedableRng;
-use sdbt_base::{FreshKey, KEY, Tape, TapeFault};
+use sdbt_base::{KEY, KeySlot, Tape, TapeFault};
 use std::marker::Model;
 
 /// The stream of the generator that keys are drawn from. Stream 0 is the one that records are sealed with.
@@ -64,9 +65,11 @@ impl Tape for SeedTape {
     ghost faults = { λ t. t.failed };
 
     #[tactic(auto, using(crate::proofs::SeedKeyLemmas::seed_keys))]
-    fn draw(&mut self) -> Result<FreshKey, TapeFault>
-        ensures drawn { IfOk result (λ key. Drew (Some (first_keys self.old.seed self.old.draws)) key
+    fn draw(&mut self, key: &mut KeySlot) -> Result<(), TapeFault>
+        requires { key.old ≡ [] }
+        ensures drawn { OnOk result (Drew (Some (first_keys self.old.seed self.old.draws)) key.new
             (Some (first_keys self.new.seed self.new.draws))) }
+        ensures slot { Fills result key.new }
         ensures undrawn { OnErr result (Some (first_keys self.new.seed self.new.draws)
             ≡ Some (first_keys self.old.seed self.old.draws)) }
         ensures count { self.old.failed ≤ self.new.failed }
@@ -74,8 +77,7 @@ impl Tape for SeedTape {
 
         // It fails exactly where 2^60 keys were drawn.
         ensures succeeds { IsOk result ↔ (self.old.draws < 2 ^ 60) }
-        ensures key { IfOk result (λ key. key ≡ key_at self.old.seed self.old.draws) }
-        ensures size { IfOk result (λ key. length key ≡ KEY) }
+        ensures key { OnOk result (key.new ≡ key_at self.old.seed self.old.draws) }
         ensures state { self.new ≡ record {
           seed = self.old.seed;
           draws = (if is_ok result then self.old.draws + 1 else self.old.draws);
@@ -86,21 +88,19 @@ impl Tape for SeedTape {
             self.failed = self.failed.saturating_add(1);
             return Err(TapeFault);
         }
-        let bytes = next_key(&mut self.rng);
+        next_key(&mut self.rng, key.room());
         self.draws += 1;
-        Ok(FreshKey::from_bytes(bytes))
+        Ok(())
     }
 }
 
-/// The next eight words of a generator, each least byte first.
-fn next_key(rng: &mut ChaCha20Rng) -> [u8; KEY]
+/// Writes the next eight words of a generator, each least byte first.
+fn next_key(rng: &mut ChaCha20Rng, bytes: &mut [u8; KEY])
     requires { rng.old.word_pos < 2 ^ 67 }
-    ensures key { result ≡ words rng.old.key rng.old.stream rng.old.word_pos 8 }
+    ensures key { bytes.new ≡ words rng.old.key rng.old.stream rng.old.word_pos 8 }
     ensures place { rng.new ≡ record rng.old { word_pos = rng.old.word_pos + 8 } }
 {
-    let mut bytes = [0; KEY];
-    fill_words(rng, &mut bytes);
-    bytes
+    fill_words(rng, bytes);
 }
 
 /// The 32 bytes of a seed: the number, most significant byte first, and zeros.

@@ -1,13 +1,14 @@
 //! A tape over the bytes of a source.
-ghost use Rattle.std.specs.Prelude.{◌≡◌, ℕ, ◌<◌, ◌≤◌, List, length, take, OnOk, IfOk, OnErr, is_err, if◌then◌else◌};
+ghost use Rattle.std.specs.Prelude.{◌≡◌, ℕ, ◌<◌, ◌≤◌, List, [], length, take, OnOk, OnErr, is_err, if◌then◌else◌};
 ghost use Rattle.sdbt_base.specs.Faults.{Tells, next_count};
+ghost use Rattle.sdbt_base.specs.Keys.{Fills};
 ghost use Rattle.sdbt_base.specs.Told.{Gave, Drew};
 ghost use Rattle.key_tape.specs.Parts.{TellsSource, source_of, faults_of, told_by};
 
-use sdbt_base::{FreshKey, KEY, Source, Tape, TapeFault};
+use sdbt_base::{KEY, KeySlot, Source, Tape, TapeFault};
 
-/// Draws each key from the next 32 bytes of a source. A take that fails, and an end before the 32nd byte,
-/// are faults of the tape, and the bytes taken until then are lost.
+/// Draws each key from the next 32 bytes of a source, which writes them where the key is to lie. A take that fails, and an end
+/// before the 32nd byte, are faults of the tape, and the bytes taken until then are lost and wiped.
 ///
 /// It keeps no key, so it tells none of those drawn: what a draw gave is told by what the source has left.
 #[derive(Drop)]
@@ -31,15 +32,16 @@ impl<S: Source> Tape for SourceTape<S> {
 
     ghost faults = { faults_of };
 
-    fn draw(&mut self) -> Result<FreshKey, TapeFault>
-        ensures drawn { IfOk result (λ key. Drew (told_by self.old) key (told_by self.new)) }
+    fn draw(&mut self, key: &mut KeySlot) -> Result<(), TapeFault>
+        requires { key.old ≡ [] }
+        ensures drawn { OnOk result (Drew (told_by self.old) key.new (told_by self.new)) }
+        ensures slot { Fills result key.new }
         ensures undrawn { OnErr result (told_by self.new ≡ told_by self.old) }
         ensures count { faults_of self.old ≤ faults_of self.new }
         ensures cause { Tells result (faults_of self.old) (faults_of self.new) }
 
         // A key is the next bytes of the source; a fault loses fewer than a key has.
-        ensures key { IfOk result (λ key. Gave (S.left (source_of self.old)) key (S.left (source_of self.new))) }
-        ensures size { IfOk result (λ key. length key ≡ KEY) }
+        ensures key { OnOk result (Gave (S.left (source_of self.old)) key.new (S.left (source_of self.new))) }
         ensures lost { OnErr result ((part : List ℕ) × (length part < KEY)
             × Gave (S.left (source_of self.old)) part (S.left (source_of self.new))) }
         // It fails only where the source failed or had nothing left, and no fault of the source is passed over.
@@ -48,13 +50,12 @@ impl<S: Source> Tape for SourceTape<S> {
         ensures faults { faults_of self.new
             ≡ (if is_err result then next_count (faults_of self.old) else faults_of self.old) }
     {
-        let mut bytes = [0; KEY];
-        let filled = fill(&mut self.source, &mut bytes);
+        let filled = fill(&mut self.source, key.room());
         if filled.is_err() {
+            key.wipe();
             self.faults = self.faults.saturating_add(1);
-            return Err(TapeFault);
         }
-        Ok(FreshKey::from_bytes(bytes))
+        filled
     }
 }
 

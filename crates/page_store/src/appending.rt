@@ -1,7 +1,8 @@
-ghost use Rattle.std.specs.Prelude.{◌≡◌, ◌<◌, ℕ, All, Contains, IfOk, IsErrOf, length};
-ghost use Rattle.sdbt_base.specs.Faults.{TellsOf};
+ghost use Rattle.std.specs.Prelude.{◌≡◌, ◌<◌, ◌≤◌, ℕ, All, Contains, IfOk, OnErr, IsErrOf, length};
+ghost use Rattle.sdbt_base.specs.Faults.{Tells, TellsOf};
 ghost use Rattle.sdbt_base.specs.Bytes.{IsBytes};
 ghost use Rattle.sdbt_base.specs.Keys.{bare, IsKeyOf};
+ghost use Rattle.sdbt_base.specs.Told.{Drew};
 ghost use Rattle.record_versions.specs.Versions.{IsVersion};
 ghost use Rattle.seal_record.specs.Sealing.{masked};
 ghost use Rattle.page_digest.specs.Digest.{FitsDigest};
@@ -13,7 +14,7 @@ use crate::buffers::Buffers;
 use crate::refusals::AppendFault;
 use page_digest::digest_of;
 use platform::Platform;
-use sdbt_base::{FreshKey, Key, Tape};
+use sdbt_base::{Key, Tape, TapeFault};
 use seal_record::seal;
 
 /// Where a record was appended, and the key that names it there.
@@ -60,10 +61,9 @@ impl Buffers {
         ensures platform_cause { TellsOf AppendFault.PlatformFault result (P.faults platform.old) (P.faults platform.new) }
         ensures tape_cause { TellsOf AppendFault.TapeFault result (T.faults tape.old) (T.faults tape.new) }
     {
-        let Ok(fresh) = tape.draw() else {
+        let Ok(key) = self.seal_body(tape) else {
             return Err(AppendFault::TapeFault);
         };
-        let key = self.seal_body(fresh);
         let Ok(addr) = platform.append(&self.page) else {
             return Err(AppendFault::PlatformFault);
         };
@@ -71,15 +71,20 @@ impl Buffers {
         Ok(Placed { addr, key })
     }
 
-    /// Seals the body under a key, into the page.
-    fn seal_body(&mut self, fresh: FreshKey) -> Key
-        ensures used { result ≡ fresh }
-        ensures key { IsBytes 32 result }
-        ensures page { self.new ≡ record self.old { page = masked result self.old.body } }
+    /// Draws a key and seals the body under it, into the page. After a fault the buffers are as they were.
+    fn seal_body<T: Tape>(&mut self, tape: &mut T) -> Result<Key, TapeFault>
+        ensures drew { IfOk result (λ key. Drew (T.drawn tape.old) key (T.drawn tape.new)) }
+        ensures key { IfOk result (λ key. IsBytes 32 key) }
+        ensures page { IfOk result (λ key. self.new ≡ record self.old { page = masked key self.old.body }) }
+        ensures undrawn { OnErr result (T.drawn tape.new ≡ T.drawn tape.old) }
+        ensures stays { OnErr result (self.new ≡ self.old) }
+        ensures count { T.faults tape.old ≤ T.faults tape.new }
+        ensures cause { Tells result (T.faults tape.old) (T.faults tape.new) }
     {
-        let key = seal(fresh, &self.body, &mut self.page);
+        tape.draw(&mut self.key)?;
+        let key = seal(&mut self.key, &self.body, &mut self.page);
         are_key(&key);
-        key
+        Ok(key)
     }
 
     /// The key as it names the page in a version: with the digest of the page in version 2, else as it is.

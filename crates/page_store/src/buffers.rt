@@ -1,4 +1,4 @@
-ghost use Rattle.std.specs.Prelude.{◌≡◌, ◌↔◌, ◌<◌, ◌≤◌, ◌+◌, ◌-◌, ℕ, Some, IsTrue, IfOk, OnOk, drop, length, replicate, slice_get};
+ghost use Rattle.std.specs.Prelude.{◌≡◌, ◌↔◌, ◌<◌, ◌≤◌, ◌+◌, ◌-◌, ℕ, Some, [], IsTrue, IfOk, OnOk, drop, length, replicate, slice_get};
 ghost use Rattle.sdbt_base.specs.Faults.{Tells};
 ghost use Rattle.seal_record.specs.Sealing.{masked};
 ghost use Rattle.page_digest.specs.Digest.{FitsDigest};
@@ -10,7 +10,7 @@ ghost use Rattle.sdbt_base.specs.Arrays.{padded};
 use node_codec::{Entry, encode_block_over, encode_node};
 use page_digest::fits_digest;
 use platform::Platform;
-use sdbt_base::{Key, Memory, PlatformFault, RECORD};
+use sdbt_base::{Key, KeySlot, Memory, PlatformFault, RECORD};
 use seal_record::unseal;
 use std::alloc::Global;
 use std::marker::Model;
@@ -18,11 +18,13 @@ use std::marker::Model;
 /// The bytes of a record's head.
 const HEAD: usize = 32;
 
-/// Room for a page and for its body, on the heap, that is used again and again.
+/// Room for a page, for its body and for the key that it is sealed under, on the heap, that is used again and again.
 #[derive(Drop)]
 pub struct Buffers {
     pub(crate) page: Vec<u8>,
     pub(crate) body: Vec<u8>,
+    // Between calls it holds none.
+    pub(crate) key: KeySlot,
     // From here on the body is zeros: they need not be written anew for the next short content.
     zeros: usize,
 }
@@ -33,7 +35,7 @@ impl Model for Buffers {
     ghost view = { λ b. record { page = b.page.items; body = b.body.items } };
 
     ghost invariant = { λ b. (length b.page.items ≡ 4128) × (length b.body.items ≡ 4128)
-        × (drop b.zeros b.body.items ≡ replicate (4128 - b.zeros) 0) };
+        × (drop b.zeros b.body.items ≡ replicate (4128 - b.zeros) 0) × (b.key ≡ []) };
 }
 
 impl Buffers {
@@ -43,9 +45,11 @@ impl Buffers {
     {
         let page = vec![in alloc; 0; RECORD]?;
         let body = vec![in alloc; 0; RECORD]?;
+        let key = KeySlot::new(alloc)?;
         Ok(Buffers {
             page,
             body,
+            key,
             zeros: 0,
         })
     }

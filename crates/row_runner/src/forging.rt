@@ -4,8 +4,9 @@ ghost use Rattle.std.specs.Prelude.{◌≤◌, IfOk};
 use medium_trace::Pages;
 use page_digest::digest_of;
 use row_lines::{LineFault, byte, number, word};
-use sdbt_base::{FreshKey, RECORD, ROOT};
+use sdbt_base::{KeySlot, RECORD, ROOT};
 use seal_record::seal;
+use std::alloc::Global;
 use std::str::SplitWhitespace;
 
 /// Where the entries of a node, and the content of a data record, begin in a body.
@@ -56,6 +57,7 @@ pub(crate) fn page_at(pages: &Pages, addr: u64) -> [u8; RECORD] {
 /// `kind 3` an entry has the digest of its child's page, as that stands among the pages. What isn't said is a node at that address,
 /// under the key of it, which counts its children.
 pub(crate) fn page_of(
+    alloc: Global,
     addr: u64,
     words: &mut SplitWhitespace<'_>,
     pages: &Pages,
@@ -81,7 +83,9 @@ pub(crate) fn page_of(
         }
     }
     let mut page = [0; RECORD];
-    let _ = seal(FreshKey::from_bytes([key; 32]), &body, &mut page);
+    let mut slot = KeySlot::new(alloc)?;
+    slot.put([key; 32]);
+    let _ = seal(&mut slot, &body, &mut page);
     Ok(page)
 }
 

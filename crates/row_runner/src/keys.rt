@@ -1,6 +1,6 @@
 //! Which keys the runs of a row draw.
 use key_tape::SeedTape;
-use sdbt_base::{FreshKey, ListTape, Memory, Tape, TapeFault};
+use sdbt_base::{ListTape, Memory};
 use std::alloc::Global;
 
 /// How many keys a run may draw where they rise.

@@ -6,7 +6,7 @@ use key_tape::SeedTape;
 use platform::Platform;
 use root_codec::decode_root;
 use row_lines::{LineFault, end, number, word};
-use sdbt_base::{Key, Line, Memory, RECORD, Tape};
+use sdbt_base::{Key, KeySlot, Line, Memory, RECORD, Tape};
 use std::alloc::Global;
 use std::str::SplitWhitespace;
 
@@ -140,11 +140,20 @@ fn first_keys(alloc: Global, seed: u64) -> Result<Vec<Key>, LineFault> {
     let mut tape = SeedTape::new(seed);
     let mut keys = Vec::new(alloc);
     for _ in 0..KEYS {
-        if let Ok(key) = tape.draw() {
-            keys.push(key.spend())?;
+        if let Some(key) = next_key(alloc, &mut tape)? {
+            keys.push(key)?;
         }
     }
     Ok(keys)
+}
+
+/// The next key of a tape, if there is one.
+fn next_key(alloc: Global, tape: &mut SeedTape) -> Result<Option<Key>, Memory> {
+    let mut drawn = KeySlot::new(alloc)?;
+    match tape.draw(&mut drawn) {
+        Ok(()) => Ok(Some(drawn.spend())),
+        Err(_) => Ok(None),
+    }
 }
 
 /// The pages that the key in the cell reaches, and those of the tree.

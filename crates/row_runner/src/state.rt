@@ -142,7 +142,7 @@ impl Scene {
         let addr = number(words)?;
         let how = word(words)?;
         let page = if how == "holds" {
-            page_of(addr, words, self.platform.recorded())?
+            page_of(self.alloc, addr, words, self.platform.recorded())?
         } else {
             let mut page = page_at(self.platform.recorded(), addr);
             change(how, &mut page, words)?;

@@ -1,5 +1,5 @@
 -- What a key is: 32 bytes, and behind them, where it is known, the digest of the page that they seal.
-use Rattle.std.specs.Prelude.{◌≡◌, ◌==◌, ◌⊎◌, ℕ, ◌+◌, List, [], ◌∷◌, ◌++◌, Option, None, Some, take, drop, length, IfSome, if◌then◌else◌}
+use Rattle.std.specs.Prelude.{◌≡◌, ◌==◌, ◌⊎◌, ℕ, ◌+◌, List, [], ◌∷◌, ◌++◌, Option, None, Some, Result, Ok, Err, take, drop, length, IfSome, if◌then◌else◌}
 use Rattle.std.proofs.Common.{refl, ap, subst, ◌∙◌, arith}
 use Rattle.std.proofs.Math.Seq.{take-append_seam, drop-append_seam, take-length, drop-length}
 use Rattle.sdbt_base.specs.Bytes.{IsBytes}
@@ -64,3 +64,8 @@ some_bytes_is (b ∷ bs) h = refl
 pub digest_with : (bytes : List ℕ) (digest : Option (List ℕ)) → AreOfKey bytes digest → digest_of (key_with bytes digest) ≡ digest
 digest_with bytes None h = ap some_bytes (subst (λ n. drop n bytes ≡ []) h.0 (drop-length bytes))
 digest_with bytes (Some d) h = ap some_bytes (subst (λ n. drop n (bytes ++ d) ≡ d) h.0 (drop-append_seam bytes d)) ∙ some_bytes_is d h.1
+
+-- what a place for a fresh key holds behind a draw: a key where that was done, and else none, so that its bytes are zeros
+abbrev pub Fills : {T E : Type 0} → Result T E → List ℕ → Type 0
+Fills (Ok done) key = length key ≡ 32
+Fills (Err fault) key = key ≡ []

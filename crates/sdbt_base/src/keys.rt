@@ -101,39 +101,3 @@ impl PartialEq for Key {
 impl Eq for Key {
     ghost laws = { nat_list_eq_equiv };
 }
-
-/// A key that has sealed nothing yet. It can't be copied or let go: it is spent once, or discarded.
-pub struct FreshKey {
-    bytes: [u8; 32],
-}
-
-impl Model for FreshKey {
-    ghost Value = { List ℕ };
-
-    ghost view = { λ k. k.bytes };
-
-    ghost invariant = { λ k. length k.bytes ≡ 32 };
-}
-
-impl FreshKey {
-    /// A fresh key of these bytes. It is for tapes, which draw each key once.
-    pub fn from_bytes(bytes: [u8; 32]) -> FreshKey
-        ensures { result ≡ bytes }
-    {
-        FreshKey { bytes }
-    }
-
-    /// The key, which from now on may have sealed a record.
-    pub fn spend(self) -> Key
-        ensures same { result ≡ self }
-        ensures plain { length result ≡ 32 }
-    {
-        let FreshKey { bytes } = self;
-        Key::from_bytes(bytes)
-    }
-
-    /// Gives the key up: it will seal nothing.
-    pub fn discard(self) {
-        let FreshKey { bytes: _ } = self;
-    }
-}

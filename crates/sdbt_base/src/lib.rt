@@ -5,6 +5,7 @@
 #![tactic(auto)]
 
 mod faults;
+mod key_slot;
 mod keys;
 mod limits;
 mod lines;
@@ -20,7 +21,8 @@ mod transfers;
 mod write_sink;
 
 pub use faults::{Memory, PlatformFault, SinkFault, SourceFault, TapeFault};
-pub use keys::{FreshKey, Key};
+pub use key_slot::KeySlot;
+pub use keys::Key;
 pub use limits::{
     BLOCK, KEY, MAX_BLOCKS, MAX_INPUT, MAX_LEVEL, MAX_ORDER, MAX_PAGES, RECORD, ROOT,
 };

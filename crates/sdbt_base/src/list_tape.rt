@@ -1,10 +1,11 @@
 //! A tape of listed keys.
-ghost use Rattle.std.specs.Prelude.{◌≡◌, ◌≤◌, ◌↔◌, ◌⊎◌, ◌∷◌, Some, [], length, take, drop, Contains, IfOk, OnErr, IsErr, is_err, if◌then◌else◌};
+ghost use Rattle.std.specs.Prelude.{◌≡◌, ◌≤◌, ◌↔◌, ◌⊎◌, ◌∷◌, Some, [], length, take, drop, Contains, IfOk, OnErr, OnOk, IsErr, is_err, if◌then◌else◌};
 ghost use Rattle.sdbt_base.specs.Faults.{Tells, next_count};
+ghost use Rattle.sdbt_base.specs.Keys.{Fills};
 ghost use Rattle.sdbt_base.specs.Objects.{TapeState};
 ghost use Rattle.sdbt_base.specs.Told.{Drew};
 
-use crate::{FreshKey, Memory, Tape, TapeFault};
+use crate::{KeySlot, Memory, Tape, TapeFault};
 use std::alloc::Global;
 use std::marker::Model;
 
@@ -60,15 +61,17 @@ impl Tape for ListTape {
 
     ghost faults = { λ t. t.faults };
 
-    fn draw(&mut self) -> Result<FreshKey, TapeFault>
-        ensures drawn { IfOk result (λ key. Drew (Some self.old.drawn) key (Some self.new.drawn)) }
+    fn draw(&mut self, key: &mut KeySlot) -> Result<(), TapeFault>
+        requires { key.old ≡ [] }
+        ensures drawn { OnOk result (Drew (Some self.old.drawn) key.new (Some self.new.drawn)) }
+        ensures slot { Fills result key.new }
         ensures undrawn { OnErr result (Some self.new.drawn ≡ Some self.old.drawn) }
         ensures count { self.old.faults ≤ self.new.faults }
         ensures cause { Tells result self.old.faults self.new.faults }
 
         // It fails exactly where its number is listed or no key is left.
         ensures fails { IsErr result ↔ (Contains self.old.fail (next_count self.old.draws) ⊎ (self.old.left ≡ [])) }
-        ensures first { IfOk result (λ key. self.old.left ≡ key ∷ self.new.left) }
+        ensures first { OnOk result (self.old.left ≡ key.new ∷ self.new.left) }
         ensures left { OnErr result (self.new.left ≡ self.old.left) }
         ensures state { self.new ≡ record {
           drawn = self.new.drawn;
@@ -83,8 +86,8 @@ impl Tape for ListTape {
             self.faults = self.faults.saturating_add(1);
             return Err(TapeFault);
         }
-        let bytes = self.keys[self.next];
+        key.put(self.keys[self.next]);
         self.next += 1;
-        Ok(FreshKey::from_bytes(bytes))
+        Ok(())
     }
 }

@@ -1,23 +1,26 @@
 //! Sealing a record, unsealing it, and the test whether a key opens a page.
-ghost use Rattle.std.specs.Prelude.{◌≡◌, ◌↔◌, ℕ, List, length, take, IsTrue};
+ghost use Rattle.std.specs.Prelude.{◌≡◌, ◌↔◌, ℕ, List, [], length, take, IsTrue};
 ghost use Rattle.sdbt_base.specs.Bytes.{IsBytes};
 ghost use Rattle.seal_record.specs.Keystream.{stream};
 ghost use Rattle.seal_record.specs.Sealing.{masked, stamp_of, Opens};
 
 use crate::keystream::{FRONT, mask, unmasked_front, xor_into};
-use sdbt_base::{FreshKey, Key, RECORD};
+use sdbt_base::{Key, KeySlot, RECORD};
 
-/// Seals a record under a key that has sealed nothing yet, and answers that key, now used.
+/// Seals a record under the key that a place holds, which has sealed nothing yet, and answers that key, now used. Nothing of it is
+/// left in that place.
 ///
 /// `body` and `out` are 4,128 bytes; `out` becomes the page for the medium, which is `body` XOR the
 /// keystream of the key. It takes no memory and refuses nothing.
-pub fn seal(key: FreshKey, body: &[u8], out: &mut [u8]) -> Key
+pub fn seal(key: &mut KeySlot, body: &[u8], out: &mut [u8]) -> Key
+    requires key { length key.old ≡ 32 }
     requires body { length body.now ≡ RECORD }
     requires out { length out.old ≡ RECORD }
-    ensures page { out.new ≡ masked key body.now }
-    ensures used { result ≡ key }
+    ensures page { out.new ≡ masked key.old body.now }
+    ensures used { result ≡ key.old }
     ensures plain { length result ≡ 32 }
     ensures whole { IsBytes RECORD out.new }
+    ensures wiped { key.new ≡ [] }
 {
     let used = key.spend();
     mask(&used, body, out);

@@ -8,7 +8,7 @@ use node_codec::{Entry, encode_block, encode_node, fits_node};
 use page_digest::digest_of;
 use page_store::Buffers;
 use platform::{MemPlatform, Platform};
-use sdbt_base::{FreshKey, Key, RECORD};
+use sdbt_base::{Key, KeySlot, RECORD};
 use seal_record::seal;
 use std::alloc::Global;
 
@@ -117,7 +117,9 @@ impl Device {
             return None;
         }
         let mut page = [0; RECORD];
-        let _used = seal(FreshKey::from_bytes(key_bytes(addr)), record, &mut page);
+        let mut key = KeySlot::new(*self.digests.allocator()).ok()?;
+        key.put(key_bytes(addr));
+        let _used = seal(&mut key, record, &mut page);
         self.digests.push(digest_of(&page)).ok()?;
         self.platform.append(&page).ok()?;
         Some(addr)
