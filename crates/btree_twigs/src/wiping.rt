@@ -21,18 +21,28 @@ fn wipe_all(children: &mut [Child], level: u8)
     ensures { AreBlank children.new }
 {
     for child in children.iter_mut() {
-        if level > 1 {
-            wipe_below(child, level - 1);
-        }
-        *child = blank();
+        wipe_child(child, level);
     }
 }
 
-/// The same below a child that may be a node of this level in memory.
+/// The same of a child of a node of this level. Most are on the medium: zeros are written over these in their place, with no look at
+/// what would have to be let go.
 #[cycle(wipe)]
-fn wipe_below(child: &mut Child, level: u8) {
-    if let Child::Grown { twig, .. } = child {
-        wipe_all(&mut twig.children, level);
+fn wipe_child(child: &mut Child, level: u8)
+    ensures { child.new ≡ zeros }
+{
+    match child {
+        Child::Kept { low, addr, key } => {
+            *low = 0;
+            *addr = 0;
+            *key = Key::from_bytes([0; 32]);
+        }
+        Child::Grown { twig, .. } => {
+            if level > 1 {
+                wipe_all(&mut twig.children, level - 1);
+            }
+            *child = blank();
+        }
     }
 }
 

@@ -1,6 +1,6 @@
 //! The words of the ChaCha20 keystream (RFC 8439), with the 64-bit counter and stream number of `rand_chacha`: what records are sealed
-//! with, and what a seeded tape draws its keys from. All functions but `fill_words` do nothing: each has laws of the words as its
-//! contract.
+//! with, and what a seeded tape draws its keys from. All public functions but `fill_words` do nothing: each has laws of the words as
+//! its contract.
 #![tactic(auto)]
 
 ghost use Rattle.std.specs.Prelude.{◌≡◌, ◌+◌, ◌*◌, ◌/◌, ◌%◌, ◌^◌, ◌<◌, ◌++◌, ℕ, List, All, length};
@@ -9,22 +9,26 @@ ghost use Rattle.rand_core.specs.Steps.{word_bytes};
 ghost use Rattle.rand_chacha.specs.ChaCha.{ChaCha, next_word};
 ghost use Rattle.chacha_words.specs.Words.{words};
 
+mod pieces;
+
+use crate::pieces::{PIECE, fill_each, fill_pieces, stands_at_block};
 use rand_chacha::ChaCha20Rng;
-use rand_core::utils::NextWord;
 
 /// Fills `out`, whose length is a multiple of four, with the next words of a generator, each least byte first.
 ///
-/// There is one such function so that the compiler can build the generator into its loop.
+/// From the start of a block on, pieces of four blocks are copied as the generator makes them, and only what is left word by word.
 pub fn fill_words(rng: &mut ChaCha20Rng, out: &mut [u8])
     requires whole { length out.old % 4 ≡ 0 }
     requires within { rng.old.word_pos + length out.old / 4 < 2 ^ 68 }
     ensures written { out.new ≡ words rng.old.key rng.old.stream rng.old.word_pos (length out.old / 4) }
     ensures place { rng.new ≡ record rng.old { word_pos = rng.old.word_pos + length out.old / 4 } }
 {
-    let count = out.len() / 4;
-    'words: for i in 0..count {
-        let word = rng.next_word();
-        out[4 * i..4 * i + 4].copy_from_slice(&word.to_le_bytes());
+    if stands_at_block(rng) {
+        let whole = out.len() / PIECE * PIECE;
+        fill_pieces(rng, &mut out[..whole]);
+        fill_each(rng, &mut out[whole..]);
+    } else {
+        fill_each(rng, out);
     }
 }
 

@@ -1,31 +1,30 @@
-use Rattle.std.proofs.Common.{◌≡◌, ◌*◌, ◌/◌, ℕ, List, length, refl, sym, ◌∙◌, ap, arith}
-use Rattle.std.specs.Int.{w32, to_le_bytes}
-use Rattle.std.proofs.lemmas.List.{take_all}
-use Rattle.rand_core.specs.Steps.{word_bytes}
-use Rattle.rand_core.proofs.StepsLemmas.{word_written}
+use Rattle.std.proofs.Common.{◌≡◌, ◌+◌, ◌-◌, ◌*◌, ◌/◌, ℕ, List, ◌++◌, length, length-append, take, drop, refl, sym, ◌∙◌, ap, arith}
+use Rattle.std.proofs.lemmas.List.{length-take-le, length-drop}
 use Rattle.rand_chacha.specs.ChaCha.{ChaCha}
-use Rattle.chacha_words.proofs.WordLaws.{word_bytes-words}
+use Rattle.chacha_words.specs.Words.{words}
+use Rattle.chacha_words.proofs.WordLaws.{words-append, put_behind}
 use Rattle.chacha_words.proofs.fill_words.Goals as goal
 
-pub words-init : goal.words-init
-unfolding word_bytes
-words-init c = refl
-
-pub words-preserved : goal.words-preserved
-words-preserved c =
-    let wrote = c.copy_from_slice.ensures.after ∙ c.to_le_bytes.ensures in
-    let len : length c.copy_from_slice.new.self ≡ 4 = rw wrote refl in
-    word_written (to_le_bytes w32) _ c.words.i (4 * c.words.i) _ _ _ _ _ c.words.out c.copy_from_slice.new.self _
-    c.words.invariant c.next_word-word.ensures wrote (omega arith) (omega arith)
-
-pub returns-clause-written : goal.returns-clause-written
-returns-clause-written c =
-    let done : c.words.i ≡ length c.args.out.now / 4 = omega arith in
-    let all = rw done at c.words.invariant ∙ word_bytes-words c.args.rng.now (length c.args.out.now / 4) c.requires.within in
-    sym (take_all (4 * (length c.args.out.now / 4)) c.words.out (omega arith)) ∙ ap (λ (made : List ℕ × ChaCha). made.0) all
-
-pub returns-clause-place : goal.returns-clause-place
-returns-clause-place c =
-    let done : c.words.i ≡ length c.args.out.now / 4 = omega arith in
-    let all = rw done at c.words.invariant ∙ word_bytes-words c.args.rng.now (length c.args.out.now / 4) c.requires.within in
-    ap (λ (made : List ℕ × ChaCha). made.1) all
+pub returns-then-stands_at_block-clause-written : goal.returns-then-stands_at_block-clause-written
+returns-then-stands_at_block-clause-written c =
+    let g = c.args.rng.now in
+    let out = c.args.out.now in
+    let whole = length out / 256 * 256 in
+    let front = length-take-le whole out (omega arith) in
+    let back = length-drop whole out in
+    let first : length (take whole out) / 4 ≡ length out / 256 * 64 = omega (arith, front) in
+    let all = c.fill_pieces.new.out ++ drop whole out in
+    let joined = length-append c.fill_pieces.new.out (drop whole out) in
+    let after = length-drop whole all in
+    let later = take (length all - whole) (drop whole all) in
+    let same = length-take-le (length all - whole) (drop whole all) (omega (arith, after)) in
+    let rest : length later / 4 ≡ length out / 4 - length out / 256 * 64 = omega (arith, front, back, joined, after, same, c.requires.whole) in
+    let sum : length out / 256 * 64 + (length out / 4 - length out / 256 * 64) ≡ length out / 4 = omega arith in
+    put_behind c.fill_pieces.new.out (drop whole out) c.fill_each.new.out whole _ (omega (arith, front)) refl (omega arith)
+    ∙ ap (λ (begin : List ℕ). begin ++ c.fill_each.new.out) (c.fill_pieces.ensures.written ∙ ap (λ (n : ℕ). words g.key g.stream g.word_pos n) first)
+    ∙ ap (λ (end : List ℕ). words g.key g.stream g.word_pos (length out / 256 * 64) ++ end)
+    (c.fill_each.ensures.written
+    ∙ ap (λ (r : ChaCha). words r.key r.stream r.word_pos (length later / 4)) (c.fill_pieces.ensures.place ∙ ap (λ (n : ℕ). record g { word_pos = g.word_pos + n }) first)
+    ∙ ap (λ (n : ℕ). words g.key g.stream (g.word_pos + length out / 256 * 64) n) rest)
+    ∙ sym (words-append g.key g.stream g.word_pos (length out / 256 * 64) (length out / 4 - length out / 256 * 64))
+    ∙ ap (λ (n : ℕ). words g.key g.stream g.word_pos n) sum
