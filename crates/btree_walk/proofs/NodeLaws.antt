@@ -1,6 +1,6 @@
 -- The nodes below the entries of a node, one entry after the other.
 use Rattle.std.proofs.Common.{◌≡◌, ℕ, zero, suc, ◌+◌, ◌-◌, ◌<◌, ◌≤◌, List, [], ◌∷◌, ◌++◌, Some, length, take, drop, slice_get, get_or, refl, sym, ap, subst, inl, inr, ◌∙◌, arith, append_assoc, append-nil, length-append}
-use Rattle.std.specs.Prelude.{All}
+use Rattle.std.specs.Prelude.{All, OnErr, Result, Ok, Err}
 use Rattle.std.proofs.lemmas.List.Elements.{All-head, All-tail}
 use Rattle.node_codec.specs.declared.body.Entry.{Entry}
 use Rattle.node_codec.specs.Record.{NodeRecord}
@@ -12,7 +12,7 @@ use Rattle.root_codec.specs.declared.root.Root.{Root}
 use Rattle.page_store.specs.Places.{FitsAt, root_want, child_want}
 use Rattle.page_store.specs.Tree.{bound_of, IsMisfit}
 use Rattle.btree_walk.specs.declared.branches.Branch.{Branch}
-use Rattle.btree_walk.specs.Nodes.{Node, node_at, branches, Joined, Nodes, Adds, Meets, Lists, FirstWrong}
+use Rattle.btree_walk.specs.Nodes.{Node, node_at, branches, Joined, Nodes, Adds, Meets, Lists, FirstWrong, FirstNodes, CutShort}
 use Rattle.btree_walk.specs.Refusals.{refused}
 
 -- a walk is refused by a bad record where a fetch was
@@ -199,6 +199,54 @@ wrong_later pages addr want key entries place branch Of reads_old reads_new some
       stops = stops;
     } in
     subst (λ (n : ℕ). FirstWrong pages addr want.most n want key) again here
+
+-- ---- how far a walk came that was cut short
+
+pub none_met : (pages : List (List ℕ)) (order level : ℕ) (want : Want) (key : List ℕ) → FirstNodes pages order level want key []
+unfolding FirstNodes
+none_met pages order zero want key = refl
+none_met pages order (suc level) want key = inl refl
+
+pub cut_here : (pages : List (List ℕ)) (want : Want) (key : List ℕ) (reads_old reads_new : ℕ) → reads_new ≤ reads_old + 1 → CutShort pages want key reads_old reads_new
+cut_here pages want key reads_old reads_new few = record { nodes = []; are = none_met pages want.most want.level want key; reads = omega (arith, few) }
+
+pub cut_later : (pages : List (List ℕ)) (want : Want) (key : List ℕ) (entries : List Entry) (place : ℕ) (branch : Branch) (Of : List Node → Type 0) (reads_old reads_mid reads_new : ℕ)
+    → 1 ≤ want.level → FitsAt pages want key (NodeRecord want.level entries)
+    → slice_get (branches want.most (want.level - 1) want.high entries) place ≡ Some branch
+    → Ahead pages want.most (want.level - 1) (branches want.most (want.level - 1) want.high entries) place Of (node_at want.addr want.level entries) reads_old reads_mid
+    → CutShort pages branch.want branch.key reads_mid reads_new → CutShort pages want key reads_old reads_new
+unfolding FirstNodes
+cut_later pages want key entries place branch Of reads_old reads_mid reads_new some fits at ahead cut =
+    let bs = branches want.most (want.level - 1) want.high entries in
+    let again : suc (want.level - 1) ≡ want.level = level_again want.level some in
+    let same_level = branch_level want.most (want.level - 1) want.high place entries branch at in
+    let same_order = branch_most want.most (want.level - 1) want.high place entries branch at in
+    let last : FirstNodes pages want.most (want.level - 1) branch.want branch.key cut.nodes =
+    subst (λ (o : ℕ). FirstNodes pages o (want.level - 1) branch.want branch.key cut.nodes) same_order (subst (λ (n : ℕ). FirstNodes pages branch.want.most n branch.want branch.key cut.nodes) same_level cut.are) in
+    let met : List Node = node_at want.addr want.level entries ∷ (ahead.below ++ cut.nodes) in
+    let here : FirstNodes pages want.most (suc (want.level - 1)) want key met = inr record {
+      entries = entries;
+      fits = subst (λ (n : ℕ). FitsAt pages want key (NodeRecord n entries)) (sym again) fits;
+      before = take place bs;
+      branch = branch;
+      after = drop (suc place) bs;
+      split = cut_at bs place branch at;
+      whole = ahead.below;
+      each = ahead.joined;
+      last = cut.nodes;
+      cut = last;
+      is = ap (λ (n : ℕ). node_at want.addr n entries ∷ (ahead.below ++ cut.nodes)) (sym again);
+    } in
+    record {
+      nodes = met;
+      are = subst (λ (n : ℕ). FirstNodes pages want.most n want key met) again here;
+      reads = let size = length-append ahead.below cut.nodes in let one = ahead.reads in let two = cut.reads in omega arith;
+    }
+
+-- what is so anyway is so where there is an error
+pub on_error : {T E : Type 0} (result : Result T E) (X : Type 0) → X → OnErr result X
+on_error (Ok value) X so = tt
+on_error (Err e) X so = so
 
 -- what a walk from the root gathers of the nodes that it meets, where there was nothing, is what the tree lists
 pub lists_met : {A : Type 0} (pages : List (List ℕ)) (root : Root) (has : List Node → List A) (want : Want) (old new : List A) (before after : ℕ) → want ≡ root_want root → old ≡ has [] → Meets pages want root.key (Adds (λ list nodes. list ≡ has nodes) old new) before after → Lists pages root has before after new

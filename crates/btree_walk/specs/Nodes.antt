@@ -1,5 +1,5 @@
 -- The nodes of a tree, above its data records: what a walk over them meets, in order, and where it stops.
-use Rattle.std.specs.Prelude.{◌≡◌, ◌⊎◌, ◌==◌, ◌+◌, ℕ, zero, suc, List, [], ◌∷◌, ◌++◌, length, if◌then◌else◌}
+use Rattle.std.specs.Prelude.{◌≡◌, ◌≤◌, ◌⊎◌, ◌==◌, ◌+◌, ℕ, zero, suc, List, [], ◌∷◌, ◌++◌, length, if◌then◌else◌}
 use Rattle.std.specs.List.{flat_map}
 use Rattle.node_codec.specs.declared.body.Entry.{Entry}
 use Rattle.node_codec.specs.Record.{NodeRecord}
@@ -76,6 +76,25 @@ FirstWrong pages addr order zero want key = ⊥
 FirstWrong pages addr order (suc level) want key =
     IsMisfit pages addr want key ⊎ StopsLater pages (λ b. FirstWrong pages addr order level b.want b.key) order level want key
 
+-- a node that fits, below whose first entries all nodes were met, and below the next one these
+pub record CutBelow (pages : List (List ℕ)) (Cut : Branch → List Node → Type 0) (order level : ℕ) (want : Want) (key : List ℕ) (met : List Node) : Type 0 where
+  pub entries : List Entry
+  pub fits : FitsAt pages want key (NodeRecord (suc level) entries)
+  pub before : List Branch
+  pub branch : Branch
+  pub after : List Branch
+  pub split : branches order level want.high entries ≡ before ++ branch ∷ after
+  pub whole : List Node
+  pub each : Joined (λ b. Nodes pages order level b.want b.key) before whole
+  pub last : List Node
+  pub cut : Cut branch last
+  pub is : met ≡ node_at want.addr (suc level) entries ∷ (whole ++ last)
+
+-- from a place of a level on these nodes fit, and are the first ones, each before those below it
+unfoldable pub FirstNodes : List (List ℕ) → ℕ → ℕ → Want → List ℕ → List Node → Type 0
+FirstNodes pages order zero want key met = met ≡ []
+FirstNodes pages order (suc level) want key met = (met ≡ []) ⊎ CutBelow pages (λ b. FirstNodes pages order level b.want b.key) order level want key met
+
 -- of the nodes of the tree of a root record, in their order, the first one that doesn't fit has this address
 abbrev pub FirstWrongOf : List (List ℕ) → Root → ℕ → Type 0
 FirstWrongOf pages root addr = FirstWrong pages addr root.order root.level (root_want root) root.key
@@ -97,3 +116,9 @@ pub record Lists {A : Type 0} (pages : List (List ℕ)) (root : Root) (has : Lis
   pub are : NodesOf pages root nodes
   pub is : list ≡ has nodes
   pub reads : reads_new ≡ reads_old + length nodes
+
+-- a walk from a place on was cut short: it met some nodes, the first ones, by one read each, and made one read more at most
+pub record CutShort (pages : List (List ℕ)) (want : Want) (key : List ℕ) (reads_old reads_new : ℕ) : Type 0 where
+  pub nodes : List Node
+  pub are : FirstNodes pages want.most want.level want key nodes
+  pub reads : reads_new ≤ reads_old + length nodes + 1

@@ -1,7 +1,8 @@
-ghost use Rattle.std.specs.Prelude.{◌≤◌, ℕ, IfOk, IsErrOf, map};
+ghost use Rattle.std.specs.Prelude.{◌≤◌, ℕ, IfOk, IsErrOf, OnErr, map};
 ghost use Rattle.sdbt_base.specs.Faults.{TellsOf};
 ghost use Rattle.root_codec.specs.RootRecord.{FitsRoot};
-ghost use Rattle.btree_walk.specs.Nodes.{Lists, FirstWrongOf, listed};
+ghost use Rattle.page_store.specs.Places.{root_want};
+ghost use Rattle.btree_walk.specs.Nodes.{Lists, CutShort, FirstWrongOf, listed};
 ghost use Rattle.btree_walk.specs.Looks.{OnlyLooks};
 
 use crate::entry_list::Entries;
@@ -15,7 +16,7 @@ use std::alloc::Global;
 
 /// The entries of all leaves of the tree of a root record, in order: its blocks, with where their data records are.
 ///
-/// Each node is read once, and no data record. `BadRecord` comes exactly where a node does not fit, with the address of
+/// Each node is read once, also where the walk is cut short, and no data record. `BadRecord` comes exactly where a node does not fit, with the address of
 /// the first one of these, where each node comes before those below it, and left before right.
 pub fn entries<P: Platform>(
     alloc: Global,
@@ -29,6 +30,7 @@ pub fn entries<P: Platform>(
         Lists (P.history platform.old).present.readable root.now listed (P.reads platform.old) (P.reads platform.new) list) }
     ensures wrong { P.tells → (addr : ℕ) → IsErrOf result (WalkRefusal.BadRecord addr) →
         FirstWrongOf (P.history platform.old).present.readable root.now addr }
+    ensures cut { P.tells → OnErr result (CutShort (P.history platform.old).present.readable (root_want root.now) root.now.key (P.reads platform.old) (P.reads platform.new)) }
     ensures looks { OnlyLooks P.Platform platform.old platform.new }
     ensures cause { TellsOf WalkRefusal.PlatformFault result (P.faults platform.old) (P.faults platform.new) }
 {
@@ -52,6 +54,7 @@ pub fn addresses<P: Platform>(
         Lists (P.history platform.old).present.readable root.now (map (λ n. n.addr)) (P.reads platform.old) (P.reads platform.new) list) }
     ensures wrong { P.tells → (addr : ℕ) → IsErrOf result (WalkRefusal.BadRecord addr) →
         FirstWrongOf (P.history platform.old).present.readable root.now addr }
+    ensures cut { P.tells → OnErr result (CutShort (P.history platform.old).present.readable (root_want root.now) root.now.key (P.reads platform.old) (P.reads platform.new)) }
     ensures looks { OnlyLooks P.Platform platform.old platform.new }
     ensures cause { TellsOf WalkRefusal.PlatformFault result (P.faults platform.old) (P.faults platform.new) }
 {

@@ -1,10 +1,10 @@
-ghost use Rattle.std.specs.Prelude.{◌≡◌, ◌<◌, ◌≤◌, ◌+◌, ℕ, OnOk, IsErrOf};
+ghost use Rattle.std.specs.Prelude.{◌≡◌, ◌<◌, ◌≤◌, ◌+◌, ℕ, OnErr, OnOk, IsErrOf};
 ghost use Rattle.sdbt_base.specs.Faults.{TellsOf};
 ghost use Rattle.sdbt_base.specs.Keys.{version_of};
 ghost use Rattle.node_codec.specs.Record.{NodeRecord, FitsNode};
 ghost use Rattle.page_store.specs.Places.{FitsAt};
 ghost use Rattle.page_store.specs.Tree.{IsMisfit};
-ghost use Rattle.btree_walk.specs.Nodes.{Meets, Adds, FirstWrong};
+ghost use Rattle.btree_walk.specs.Nodes.{Meets, Adds, CutShort, FirstWrong};
 ghost use Rattle.btree_walk.specs.Looks.{OnlyLooks};
 
 use crate::branches::branch_at;
@@ -33,6 +33,8 @@ pub(crate) fn walk<P: Platform, G: Gather>(
         (Adds G.holds gathered.old gathered.new) (P.reads platform.old) (P.reads platform.new)) }
     ensures wrong { P.tells → (addr : ℕ) → IsErrOf result (WalkRefusal.BadRecord addr) →
         FirstWrong (P.history platform.old).present.readable addr want.now.most want.now.level want.now key.now }
+    // Where it is refused no node was read twice.
+    ensures cut { P.tells → OnErr result (CutShort (P.history platform.old).present.readable want.now key.now (P.reads platform.old) (P.reads platform.new)) }
     ensures looks { OnlyLooks P.Platform platform.old platform.new }
     ensures cause { TellsOf WalkRefusal.PlatformFault result (P.faults platform.old) (P.faults platform.new) }
 {
@@ -69,6 +71,7 @@ fn read_node<P: Platform>(
     ensures misfit { P.tells → (addr : ℕ) → IsErrOf result (WalkRefusal.BadRecord addr) →
         IsMisfit (P.history platform.old).present.readable addr want.now key.now }
     ensures reads { P.tells → OnOk result (P.reads platform.new ≡ P.reads platform.old + 1) }
+    ensures reads_most { P.tells → P.reads platform.new ≤ P.reads platform.old + 1 }
     ensures looks { OnlyLooks P.Platform platform.old platform.new }
     ensures cause { TellsOf WalkRefusal.PlatformFault result (P.faults platform.old) (P.faults platform.new) }
 {

@@ -129,13 +129,6 @@ impl Cert {
         &self.added
     }
 
-    /// The addresses that it added, to keep.
-    pub fn into_added(self) -> AddedList
-        ensures { result ≡ self.added }
-    {
-        self.added
-    }
-
     /// The addresses that it let go.
     pub fn gone(&self) -> &Addrs
         ensures { result.now ≡ self.now.gone }

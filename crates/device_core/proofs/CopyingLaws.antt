@@ -3,9 +3,6 @@ use Rattle.std.proofs.Common.{◌≡◌, ◌∙◌, ap, sym, subst, refl, ◌+�
 use Rattle.std.specs.Prelude.{All, Contains, IfOk, IsOk, Result, Err, is_ok, true, false, slice_get}
 use Rattle.sdbt_base.specs.Faults.{TellsOf}
 use Rattle.sdbt_base.proofs.FaultLaws.{tells_then, tells_on}
-use Rattle.sdbt_base.specs.declared.tapes.Tape.{Ghosts as TapeGhosts}
-use Rattle.platform.specs.declared.platforms.Platform.{Ghosts as PlatformGhosts}
-use Rattle.device_terms.proofs.MomentLaws.{stays_then, still}
 use Rattle.std.proofs.lemmas.List.{map-append, length-map, take_more, take-set-le, take_all, length-set, get_or-set_same}
 use Rattle.std.proofs.lemmas.List.Elements.{All-nil, All-push, All-weaker, Contains-append_left}
 use Rattle.sdbt_base.specs.Arrays.{padded}
@@ -29,7 +26,7 @@ use Rattle.page_store.proofs.StandsLaws.{stands_later}
 use Rattle.tree_build.specs.Nodes.{AreData, AreFrom}
 use Rattle.tree_build.specs.Building.{with_pages}
 use Rattle.device_core.specs.declared.copying.CopyRefusal.TheVariants as copies
-use Rattle.device_core.specs.Copying.{AddsPages, CopiesOne, Copies, StopsAt, unread}
+use Rattle.device_core.specs.Copying.{CopiesOne, Copies, StopsAt, unread}
 
 -- ---- refusals
 
@@ -53,28 +50,6 @@ told_on {T} {U} {E} fault e before mid now told same = tells_on {T = T} {U = U} 
 pub sound_still : (old new : History) → CellStays old new → IsSound old.present → IsSound new.present
 sound_still old new stays sound =
     (sound.0, stands_later old.present new.present sound.0 (Extends-earlier old new stays.extends) (During-now old new (λ image. image.cell ≡ old.present.cell) stays) sound.1)
-
--- a call that does nothing, and one call after another
-pub adds_none : {S R : Type 0} (P : PlatformGhosts S) (T : TapeGhosts R) (platform : S) (tape : R) → AddsPages P T 0 platform platform tape tape
-adds_none P T platform tape = record {
-  cell = λ told. still (P.history platform);
-  rises = omega arith;
-  at_most = omega arith;
-  capacity = refl;
-  platform_faults = omega arith;
-  tape_faults = omega arith;
-}
-
-pub adds_then : {S R : Type 0} (P : PlatformGhosts S) (T : TapeGhosts R) (one two most : ℕ) (platform mid now : S) (tape tape_mid tape_now : R) → one + two ≤ most
-    → AddsPages P T one platform mid tape tape_mid → AddsPages P T two mid now tape_mid tape_now → AddsPages P T most platform now tape tape_now
-adds_then P T one two most platform mid now tape tape_mid tape_now within a b = record {
-  cell = λ told. stays_then (P.history platform) (P.history mid) (P.history now) (a.cell told) (b.cell told);
-  rises = omega (arith, a.rises, b.rises);
-  at_most = omega (arith, a.at_most, b.at_most, within);
-  capacity = b.capacity ∙ a.capacity;
-  platform_faults = omega (arith, a.platform_faults, b.platform_faults);
-  tape_faults = omega (arith, a.tape_faults, b.tape_faults);
-}
 
 -- ---- one record
 

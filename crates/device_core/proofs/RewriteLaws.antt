@@ -4,10 +4,8 @@ use Rattle.std.specs.Prelude.{All}
 use Rattle.std.specs.List.Sorted.{IsStrictlyIncreasing}
 use Rattle.std.proofs.lemmas.List.{length-map, get_or-map}
 use Rattle.sdbt_base.specs.Keys.{IsKeyOf}
-use Rattle.sdbt_base.specs.declared.tapes.Tape.{Ghosts as TapeGhosts}
 use Rattle.platform.specs.Image.{Image}
 use Rattle.platform.specs.History.{History, CellStays}
-use Rattle.platform.specs.declared.platforms.Platform.{Ghosts as PlatformGhosts}
 use Rattle.node_codec.specs.declared.body.Entry.{Entry}
 use Rattle.root_codec.specs.declared.root.Root.{Root}
 use Rattle.root_codec.specs.RootRecord.{FitsRoot}
@@ -15,9 +13,9 @@ use Rattle.page_store.specs.Roots.{IsRootWithin}
 use Rattle.page_store.specs.Stands.{IsSound}
 use Rattle.tree_build.specs.Shape.{IsShaped, built, levels_over}
 use Rattle.tree_build.specs.Nodes.{AreFrom, AreInOrder, IsRootOver}
-use Rattle.tree_build.specs.Building.{Builds, CanBuild, KnowsItems, OnlyAdds}
+use Rattle.tree_build.specs.Building.{Builds, CanBuild, KnowsItems}
 use Rattle.tree_build.proofs.ShapeLaws.{shape_least, shape_levels}
-use Rattle.device_core.specs.Copying.{AddsPages, Copies}
+use Rattle.device_core.specs.Copying.{Copies}
 use Rattle.device_core.specs.Surveying.{IsListing}
 use Rattle.device_core.specs.Upgrading.{IsUpgradedRoot, order_above, needed_of_root}
 use Rattle.device_core.specs.UpgradeCalls.{IsCopied}
@@ -187,27 +185,7 @@ rewritten tells old copied new head mid head_now level root next entries named i
       over = subst (IsRootOver (order_above root.order) root.blocks named b.nodes) (sym next_is) over;
     }
 
--- ---- keys, and what is added
+-- ---- keys
 
 pub knows_copies : (copied : Image) (named : List Entry) (keys : List (List ℕ)) → IsSound copied → All (IsListed keys) named → KnowsItems copied named keys
 knows_copies copied named keys sound listed = record { device = sound.0; stands = sound.1; listed = listed }
-
-pub adds_of : {S R : Type 0} (P : PlatformGhosts S) (T : TapeGhosts R) (few most : ℕ) (platform now : S) (tape tape_now : R) → few ≤ most → OnlyAdds P T few platform now tape tape_now → AddsPages P T most platform now tape tape_now
-adds_of P T few most platform now tape tape_now within a = record {
-  cell = a.cell;
-  rises = a.rises;
-  at_most = omega (arith, a.at_most, within);
-  capacity = a.capacity;
-  platform_faults = a.platform_faults;
-  tape_faults = a.tape_faults;
-}
-
-pub adds_more : {S R : Type 0} (P : PlatformGhosts S) (T : TapeGhosts R) (few most : ℕ) (platform now : S) (tape tape_now : R) → few ≤ most → AddsPages P T few platform now tape tape_now → AddsPages P T most platform now tape tape_now
-adds_more P T few most platform now tape tape_now within a = record {
-  cell = a.cell;
-  rises = a.rises;
-  at_most = omega (arith, a.at_most, within);
-  capacity = a.capacity;
-  platform_faults = a.platform_faults;
-  tape_faults = a.tape_faults;
-}

@@ -1,10 +1,7 @@
 -- What the copying of data records does: each is sealed anew behind what there is, in their order, and the old pages stay.
 use Rattle.std.specs.Prelude.{◌≡◌, ◌≤◌, ◌<◌, ◌+◌, ℕ, List, ◌∷◌, ◌++◌, All, length, map}
 use Rattle.sdbt_base.specs.Keys.{IsKeyOf}
-use Rattle.sdbt_base.specs.declared.tapes.Tape.{Ghosts as TapeGhosts}
 use Rattle.platform.specs.Image.{Image, with_page}
-use Rattle.platform.specs.History.{CellStays}
-use Rattle.platform.specs.declared.platforms.Platform.{Ghosts as PlatformGhosts}
 use Rattle.node_codec.specs.declared.body.Entry.{Entry}
 use Rattle.node_codec.specs.Record.{DataRecord}
 use Rattle.page_store.specs.Places.{IsRecordAt, NothingFits, block_want}
@@ -58,15 +55,6 @@ pub record StopsAt (pages : List (List ℕ)) (addr : ℕ) (entries : List Entry)
   pub read : AreData pages before contents
   pub here : addr ≡ entry.addr
   pub nothing : NothingFits pages (block_want entry.addr entry.low) entry.key
-
--- beside its purpose a call adds at most so many pages: at each moment the cell is the one from before, and counts of faults don't fall
-pub record AddsPages {S R : Type 0} (P : PlatformGhosts S) (T : TapeGhosts R) (most : ℕ) (platform platform_now : S) (tape tape_now : R) : Type 0 where
-  pub cell : P.tells → CellStays (P.history platform) (P.history platform_now)
-  pub rises : P.head platform ≤ P.head platform_now
-  pub at_most : P.head platform_now ≤ P.head platform + most
-  pub capacity : P.capacity platform_now ≡ P.capacity platform
-  pub platform_faults : P.faults platform ≤ P.faults platform_now
-  pub tape_faults : T.faults tape ≤ T.faults tape_now
 
 -- why a record was not copied, where it was not read, or not appended
 abbrev pub unread : FetchRefusal → CopyRefusal

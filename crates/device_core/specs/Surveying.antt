@@ -1,5 +1,5 @@
 -- What an upgrade reads of a device before it draws a key.
-use Rattle.std.specs.Prelude.{◌≡◌, ◌<◌, ◌-◌, ℕ, List, None, Result, Ok, Err, All, length, map}
+use Rattle.std.specs.Prelude.{◌≡◌, ◌<◌, ◌+◌, ◌-◌, ◌*◌, ℕ, List, None, Result, Ok, Err, All, length, map}
 use Rattle.std.specs.List.Sorted.{IsStrictlyIncreasing}
 use Rattle.sdbt_base.specs.Faults.{Rose}
 use Rattle.platform.specs.declared.platforms.Platform.{Ghosts}
@@ -51,6 +51,12 @@ pub record AreOf (tells : Type 0) (pages : List (List ℕ)) (root : Root) (entri
 
 abbrev pub IsSurvey : Type 0 → List (List ℕ) → Root → Survey → Type 0
 IsSurvey tells pages root found = AreOf tells pages root found.items.items found.nodes
+
+-- each node of the tree of a root record fits, and was read twice
+pub record ReadsTwice (pages : List (List ℕ)) (root : Root) (reads reads_now : ℕ) : Type 0 where
+  pub nodes : List Node
+  pub are : NodesOf pages root nodes
+  pub read : reads_now ≡ reads + 2 * length nodes
 
 -- what was to be read of the tree of a root record was read, or no memory was given, or a record is named that doesn't fit, or the platform failed
 abbrev pub IsSurveyCause : {S A : Type 0} → Ghosts S → S → S → Root → Result A UpgradeRefusal → Type 0

@@ -1,5 +1,5 @@
 -- What an upgrade is asked and answers: which root record it begins on, how many pages it needs, and why it is refused.
-use Rattle.std.specs.Prelude.{◌≡◌, ◌≢◌, ◌≤◌, ◌<◌, ◌+◌, ◌-◌, ◌⊎◌, min, ℕ, List, [], All, Option, None, Some, Result, Ok, Err, length}
+use Rattle.std.specs.Prelude.{◌≡◌, ◌≢◌, ◌≤◌, ◌<◌, ◌+◌, ◌-◌, ◌*◌, ◌⊎◌, min, ℕ, List, [], All, Option, None, Some, Result, Ok, Err, length}
 use Rattle.std.specs.FinMap as map
 use Rattle.sdbt_base.specs.Arrays.{Device}
 use Rattle.sdbt_base.specs.Counts.{Counts, PlatformRose, TapeRose, LedgerRose}
@@ -15,6 +15,8 @@ use Rattle.page_store.specs.Stands.{Stands, StandsBy}
 use Rattle.page_store.specs.Tree.{Parts, Tree, Wrong}
 use Rattle.cert_maker.specs.Cert.{Cert}
 use Rattle.device_terms.specs.Certifying.{AddsSynced, IsOfTrees, PutsEntry}
+use Rattle.btree_walk.specs.Nodes.{Node, NodesOf}
+use Rattle.tree_build.specs.Building.{DrewFew}
 use Rattle.tree_build.specs.Shape.{built}
 use Rattle.device_core.specs.Publishing.{IsUnmade}
 use Rattle.device_core.specs.declared.refusals.UpgradeRefusal.{UpgradeRefusal}
@@ -72,6 +74,18 @@ pub record IsPartly {S : Type 0} (P : PlatformGhosts S) (platform platform_now :
   pub begins : Begins P.tells (P.history platform).present (P.head platform) (P.capacity platform) root
   pub most : P.head platform_now ≤ P.head platform + needed_of_root root
   pub still : P.tells → CellStays (P.history platform) (P.history platform_now)
+
+-- an upgrade of the root record in the cell drew no more keys than it adds pages, and read each node of the tree before it twice and each data record once, at
+-- most
+pub record SpendsOn {S R : Type 0} (P : PlatformGhosts S) (T : TapeGhosts R) (platform platform_now : S) (tape tape_now : R) : Type 0 where
+  pub root : Root
+  pub begins : Begins P.tells (P.history platform).present (P.head platform) (P.capacity platform) root
+  pub draws : DrewFew (needed_of_root root) (T.drawn tape) (T.drawn tape_now)
+  pub reads : P.tells → (nodes : List Node) × NodesOf (P.history platform).present.readable root nodes × (P.reads platform_now ≤ P.reads platform + (2 * length nodes + root.mapped))
+
+-- so it is; or no key was drawn, and there is no upgrade
+abbrev pub SpendsUpgrade : {S R : Type 0} → PlatformGhosts S → TapeGhosts R → S → S → R → R → Type 0 → Type 0
+SpendsUpgrade P T platform platform_now tape tape_now Done = ((T.drawn tape_now ≡ T.drawn tape) × (Done → ⊥)) ⊎ SpendsOn P T platform platform_now tape tape_now
 
 -- the ledger is as it was; or it got something, and before that the pages that an upgrade of the root record in the cell needs were added and all pages were synced
 abbrev pub PutsUpgrade : {S W : Type 0} → PlatformGhosts S → S → S → W → W → Type 0

@@ -1,11 +1,12 @@
 //! The data records of a device, sealed anew.
-ghost use Rattle.std.specs.Prelude.{◌≡◌, ◌<◌, ◌^◌, ℕ, All, Contains, IfOk, IsErrOf, length};
+ghost use Rattle.std.specs.Prelude.{◌≡◌, ◌<◌, ℕ, All, Contains, IfOk, IsErrOf, length};
 ghost use Rattle.sdbt_base.specs.Faults.{TellsOf};
 ghost use Rattle.sdbt_base.specs.Keys.{bare};
 ghost use Rattle.page_store.specs.Places.{NothingFits, block_want};
 ghost use Rattle.page_store.specs.Keeping.{KeepsKeys};
 ghost use Rattle.page_store.specs.Stands.{IsSound};
-ghost use Rattle.device_core.specs.Copying.{AddsPages, CanCopy, Copies, CopiesOne, StopsAt};
+ghost use Rattle.tree_build.specs.Building.{OnlyAdds};
+ghost use Rattle.device_core.specs.Copying.{CanCopy, Copies, CopiesOne, StopsAt};
 
 use node_codec::Entry;
 use page_store::{AppendFault, Buffers, FetchRefusal, Want, fetch_block};
@@ -77,7 +78,7 @@ pub(crate) fn copy_records<P: Platform, T: Tape>(
     ensures keeps { KeepsKeys P.tells (T.drawn tape.old) (T.drawn tape.new) (P.history platform.old) (P.history platform.new)
         (λ keys. IsSound (P.history platform.old).present)
         (λ keys. IfOk result (λ _. All (λ e. Contains keys (bare e.key)) entries.new)) }
-    ensures beside { AddsPages P.Platform T.Tape (length entries.old) platform.old platform.new tape.old tape.new }
+    ensures beside { OnlyAdds P.Platform T.Tape (length entries.old) (length entries.old) platform.old platform.new tape.old tape.new }
     ensures platform_cause { TellsOf CopyRefusal.PlatformFault result (P.faults platform.old) (P.faults platform.new) }
     ensures tape_cause { TellsOf CopyRefusal.TapeFault result (T.faults tape.old) (T.faults tape.new) }
 {
@@ -106,7 +107,7 @@ fn copy_record<P: Platform, T: Tape>(
     ensures keeps { KeepsKeys P.tells (T.drawn tape.old) (T.drawn tape.new) (P.history platform.old) (P.history platform.new)
         (λ keys. IsSound (P.history platform.old).present)
         (λ keys. IfOk result (λ copy. Contains keys (bare copy.key))) }
-    ensures beside { AddsPages P.Platform T.Tape 1 platform.old platform.new tape.old tape.new }
+    ensures beside { OnlyAdds P.Platform T.Tape 1 1 platform.old platform.new tape.old tape.new }
     ensures platform_cause { TellsOf CopyRefusal.PlatformFault result (P.faults platform.old) (P.faults platform.new) }
     ensures tape_cause { TellsOf CopyRefusal.TapeFault result (T.faults tape.old) (T.faults tape.new) }
 {

@@ -4,8 +4,8 @@ ghost use Rattle.sdbt_base.specs.Keys.{bare};
 ghost use Rattle.page_store.specs.Keeping.{KeepsKeys};
 ghost use Rattle.page_store.specs.Roots.{IsRootWithin};
 ghost use Rattle.page_store.specs.Stands.{IsSound};
+ghost use Rattle.tree_build.specs.Building.{OnlyAdds};
 ghost use Rattle.tree_build.specs.Shape.{IsShaped, shape_of, levels_over};
-ghost use Rattle.device_core.specs.Copying.{AddsPages};
 ghost use Rattle.device_core.specs.Upgrading.{needed_of_root, order_above};
 ghost use Rattle.node_codec.specs.declared.body.Entry.{Entry};
 ghost use Rattle.device_core.specs.Preparing.{HasRoom};
@@ -42,7 +42,7 @@ pub(crate) fn rewrite<P: Platform, T: Tape>(
     ensures keeps { KeepsKeys P.tells (T.drawn tape.old) (T.drawn tape.new) (P.history platform.old) (P.history platform.new)
         (λ keys. IsSound (P.history platform.old).present)
         (λ keys. IfOk result (λ _. All (λ e. Contains keys (bare e.key)) prepared.new.items.items)) }
-    ensures beside { AddsPages P.Platform T.Tape (needed_of_root root.now) platform.old platform.new tape.old tape.new }
+    ensures beside { OnlyAdds P.Platform T.Tape (needed_of_root root.now) root.now.mapped platform.old platform.new tape.old tape.new }
     ensures cause { IsRewriteCause P.Platform T.Tape platform.old platform.new tape.old tape.new prepared.old.items.items result }
     ensures line { prepared.new.line ≡ prepared.old.line }
 {

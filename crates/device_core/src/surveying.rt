@@ -6,7 +6,7 @@ ghost use Rattle.page_store.specs.Reading.{ReadsCell};
 ghost use Rattle.page_store.specs.Roots.{IsRootWithin};
 ghost use Rattle.btree_walk.specs.Looks.{OnlyLooks};
 ghost use Rattle.device_core.specs.Upgrading.{needed_of_root, order_above};
-ghost use Rattle.device_core.specs.Surveying.{IsBeginCause, IsListing, IsSurvey, IsSurveyCause};
+ghost use Rattle.device_core.specs.Surveying.{IsBeginCause, IsListing, IsSurvey, IsSurveyCause, ReadsTwice};
 
 use crate::refusals::UpgradeRefusal;
 use btree_walk::{addresses, entries};
@@ -74,6 +74,7 @@ pub(crate) fn list_records<P: Platform>(
     requires within { IsRootWithin (P.head platform.old) root.now }
     ensures listed { IfOk result (IsSurvey P.tells (P.history platform.old).present.readable root.now) }
     ensures cause { IsSurveyCause P.Platform platform.old platform.new root.now result }
+    ensures reads { P.tells → IfOk result (λ _. ReadsTwice (P.history platform.old).present.readable root.now (P.reads platform.old) (P.reads platform.new)) }
     ensures looks { OnlyLooks P.Platform platform.old platform.new }
 {
     let list = entries(alloc, platform, root, buffers)?;

@@ -1,14 +1,13 @@
 //! Devices of version 2, whose pages can't be changed unseen.
-ghost use Rattle.std.specs.Prelude.{◌≡◌, ◌≤◌, ◌⊎◌, ℕ, Option, Some, OnErr, IsErrOf, IfOk, IsOk, ⊤};
+ghost use Rattle.std.specs.Prelude.{◌≡◌, ◌≤◌, ◌⊎◌, Option, Some, OnErr, IsErrOf, IfOk, IsOk, ⊤};
 ghost use Rattle.std.specs.Option.{option_map};
 ghost use Rattle.sdbt_base.specs.Counts.{counts};
 ghost use Rattle.sdbt_base.specs.Arrays.{Device, upgraded};
 ghost use Rattle.platform.specs.Image.{LeavesOnly};
-ghost use Rattle.platform.specs.Calls.{Grows};
 ghost use Rattle.platform.specs.History.{Turns};
 ghost use Rattle.page_store.specs.Stands.{Stands, IsSound};
 ghost use Rattle.device_terms.specs.Effects.{Discloses};
-ghost use Rattle.device_core.specs.Upgrading.{CertifiesUpgrade, IsUpgradeCause, PutsUpgrade, StandsFrom};
+ghost use Rattle.device_core.specs.Upgrading.{CertifiesUpgrade, IsUpgradeCause, PutsUpgrade, SpendsUpgrade, StandsFrom};
 
 use crate::preparing::prepare;
 use crate::publishing::publish;
@@ -50,6 +49,8 @@ pub fn upgrade<P: Platform, T: Tape, L: Sink>(
     ensures certifies { CertifiesUpgrade P.tells (L.written ledger.old) (L.written ledger.new) (P.history platform.old) (P.history platform.new) (IsOk result) }
     // All pages that it needs are added, and outlast a loss of power, before the ledger gets the entry.
     ensures synced { PutsUpgrade P.Platform platform.old platform.new ledger.old ledger.new }
+    // It draws a key for each page that it adds and no other one, and reads the nodes of the tree twice and the data records once.
+    ensures spends { SpendsUpgrade P.Platform T.Tape platform.old platform.new tape.old tape.new (IsOk result) }
     ensures grows { (P.head platform.old ≤ P.head platform.new) × (P.capacity platform.new ≡ P.capacity platform.old)
         × (P.faults platform.old ≤ P.faults platform.new) × (T.faults tape.old ≤ T.faults tape.new) × (L.faults ledger.old ≤ L.faults ledger.new) }
 {

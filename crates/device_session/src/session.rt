@@ -117,12 +117,13 @@ impl Session {
     }
 
     /// Leaves nothing of what was read or sealed in the session's buffers, no node in its cache or in memory, nor anything of the
-    /// node that was read last: for a session that is given up.
+    /// node that was read last: for a session that is given up. Its root record stays, and how many blocks are mapped.
     pub fn wipe(&mut self)
         ensures wiped { IsWiped self.new.buffers self.new.node }
         ensures cache { self.new.cache.nodes ≡ [] }
         ensures top { self.new.grove.top ≡ blank }
         ensures none_held { (self.new.grove.held.items ≡ []) × (self.new.grove.beside.items ≡ []) }
+        ensures stays { (self.new.root ≡ self.old.root) × (self.new.mapped ≡ self.old.mapped) × (self.new.is_touched ≡ self.old.is_touched) }
     {
         self.reader.wipe();
         self.reader.cache.clear();

@@ -1,7 +1,8 @@
-ghost use Rattle.std.specs.Prelude.{◌+◌, ◌*◌, ◌<◌, ◌≤◌, ℕ, OnOk, IsErrOf};
+ghost use Rattle.std.specs.Prelude.{◌≡◌, ◌+◌, ◌*◌, ◌<◌, ◌≤◌, ℕ, OnOk, IsErrOf};
 ghost use Rattle.sdbt_base.specs.Arrays.{Device, Blocks};
 ghost use Rattle.platform.specs.Calls.{Looks};
 ghost use Rattle.btree_walk.specs.Sights.{StandsOver};
+ghost use Rattle.btree_update.specs.Groves.{KeepsTree};
 ghost use Rattle.device_session.specs.Causes.{IsTrimCause};
 ghost use Rattle.device_session.specs.Changes.{Trims};
 
@@ -11,7 +12,7 @@ use btree_update::ReadyRefusal;
 use platform::Platform;
 
 impl Session {
-    ghost use Rattle.device_session.specs.Open.{IsOpen, blocks_of};
+    ghost use Rattle.device_session.specs.Open.{IsOpen, blocks_of, is_touched};
     ghost use Rattle.device_session.specs.Holds.{Holds};
     ghost use Rattle.device_session.specs.Damage.{IsTrimMisfit, IsTrimDamage, NamesDamage, CountsTaken};
     ghost use Rattle.device_session.specs.Going.{GoesOn, Updates};
@@ -36,6 +37,8 @@ impl Session {
             → OnOk result (CountsTaken (P.history platform.old).present.readable block self.old self.new) }
         ensures goes_on { GoesOn P.tells (P.history platform.old).present (P.history platform.new).present (P.head platform.new) self.old self.new }
         ensures updates { Updates self.old self.new result }
+        // Where no block is counted less, nothing is touched.
+        ensures idle { self.new.mapped ≡ self.old.mapped → (is_touched self.new ≡ is_touched self.old) × KeepsTree self.old.grove self.new.grove }
         ensures listed { P.tells → StaysListed (P.history platform.old).present (P.history platform.new).present self.old self.new }
         ensures looks { Looks P.Platform platform.old platform.new }
         ensures reads { P.tells → P.reads platform.new ≤ P.reads platform.old + 2 * self.old.grove.level }

@@ -222,6 +222,29 @@ pub cleared_done : (ok : Bool) (old new : List Event) → Clears ok old new → 
 cleared_done ok old new (inl made) sure was = unlinked_done ok old new made sure was
 cleared_done ok old new (inr is) sure was = ap all_done is ∙ rw sure was
 
+-- one of the calls failed, where the last one did
+renamed_failed : (bytes : List ℕ) (ok : Bool) (old new : List Event) → Renames bytes ok old new → ok ≡ false → all_done new ≡ false
+renamed_failed bytes ok old new (inr (failed, is)) undone = ap all_done is
+renamed_failed bytes ok old new (inl (inr (failed, is))) undone = ap all_done is
+renamed_failed bytes ok old new (inl (inl (inr (failed, is)))) undone = ap all_done is
+renamed_failed bytes ok old new (inl (inl (inl (inr (failed, is))))) undone = ap all_done is
+renamed_failed bytes ok old new (inl (inl (inl (inl (inr (failed, is)))))) undone = ap all_done is
+renamed_failed bytes ok old new (inl (inl (inl (inl (inl (done, is)))))) undone = cc
+
+unlinked_failed : (ok : Bool) (old new : List Event) → Unlinks ok old new → ok ≡ false → all_done new ≡ false
+unlinked_failed ok old new (inr (failed, is)) undone = ap all_done is
+unlinked_failed ok old new (inl (inr (failed, is))) undone = ap all_done is
+unlinked_failed ok old new (inl (inl (inr (failed, is)))) undone = ap all_done is
+unlinked_failed ok old new (inl (inl (inl (done, is)))) undone = cc
+
+pub replaced_failed : (bytes : List ℕ) (ok : Bool) (old new : List Event) → Replaces bytes ok old new → ok ≡ false → all_done new ≡ false
+replaced_failed bytes ok old new (inl made) undone = renamed_failed bytes ok old new made undone
+replaced_failed bytes ok old new (inr is) undone = ap all_done is ∙ rw undone refl
+
+pub cleared_failed : (ok : Bool) (old new : List Event) → Clears ok old new → ok ≡ false → all_done new ≡ false
+cleared_failed ok old new (inl made) undone = unlinked_failed ok old new made undone
+cleared_failed ok old new (inr is) undone = ap all_done is ∙ rw undone refl
+
 -- the same, where the files are known by an equation
 pub changes_time : (files files' : Files) (old new : List Event) (told : IsTold files old) (held : Option (List ℕ)) (ok : Bool) → files' ≡ files → Changes files old new told held ok
     → (told' : IsTold files' new) → Steps (told_by files old told) (told_by files' new told')

@@ -231,6 +231,9 @@ done_answer events events' addr page (Err error) is = ap all_done is
 pub written_done : (events events' : List Event) (addr : ℕ) (ok : Bool) (page : List ℕ) → events' ≡ page_written addr ok page ∷ events → ok ≡ true → all_done events ≡ true → all_done events' ≡ true
 written_done events events' addr ok page is done was = ap all_done is ∙ rw done was
 
+pub failed_event : (events events' : List Event) (e : Event) → events' ≡ e ∷ events → e.2 ≡ false → all_done events' ≡ false
+failed_event events events' e is failed = ap all_done is ∙ rw failed refl
+
 pub synced_done : (events events' : List Event) (ok : Bool) → events' ≡ media_synced ok ∷ events → ok ≡ true → all_done events ≡ true → all_done events' ≡ true
 synced_done events events' ok is done was = ap all_done is ∙ rw done was
 

@@ -15,8 +15,8 @@ use sdbt_base::{MAX_PAGES, PlatformFault, RECORD};
 
 /// A medium in a folder and a root cell, by the calls on both.
 ///
-/// Once a call that changes something has failed, no more is asked of them: each further call is a fault. It tells its
-/// history where the records of this type of calls are honest.
+/// Once a call that changes something has failed, and not before, no more is asked of them: each further call is a fault.
+/// It tells its history where the records of this type of calls are honest.
 #[derive(Drop)]
 pub struct FolderPlatform<C: CellCalls + Drop> {
     calls: C,
@@ -28,6 +28,7 @@ pub struct FolderPlatform<C: CellCalls + Drop> {
     ghost recorded: { length (replay (C.PageCalls.start calls) (C.PageCalls.events calls)).recorded ≡ head },
     ghost room: { head ≤ 2 ^ 32 },
     ghost sound: { is_stuck ≡ false → all_done (C.PageCalls.events calls) ≡ true },
+    ghost stuck: { is_stuck ≡ true → all_done (C.PageCalls.events calls) ≡ false },
     ghost settled: { is_stuck ≡ false → Settled (replay (C.PageCalls.start calls) (C.PageCalls.events calls)) },
     ghost safe: { AllSafe (C.PageCalls.start calls) (C.PageCalls.events calls) },
     ghost once: { counted (C.PageCalls.events calls) ≡ 1 },
@@ -69,10 +70,11 @@ impl<C: CellCalls + Drop> FolderPlatform<C> {
         self.calls
     }
 
-    /// Whether each call that changes something was done. So long, what a loss of power leaves is what the last image
+    /// Whether each call that changes something was done: a read that failed leaves the platform usable. So long, what a loss of power leaves is what the last image
     /// says: its cell, and its pages but for some of the last ones that were not synced.
     pub fn is_sound(&self) -> bool
         ensures value { result ≡ not self.now.is_stuck }
+        ensures done { result ≡ all_done (C.PageCalls.events self.now.calls) }
         ensures left { IsTrue result → (left : Files) → MayHold (replay (C.PageCalls.start self.now.calls) (C.PageCalls.events self.now.calls)) left
             → AreLeft (now_of (C.PageCalls.start self.now.calls) (C.PageCalls.events self.now.calls)) left }
         ensures ever { AllSafe (C.PageCalls.start self.now.calls) (C.PageCalls.events self.now.calls) }

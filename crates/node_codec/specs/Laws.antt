@@ -1,10 +1,10 @@
 -- The laws of records: the parts decide the bytes, and the bytes decide the parts.
 use Rattle.std.proofs.Common.{◌≡◌, ℕ, zero, suc, ◌↔◌, ◌+◌, ◌-◌, ◌*◌, ◌<◌, ◌≤◌, ◌^◌, List, [], ◌∷◌, ◌++◌, map, length, take, drop, replicate, refl, sym, ap, subst, ◌∙◌, arith, length-append, lit<}
-use Rattle.std.specs.Prelude.{All, Option, Some, None, IfSome, IfNone, codes, slice_index, slice_index_or}
-use Rattle.std.specs.Int.{w16, w64, to_be_bytes}
+use Rattle.std.specs.Prelude.{All, Option, Some, None, IfSome, IfNone, slice_index, slice_index_or}
+use Rattle.std.specs.Int.{w64, to_be_bytes}
 use Rattle.std.specs.List.{concat, flat_map}
 use Rattle.std.specs.List.Sorted.{IsStrictlyIncreasing}
-use Rattle.std.proofs.lemmas.List.{take_at, drop_at, take-append-drop, drop-drop, append-nil, length-drop, length-replicate, drop_more, drop_all, flat_map_more}
+use Rattle.std.proofs.lemmas.List.{take_at, drop_at, take-append-drop, drop-drop, append-nil, length-replicate, drop_more, drop_all, flat_map_more}
 use Rattle.std.proofs.Math.Seq.{take-add}
 use Rattle.std.proofs.lemmas.List.Elements.{All-head, All-tail, All-nil, All-cons}
 use Rattle.sdbt_base.specs.Bytes.{IsBytes}
@@ -102,14 +102,6 @@ entries_more payload entries entry i size before here =
     let more : size * (i + 1) ≡ size * i + size = omega arith in
     ap (λ (n : ℕ). take n payload) more ∙ take-add (size * i) size payload ∙ ap (λ (bytes : List ℕ). bytes ++ take size (drop (size * i) payload)) before ∙ ap (λ (bytes : List ℕ). flat_map entry_bytes entries ++ bytes) here ∙ flat_map_more entry_bytes [] entries entry
 
--- the bytes of a payload are those of the entries that were read, where zeros follow
-pub entries_spelled : (version : ℕ) (payload : List ℕ) (entries : List Entry) (count : ℕ) → length payload ≡ 4096 → length entries ≡ count → take (entry_size version * count) payload ≡ flat_map entry_bytes entries → drop (entry_size version * count) payload ≡ replicate (length (drop (entry_size version * count) payload)) 0 → payload ≡ entries_bytes version entries
-entries_spelled version payload entries count size len read zeros =
-    let used : ℕ = entry_size version * count in
-    let same : used ≡ entry_size version * length entries = ap (λ (n : ℕ). entry_size version * n) (sym len) in
-    let left : length (drop used payload) ≡ 4096 - entry_size version * length entries = omega (arith, length-drop used payload, size, same) in
-    sym (take-append-drop used payload) ∙ ap (λ (bytes : List ℕ). bytes ++ drop used payload) read ∙ ap (λ (bytes : List ℕ). flat_map entry_bytes entries ++ bytes) (zeros ∙ ap (λ (n : ℕ). replicate n 0) left)
-
 entries_fit : (version addr : ℕ) (entries : List Entry) → addr < 2 ^ 64 → FitsEntries version addr entries → All (IsEntry version) entries
 entries_fit version addr entries addr-below fits = λ k d inside. record {
   low = omega (arith, fits.lows k d inside);
@@ -119,24 +111,6 @@ entries_fit version addr entries addr-below fits = λ k d inside. record {
 
 pub all_within : (version addr : ℕ) (entries : List Entry) → FitsEntries version addr entries → All (IsWithin version addr) entries
 all_within version addr entries fits = λ k d inside. record { low = fits.lows k d inside; below = fits.below k d inside; sized = (fits.keys k d inside).0 }
-
-pub fits_read : (version addr : ℕ) (entries : List Entry) → All (IsEntry version) entries → IsStrictlyIncreasing (map (λ (e : Entry). e.low) entries) → All (IsWithin version addr) entries → FitsEntries version addr entries
-fits_read version addr entries are ascend within = record { ascend = ascend; lows = λ k d inside. (within k d inside).low; below = λ k d inside. (within k d inside).below; keys = λ k d inside. (are k d inside).key }
-
-pub fits_within : (version addr level : ℕ) (entries : List Entry) → IsVersion version → 1 ≤ level → level ≤ 20 → length entries ≤ most_entries version → IsStrictlyIncreasing (map (λ (e : Entry). e.low) entries) → All (IsWithin version addr) entries → FitsNode version addr level entries
-fits_within version addr level entries known least most count ascend within = record {
-  version_known = known;
-  level_least = least;
-  level_most = most;
-  count = count;
-  ascend = ascend;
-  lows = λ k d inside. (within k d inside).low;
-  below = λ k d inside. (within k d inside).below;
-  sized = λ k d inside. (within k d inside).sized;
-}
-
-pub within_fits : (version addr level : ℕ) (entries : List Entry) → FitsNode version addr level entries → All (IsWithin version addr) entries
-within_fits version addr level entries fits = λ k d inside. record { low = fits.lows k d inside; below = fits.below k d inside; sized = fits.sized k d inside }
 
 -- the entries that were read are those whose bytes the payload has, and zeros follow
 pub entries_known : (version addr : ℕ) (payload : List ℕ) (read entries : List Entry) (count : ℕ) → addr < 2 ^ 64 → length read ≡ count → All (IsEntry version) read → take (entry_size version * count) payload ≡ flat_map entry_bytes read → length entries ≡ count → payload ≡ entries_bytes version entries → FitsEntries version addr entries → (read ≡ entries) × (drop (entry_size version * count) payload ≡ replicate (length (drop (entry_size version * count) payload)) 0)
@@ -370,40 +344,16 @@ one_record version addr other a b below below' fits fits' same =
     let one = one_spelled version version addr other a b below below' fits fits' same in
     (one.0, value_is version version a b one.1)
 
--- ---- what a record's bytes begin with and end with
+-- ---- what stands in a record's bytes
 
--- a record begins with the stamp and its own address
-pub record_stamp : (version addr : ℕ) (value : Record) → take 16 (record_bytes version addr value) ≡ codes "SDBTREC1" ++ to_be_bytes w64 addr
-unfolding record_bytes head_fields
-record_stamp version addr (DataRecord block content) = refl
-record_stamp version addr (NodeRecord level entries) = refl
-
--- the kind byte
-pub data_kind : (version addr block : ℕ) (content : List ℕ) → slice_index (record_bytes version addr (DataRecord block content)) 16 ≡ 1
-unfolding record_bytes head_fields
-data_kind version addr block content = refl
-
+-- the kind byte of a node
 pub node_kind : (version addr level : ℕ) (entries : List Entry) → slice_index (record_bytes version addr (NodeRecord level entries)) 16 ≡ kind_of_node version
 unfolding record_bytes head_fields
 node_kind version addr level entries = refl
 
--- the count of a node
-pub node_count : (version addr level : ℕ) (entries : List Entry) → part 18 2 (record_bytes version addr (NodeRecord level entries)) ≡ to_be_bytes w16 (length entries)
-unfolding record_bytes head_fields
-node_count version addr level entries = refl
-
 -- the version of a node is read off its kind byte
 pub kind_says : (version addr level : ℕ) (entries : List Entry) (body : List ℕ) → body ≡ record_bytes version addr (NodeRecord level entries) → slice_index body 16 ≡ kind_of_node version
 kind_says version addr level entries body same = ap (λ (b : List ℕ). slice_index b 16) same ∙ node_kind version addr level entries
-
--- the bytes behind the head
-pub data_payload : (version addr block : ℕ) (content : List ℕ) → drop 32 (record_bytes version addr (DataRecord block content)) ≡ content
-unfolding record_bytes
-data_payload version addr block content = drop_at (head_bytes addr 1 0 0 block) content 32 (length-head_bytes addr 1 0 0 block)
-
-pub node_payload : (version addr level : ℕ) (entries : List Entry) → drop 32 (record_bytes version addr (NodeRecord level entries)) ≡ entries_bytes version entries
-unfolding record_bytes
-node_payload version addr level entries = drop_at (head_bytes addr (kind_of_node version) level (length entries) 0) (entries_bytes version entries) 32 (length-head_bytes addr (kind_of_node version) level (length entries) 0)
 
 -- a record has 4,128 bytes
 pub record_length : (version addr : ℕ) (value : Record) → addr < 2 ^ 64 → FitsRecord version addr value → length (record_bytes version addr value) ≡ 4128

@@ -1,5 +1,5 @@
 -- What a key is: 32 bytes, and behind them, where it is known, the digest of the page that they seal.
-use Rattle.std.specs.Prelude.{◌≡◌, ◌==◌, ◌⊎◌, ℕ, ◌+◌, List, [], ◌∷◌, ◌++◌, Option, None, Some, Result, Ok, Err, take, drop, length, IfSome, if◌then◌else◌}
+use Rattle.std.specs.Prelude.{◌≡◌, ◌==◌, ℕ, ◌+◌, List, [], ◌∷◌, ◌++◌, Option, None, Some, Result, Ok, Err, take, drop, length, IfSome, if◌then◌else◌}
 use Rattle.std.proofs.Common.{refl, ap, subst, ◌∙◌, arith}
 use Rattle.std.proofs.Math.Seq.{take-append_seam, drop-append_seam, take-length, drop-length}
 use Rattle.sdbt_base.specs.Bytes.{IsBytes}
@@ -27,12 +27,9 @@ most_entries version = if version == 2 then 48 else 64
 abbrev pub entry_size : ℕ → ℕ
 entry_size version = key_size version + 16
 
--- a key in a version, and in any
+-- a key in a version
 abbrev pub IsKeyOf : ℕ → List ℕ → Type 0
 IsKeyOf version key = IsBytes (key_size version) key
-
-abbrev pub IsKey : List ℕ → Type 0
-IsKey key = IsKeyOf 1 key ⊎ IsKeyOf 2 key
 
 -- nothing, where there are no bytes
 abbrev pub some_bytes : List ℕ → Option (List ℕ)

@@ -1,5 +1,5 @@
 //! A source over a reader of std.
-ghost use Rattle.std.specs.Prelude.{◌≡◌, None, IsTrue, IsSome, if◌then◌else◌};
+ghost use Rattle.std.specs.Prelude.{◌≡◌, None};
 
 use crate::{Source, SourceFault};
 use std::io::{ErrorKind, Read};
@@ -8,9 +8,7 @@ use std::io::{ErrorKind, Read};
 #[derive(Drop)]
 pub struct ReadSource<R: Read + Drop> {
     inner: R,
-    is_known: bool,
     faults: u64,
-    ghost known: { IsTrue is_known → IsSome (R.remaining inner) },
 }
 
 impl<R: Read + Drop> ReadSource<R> {
@@ -19,29 +17,12 @@ impl<R: Read + Drop> ReadSource<R> {
         ensures left { ⟦<ReadSource<R> as Source>⟧.left result ≡ None }
         ensures faults { ⟦<ReadSource<R> as Source>⟧.faults result ≡ 0 }
     {
-        ReadSource {
-            inner,
-            is_known: false,
-            faults: 0,
-        }
-    }
-
-    /// A source over a reader that tells what it has left, as a slice does.
-    pub fn telling(inner: R) -> ReadSource<R>
-        requires { IsSome (R.remaining inner) }
-        ensures left { ⟦<ReadSource<R> as Source>⟧.left result ≡ R.remaining inner }
-        ensures faults { ⟦<ReadSource<R> as Source>⟧.faults result ≡ 0 }
-    {
-        ReadSource {
-            inner,
-            is_known: true,
-            faults: 0,
-        }
+        ReadSource { inner, faults: 0 }
     }
 }
 
 impl<R: Read + Drop> Source for ReadSource<R> {
-    ghost left = { λ s. if s.is_known then R.remaining s.inner else None };
+    ghost left = { λ _. None };
 
     ghost faults = { λ s. s.faults };
 

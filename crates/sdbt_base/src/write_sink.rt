@@ -1,5 +1,5 @@
 //! A sink over a writer of std.
-ghost use Rattle.std.specs.Prelude.{◌≡◌, None, IsTrue, IsSome, if◌then◌else◌};
+ghost use Rattle.std.specs.Prelude.{◌≡◌, None};
 
 use crate::{Sink, SinkFault, write_whole};
 use std::io::Write;
@@ -9,9 +9,7 @@ use std::io::Write;
 #[derive(Drop)]
 pub struct WriteSink<W: Write + Drop> {
     inner: W,
-    is_known: bool,
     faults: u64,
-    ghost known: { IsTrue is_known → IsSome (W.contents inner) },
 }
 
 impl<W: Write + Drop> WriteSink<W> {
@@ -20,29 +18,12 @@ impl<W: Write + Drop> WriteSink<W> {
         ensures written { ⟦<WriteSink<W> as Sink>⟧.written result ≡ None }
         ensures faults { ⟦<WriteSink<W> as Sink>⟧.faults result ≡ 0 }
     {
-        WriteSink {
-            inner,
-            is_known: false,
-            faults: 0,
-        }
-    }
-
-    /// A sink over a writer that tells what it holds, as a `Vec` of bytes does.
-    pub fn telling(inner: W) -> WriteSink<W>
-        requires { IsSome (W.contents inner) }
-        ensures written { ⟦<WriteSink<W> as Sink>⟧.written result ≡ W.contents inner }
-        ensures faults { ⟦<WriteSink<W> as Sink>⟧.faults result ≡ 0 }
-    {
-        WriteSink {
-            inner,
-            is_known: true,
-            faults: 0,
-        }
+        WriteSink { inner, faults: 0 }
     }
 }
 
 impl<W: Write + Drop> Sink for WriteSink<W> {
-    ghost written = { λ s. if s.is_known then W.contents s.inner else None };
+    ghost written = { λ _. None };
 
     ghost faults = { λ s. s.faults };
 

@@ -1,17 +1,13 @@
 -- How parts of a run compose in which a session goes on.
-use Rattle.std.proofs.Common.{◌≡◌, ◌<◌, ◌≤◌, ◌+◌, ℕ, List, [], ◌∷◌, ◌++◌, Some, Result, Ok, Err, inl, inr, get_or, length, take, refl, sym, subst, ◌∙◌, arith}
-use Rattle.std.proofs.lemmas.List.{take_more}
-use Rattle.sdbt_base.specs.Arrays.{Device, Session as OpenSession, written, mounted}
+use Rattle.std.proofs.Common.{◌+◌, ℕ, Some, refl, ◌∙◌, arith}
+use Rattle.sdbt_base.specs.Arrays.{written, mounted}
 use Rattle.platform.specs.declared.platforms.Platform.{Ghosts as PlatformGhosts}
-use Rattle.platform.specs.Image.{Image}
 use Rattle.device_terms.proofs.MomentLaws.{still, stays_then}
-use Rattle.device_course.specs.States.{IsAt, IsListed}
+use Rattle.device_course.specs.States.{IsListed}
 use Rattle.device_course.proofs.KeysLaws.{on_start, on_then}
 use Rattle.device_session.specs.Open.{IsOpen}
 use Rattle.device_session.specs.Sessions.{Session}
 use Rattle.session_calls.specs.Along.{Along, Drawn}
-use Rattle.session_calls.specs.Goes.{WritesBlock, WritesSome, many_of}
-use Rattle.session_calls.specs.declared.stops.DeviceStop.{DeviceStop}
 use Rattle.session_calls.specs.declared.stops.DeviceStop.TheVariants as stops
 
 -- nothing happened
@@ -57,50 +53,3 @@ along_then P some more first second third drawn mid drawn_now session between no
     ledger = omega arith;
   };
 }
-
--- ---- some of several blocks
-
-pub some_written : (array : OpenSession) (blocks : List ℕ) (block : ℕ) (content : List ℕ) (count : ℕ) (mid : OpenSession) → WritesSome array blocks content count mid
-    → WritesSome array (blocks ++ block ∷ []) content (count + 1) (written mid block content)
-some_written array [] block content count mid (none, same) =
-    inl (0, omega (arith, none), (refl, subst (λ (a : OpenSession). written mid block content ≡ written a block content) same refl))
-some_written array (first ∷ blocks) block content count mid (inl (fewer, is, some)) =
-    inl (fewer + 1, omega (arith, is), some_written (written array first content) blocks block content fewer mid some)
-some_written array (first ∷ blocks) block content count mid (inr some) = inr (some_written array blocks block content count mid some)
-
-pub some_refused : (array : OpenSession) (blocks : List ℕ) (block : ℕ) (content : List ℕ) (count : ℕ) (mid : OpenSession) → WritesSome array blocks content count mid
-    → WritesSome array (blocks ++ block ∷ []) content count mid
-some_refused array [] block content count mid some = inr some
-some_refused array (first ∷ blocks) block content count mid (inl (fewer, is, some)) =
-    inl (fewer, is, some_refused (written array first content) blocks block content fewer mid some)
-some_refused array (first ∷ blocks) block content count mid (inr some) = inr (some_refused array blocks block content count mid some)
-
--- a refused write leaves the array
-pub left_refused : (image : Image) (now : Session) (device : Device) (array : OpenSession) (block : ℕ) (content : List ℕ) (stop : DeviceStop) → WritesBlock image now device array block content (Err stop)
-    → IsAt image (Some now) (mounted device array)
-left_refused image now device array block content stops.Memory led = led
-left_refused image now device array block content stops.Platform led = led
-left_refused image now device array block content stops.Tape led = led
-left_refused image now device array block content stops.Ledger led = absurd led
-left_refused image now device array block content stops.BadRoot led = absurd led
-left_refused image now device array block content (stops.BadRecord addr) led = absurd led
-
--- one block more, whatever was answered
-pub some_step : (image : Image) (now : Session) (device : Device) (array mid : OpenSession) (blocks : List ℕ) (index d : ℕ) (content : List ℕ) (count : ℕ) (answer : Result (Unit {0}) DeviceStop) → index < length blocks
-    → WritesSome array (take index blocks) content count mid → WritesBlock image now device mid (get_or blocks index d) content answer
-    → (next : OpenSession) × WritesSome array (take (index + 1) blocks) content (count + many_of answer) next × IsAt image (Some now) (mounted device next)
-some_step image now device array mid blocks index d content count (Ok done) within some led =
-    let block = get_or blocks index d in
-    (written mid block content, subst (λ (bs : List ℕ). WritesSome array bs content (count + 1) (written mid block content)) (sym (take_more blocks index d within)) (some_written array (take index blocks) block content count mid some), led)
-some_step image now device array mid blocks index d content count (Err stop) within some led =
-    let block = get_or blocks index d in
-    let same : count ≡ count + 0 = omega arith in (
-      mid,
-      subst (λ (bs : List ℕ). WritesSome array bs content (count + 0) mid) (sym (take_more blocks index d within))
-          (subst (λ (n : ℕ). WritesSome array (take index blocks ++ block ∷ []) content n mid) same (some_refused array (take index blocks) block content count mid some)),
-      left_refused image now device mid block content stop led,
-    )
-
-pub few_of : (answer : Result (Unit {0}) DeviceStop) → many_of answer ≤ 1
-few_of (Ok done) = omega arith
-few_of (Err stop) = omega arith

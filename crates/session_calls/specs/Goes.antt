@@ -1,5 +1,5 @@
 -- What one call of a session says, by its answer.
-use Rattle.std.specs.Prelude.{◌≡◌, ◌≤◌, ◌+◌, ◌*◌, ◌⊎◌, ℕ, List, [], ◌∷◌, Some, Result, Ok, Err, IfErr, OnErr, OnOk}
+use Rattle.std.specs.Prelude.{◌≡◌, ◌≤◌, ◌+◌, ◌*◌, ℕ, List, Some, Result, Ok, Err, IfErr, OnErr, OnOk}
 use Rattle.sdbt_base.specs.Arrays.{Device, Session as OpenSession, content_of, unmapped, written, mounted}
 use Rattle.sdbt_base.specs.Told.{Drew}
 use Rattle.sdbt_base.specs.declared.tapes.Tape.{Ghosts as TapeGhosts}
@@ -101,14 +101,3 @@ pub record ReadsPages {S : Type 0} (P : PlatformGhosts S) (block : ℕ) (platfor
   pub most : P.tells → P.reads platform_now ≤ P.reads platform + (session.grove.level + 1)
   pub warm : P.tells → KeepsWayTo session block → P.reads platform_now ≤ P.reads platform + 1
   pub fills : P.tells → OnOk result (now.grove.level ≤ room_of now → KeepsWayTo now block)
-
--- how many blocks a write with this answer has written
-abbrev pub many_of : Result (Unit {0}) DeviceStop → ℕ
-many_of (Ok done) = 1
-many_of (Err stop) = 0
-
--- so many of these blocks were written with these bytes, in their order
-abbrev pub WritesSome : OpenSession → List ℕ → List ℕ → ℕ → OpenSession → Type 0
-WritesSome array [] content count next = (count ≡ 0) × (next ≡ array)
-WritesSome array (block ∷ blocks) content count next =
-    ((fewer : ℕ) × (count ≡ fewer + 1) × WritesSome (written array block content) blocks content fewer next) ⊎ WritesSome array blocks content count next

@@ -18,4 +18,4 @@ pub use reading::read_block;
 pub use stops::DeviceStop;
 pub use trimming::trim_block;
 pub use upgrading::{UpgradeReply, upgrade_device};
-pub use writing::{write_block, write_each};
+pub use writing::write_block;

@@ -1,11 +1,11 @@
-ghost use Rattle.std.specs.Prelude.{◌≡◌, ◌<◌, ◌≤◌, ◌≢◌, ◌+◌, All, Some, OnOk, length};
+ghost use Rattle.std.specs.Prelude.{◌<◌, ◌≤◌, ◌≢◌, Some, OnOk, length};
 ghost use Rattle.sdbt_base.specs.Arrays.{Device, Session as OpenSession, mounted};
 ghost use Rattle.device_session.specs.Damage.{CountsPut};
 ghost use Rattle.device_session.specs.Open.{IsOpen, blocks_of};
 ghost use Rattle.device_course.specs.States.{IsAt};
-ghost use Rattle.session_calls.specs.Along.{Along, drawn_by};
+ghost use Rattle.session_calls.specs.Along.{drawn_by};
 ghost use Rattle.session_calls.specs.Damage.{IsMounted, WritesAny};
-ghost use Rattle.session_calls.specs.Goes.{AddsBlock, Goes, IsWriteStop, WritesBlock, WritesSome, many_of};
+ghost use Rattle.session_calls.specs.Goes.{AddsBlock, Goes, IsWriteStop, WritesBlock};
 
 use crate::stops::DeviceStop;
 use device_session::{Session, WriteRefusal};
@@ -53,40 +53,5 @@ fn stop_of_write(refusal: WriteRefusal) -> DeviceStop
         WriteRefusal::PlatformFault => DeviceStop::Platform,
         WriteRefusal::TapeFault => DeviceStop::Tape,
         WriteRefusal::Range | WriteRefusal::Full => unreachable!(),
-    }
-}
-
-/// Writes the same bytes into each of some blocks that the device has, in their order, where as many pages are free, and answers how
-/// many were written. After a refusal it goes on with the next block.
-pub fn write_each<P: Platform, T: Tape>(
-    session: &mut Session,
-    platform: &mut P,
-    tape: &mut T,
-    blocks: &[u64],
-    content: &[u8],
-) -> usize
-    requires size { length content.now ≤ 4096 }
-    requires open { IsOpen session.old (P.head platform.old) }
-    requires within { All (λ block. block < blocks_of session.old) blocks.now }
-    requires free { P.head platform.old + length blocks.now ≤ P.capacity platform.old }
-    ensures along { Along P.Platform (length blocks.now) platform.old platform.new (drawn_by T.Tape tape.old) (drawn_by T.Tape tape.new) session.old session.new }
-    ensures leads { P.tells → (device : Device) (array : OpenSession) → IsAt (P.history platform.old).present (Some session.old) (mounted device array)
-        → (next : OpenSession) × WritesSome array blocks.now content.now result next
-        × IsAt (P.history platform.new).present (Some session.new) (mounted device next) }
-{
-    let mut done = 0;
-    for block in blocks {
-        done += count_of(&write_block(session, platform, tape, *block, content));
-    }
-    done
-}
-
-/// How many blocks a write with this answer has written.
-fn count_of(answer: &Result<(), DeviceStop>) -> usize
-    ensures { result ≡ many_of answer.now }
-{
-    match answer {
-        Ok(()) => 1,
-        Err(_) => 0,
     }
 }

@@ -7,4 +7,5 @@ pub mod CutLaws
 pub mod ListingLaws
 pub mod NodeLaws
 pub mod MadeLaws
+pub mod AddingLaws
 pub mod RoundLaws

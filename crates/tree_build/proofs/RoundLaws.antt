@@ -6,11 +6,10 @@ use Rattle.std.proofs.lemmas.Option.{slice_get_within}
 use Rattle.sdbt_base.specs.Keys.{bare, IsKeyOf}
 use Rattle.sdbt_base.specs.declared.tapes.Tape.{Ghosts as TapeGhosts}
 use Rattle.platform.specs.Image.{Image, with_page}
-use Rattle.platform.proofs.Moments.{During-start, During-now, During-step, During-then, Extends-refl}
+use Rattle.platform.proofs.Moments.{During-start, Extends-refl}
 use Rattle.platform.specs.declared.platforms.Platform.{Ghosts as PlatformGhosts}
 use Rattle.node_codec.specs.declared.body.Entry.{Entry}
 use Rattle.node_codec.specs.Record.{NodeRecord, FitsNode}
-use Rattle.page_store.specs.Appending.{AddsOne}
 use Rattle.page_store.specs.Keeping.{KeepsKeys, IsNextRecord}
 use Rattle.page_store.specs.Kept.{Kept}
 use Rattle.page_store.specs.Places.{IsRecordAt}
@@ -22,6 +21,7 @@ use Rattle.tree_build.specs.declared.shapes.Span.{Span}
 use Rattle.tree_build.specs.Shape.{IsShaped, shape_of, built}
 use Rattle.tree_build.specs.Nodes.{AreFrom, IsNodeOver, children_in, low_of}
 use Rattle.tree_build.specs.Building.{Builds, BuildsNode, CanBuild, KnowsItems, OnlyAdds, with_pages}
+use Rattle.tree_build.proofs.AddingLaws.{adds_none, adds_then}
 use Rattle.tree_build.proofs.ShapeLaws.{shape_many}
 use Rattle.tree_build.proofs.ItemLaws.{children_stay, low_stays}
 use Rattle.tree_build.proofs.MadeLaws.{HaveLows, get_apart, zip_each, next_span, next_fits}
@@ -45,7 +45,7 @@ pub record IsMade {S R : Type 0} (P : PlatformGhosts S) (T : TapeGhosts R) (orde
   pub image : P.tells → (P.history x').present ≡ with_pages (P.history x).present pages
   pub there : P.tells → AreThere (P.history x').present.readable (shape_of order (length records)) nodes items
   pub keeps : KeepsKeys P.tells (T.drawn y) (T.drawn y') (P.history x) (P.history x') (KnowsItems (P.history x).present records) (KnowsItems (P.history x').present items)
-  pub beside : OnlyAdds P T round x x' y y'
+  pub beside : OnlyAdds P T round 0 x x' y y'
   pub platform_faults : P.faults x' ≡ P.faults x
   pub tape_faults : T.faults y' ≡ T.faults y
 
@@ -76,56 +76,12 @@ made_none P T order blocks records x y can =
       there = λ told j s e there none. absurd cc;
       keeps = keeps_still P.tells (T.drawn y) (T.drawn y) (P.history x) (P.history x) (KnowsItems (P.history x).present records) (KnowsItems (P.history x).present records) refl
           (λ told. Extends-refl (P.history x)) (λ told. refl) (λ told keys kept ready. During-start (P.history x) (Kept keys) kept) (λ told keys ready. ready);
-      beside = record {
-        cell = λ told. During-start (P.history x) (λ image. image.cell ≡ (P.history x).present.cell) refl;
-        rises = omega arith;
-        at_most = omega arith;
-        capacity = refl;
-        reads = λ told. refl;
-        platform_faults = omega arith;
-        tape_faults = omega arith;
-      };
+      beside = adds_none P T x y;
       platform_faults = refl;
       tape_faults = refl;
     }
 
 -- ---- one round more
-
--- one page more is added
-pub adds_more : {S R : Type 0} (P : PlatformGhosts S) (T : TapeGhosts R) (most : ℕ) (x x' x'' : S) (y y' y'' : R) → OnlyAdds P T most x x' y y' → AddsOne P T x' x'' y' y'' → OnlyAdds P T (most + 1) x x'' y y''
-adds_more P T most x x' x'' y y' y'' before one =
-    let rises = before.rises in
-    let at_most = before.at_most in
-    let faults = before.platform_faults in
-    let tape = before.tape_faults in
-    let grows = one.grows in
-    let more = one.tape_faults in
-    record {
-      cell = λ told.
-          let held = (P.history x).present.cell in
-          let now : (P.history x').present.cell ≡ held = During-now (P.history x) (P.history x') (λ image. image.cell ≡ held) (before.cell told) in
-          During-then (P.history x) (P.history x') (P.history x'') (λ image. image.cell ≡ held) (before.cell told)
-          (During-step (P.history x') (P.history x'') (λ image. image.cell ≡ held) (one.time told) now (one.cell told ∙ now));
-      rises = omega (arith, rises, grows);
-      at_most = omega (arith, at_most, grows);
-      capacity = one.grows.capacity ∙ before.capacity;
-      reads = λ told. one.reads told ∙ before.reads told;
-      platform_faults = omega (arith, faults, grows);
-      tape_faults = omega (arith, tape, more);
-    }
-
-pub adds_within : {S R : Type 0} (P : PlatformGhosts S) (T : TapeGhosts R) (fewer most : ℕ) (x x' : S) (y y' : R) → fewer ≤ most → OnlyAdds P T fewer x x' y y' → OnlyAdds P T most x x' y y'
-adds_within P T fewer most x x' y y' within adds =
-    let at_most = adds.at_most in
-    record {
-      cell = adds.cell;
-      rises = adds.rises;
-      at_most = omega (arith, at_most, within);
-      capacity = adds.capacity;
-      reads = adds.reads;
-      platform_faults = adds.platform_faults;
-      tape_faults = adds.tape_faults;
-    }
 
 from_push : (first : ℕ) (nodes : List Entry) (e : Entry) → AreFrom first nodes → e.addr ≡ first + length nodes → AreFrom first (nodes ++ e ∷ [])
 from_push first [] e from at = (omega (arith, at), tt)
@@ -199,7 +155,7 @@ pub made_next : {S R : Type 0} (P : PlatformGhosts S) (T : TapeGhosts R) (order 
     → CanBuild order blocks (P.head x) (P.capacity x) records → IsMade P T order round records items x x' y y' → slice_get (shape_of order (length records)) round ≡ Some s
     → BuildsNode P x' x'' s items entry
     → KeepsKeys P.tells (T.drawn y') (T.drawn y'') (P.history x') (P.history x'') (IsNextRecord (P.history x').present (NodeRecord s.level (children_in items s))) (λ keys. Contains keys (bare entry.key))
-    → AddsOne P T x' x'' y' y'' → P.faults x'' ≡ P.faults x' → T.faults y'' ≡ T.faults y'
+    → OnlyAdds P T 1 0 x' x'' y' y'' → P.faults x'' ≡ P.faults x' → T.faults y'' ≡ T.faults y'
     → IsMade P T order (round + 1) records (items ++ entry ∷ []) x x'' y y''
 made_next P T order blocks round records items x x' x'' y y' y'' s entry can made there built keeps adds faults tape =
     let nodes = made.nodes in
@@ -243,7 +199,7 @@ made_next P T order blocks round records items x x' x'' y y' y'' s entry can mad
           (KnowsItems (P.history x').present items) (IsNextRecord (P.history x').present (NodeRecord s.level (children_in items s))) (λ keys. Contains keys (bare entry.key)) (KnowsItems (P.history x'').present (items ++ entry ∷ []))
           made.keeps keeps (λ told keys kept knows. children_known (P.history x').present items s keys knows)
           (λ told keys more knows own. knows_more (P.history x').present (P.history x'').present built.page items entry keys more (built.image told) knows own);
-      beside = adds_more P T round x x' x'' y y' y'' made.beside adds;
+      beside = adds_then P T round 1 (round + 1) 0 0 0 x x' x'' y y' y'' (omega arith) (omega arith) made.beside adds;
       platform_faults = faults ∙ made.platform_faults;
       tape_faults = tape ∙ made.tape_faults;
     }

@@ -8,6 +8,7 @@ use Rattle.platform.specs.History.{CellStays}
 use Rattle.platform.specs.declared.platforms.Platform.{Ghosts as PlatformGhosts}
 use Rattle.node_codec.specs.declared.body.Entry.{Entry}
 use Rattle.node_codec.specs.Record.{NodeRecord}
+use Rattle.page_store.specs.Keeping.{DrewAll}
 use Rattle.page_store.specs.Places.{IsRecordAt}
 use Rattle.page_store.specs.Stands.{Stands}
 use Rattle.tree_build.specs.declared.shapes.Span.{Span}
@@ -56,12 +57,18 @@ pub record KnowsItems (image : Image) (items : List Entry) (keys : List (List �
   pub stands : Stands image device
   pub listed : All (λ (e : Entry). Contains keys (bare e.key)) items
 
--- beside its purpose a call adds at most so many pages: at each moment the cell is the one from before, no page is read, and counts of faults don't fall
-pub record OnlyAdds {S R : Type 0} (P : PlatformGhosts S) (T : TapeGhosts R) (most : ℕ) (platform platform_now : S) (tape tape_now : R) : Type 0 where
+-- so many keys were drawn at most
+abbrev pub DrewFew : ℕ → Option (List (List ℕ)) → Option (List (List ℕ)) → Type 0
+DrewFew most drawn drawn_now = (keys : List (List ℕ)) × DrewAll drawn keys drawn_now × (length keys ≤ most)
+
+-- beside its purpose a call adds at most so many pages, draws no more keys than that, and reads at most so many pages: at each moment the cell is the one from
+-- before, and counts of faults don't fall
+pub record OnlyAdds {S R : Type 0} (P : PlatformGhosts S) (T : TapeGhosts R) (most reads : ℕ) (platform platform_now : S) (tape tape_now : R) : Type 0 where
   pub cell : P.tells → CellStays (P.history platform) (P.history platform_now)
   pub rises : P.head platform ≤ P.head platform_now
   pub at_most : P.head platform_now ≤ P.head platform + most
   pub capacity : P.capacity platform_now ≡ P.capacity platform
-  pub reads : P.tells → P.reads platform_now ≡ P.reads platform
+  pub draws : DrewFew most (T.drawn tape) (T.drawn tape_now)
+  pub reads_most : P.tells → P.reads platform_now ≤ P.reads platform + reads
   pub platform_faults : P.faults platform ≤ P.faults platform_now
   pub tape_faults : T.faults tape ≤ T.faults tape_now

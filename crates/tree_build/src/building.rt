@@ -2,7 +2,6 @@ ghost use Rattle.std.specs.Prelude.{◌≡◌, ◌≤◌, ◌<◌, ◌+◌, ◌+
 ghost use Rattle.sdbt_base.specs.Faults.{TellsOf};
 ghost use Rattle.sdbt_base.specs.Keys.{bare, IsKeyOf};
 ghost use Rattle.node_codec.specs.Record.{NodeRecord, FitsNode};
-ghost use Rattle.page_store.specs.Appending.{AddsOne};
 ghost use Rattle.page_store.specs.Keeping.{KeepsKeys, IsNextRecord};
 ghost use Rattle.tree_build.specs.Shape as shapes;
 ghost use Rattle.tree_build.specs.Shape.{shape_of};
@@ -36,7 +35,7 @@ pub fn build<P: Platform, T: Tape>(
     ensures keeps { KeepsKeys P.tells (T.drawn tape.old) (T.drawn tape.new) (P.history platform.old) (P.history platform.new)
         (KnowsItems (P.history platform.old).present items.old.items)
         (λ keys. IfOk result (λ _. All (λ e. Contains keys (bare e.key)) items.new.items)) }
-    ensures beside { OnlyAdds P.Platform T.Tape (shapes.built order (length items.old.items)) platform.old platform.new tape.old tape.new }
+    ensures beside { OnlyAdds P.Platform T.Tape (shapes.built order (length items.old.items)) 0 platform.old platform.new tape.old tape.new }
     ensures platform_cause { TellsOf AppendFault.PlatformFault result (P.faults platform.old) (P.faults platform.new) }
     ensures tape_cause { TellsOf AppendFault.TapeFault result (T.faults tape.old) (T.faults tape.new) }
 {
@@ -64,7 +63,7 @@ fn build_node<P: Platform, T: Tape>(
     ensures keeps { KeepsKeys P.tells (T.drawn tape.old) (T.drawn tape.new) (P.history platform.old) (P.history platform.new)
         (IsNextRecord (P.history platform.old).present (NodeRecord span.now.level (children_in items.now span.now)))
         (λ keys. IfOk result (λ entry. Contains keys (bare entry.key))) }
-    ensures adds { AddsOne P.Platform T.Tape platform.old platform.new tape.old tape.new }
+    ensures adds { OnlyAdds P.Platform T.Tape 1 0 platform.old platform.new tape.old tape.new }
     ensures platform_cause { TellsOf AppendFault.PlatformFault result (P.faults platform.old) (P.faults platform.new) }
     ensures tape_cause { TellsOf AppendFault.TapeFault result (T.faults tape.old) (T.faults tape.new) }
 {

@@ -3,8 +3,8 @@ use Rattle.node_codec.specs.declared.body.Entry.{Entry}
 use Rattle.std.proofs.lemmas.Result.{err_from_is_err_and}
 use Rattle.btree_walk.specs.declared.refusals.WalkRefusal.TheVariants.{BadRecord, PlatformFault}
 use Rattle.sdbt_base.specs.Faults.{TellsOf}
-use Rattle.btree_walk.specs.Nodes.{node_at, branches, Adds, Meets, FirstWrong}
-use Rattle.btree_walk.proofs.NodeLaws.{branch_level, branch_most, branch_below, ahead_more, ahead_all, leaf_met, wrong_here, wrong_later}
+use Rattle.btree_walk.specs.Nodes.{node_at, branches, Adds, Meets, FirstWrong, CutShort}
+use Rattle.btree_walk.proofs.NodeLaws.{branch_level, branch_most, branch_below, ahead_more, ahead_all, leaf_met, wrong_here, wrong_later, cut_here, cut_later, on_error}
 use Rattle.btree_walk.proofs.walking.+walk.Goals as goal
 
 pub returns-in_err-read_node-clause-wrong : goal.returns-in_err-read_node-clause-wrong
@@ -80,3 +80,25 @@ returns-clause-met g t c = λ tells.
     let size : length entries ≤ c.loop-place.place = omega (arith, c.loop-place-test.false, c.loop-place.auto.place-end, c.len-place-end.ensures.value) in
     ahead_all pages want c.args.key.now entries c.loop-place.place (Adds g.G.Gather.holds c.args.gathered.now c.loop-place.gathered) (g.P.Platform.reads c.args.platform.now) (g.P.Platform.reads c.loop-place.platform)
     c.requires.level size (c.in_ok-read_node.ensures.fits tells) (c.loop-place.invariant.ahead tells))
+
+-- ---- where it is cut short
+
+pub returns-in_err-read_node-clause-cut : goal.returns-in_err-read_node-clause-cut
+returns-in_err-read_node-clause-cut g t c = λ tells.
+    on_error c.from_residual.result _ (cut_here (g.P.Platform.history c.args.platform.now).present.readable c.args.want.now c.args.key.now (g.P.Platform.reads c.args.platform.now) (g.P.Platform.reads c.read_node.new.platform) (c.read_node.ensures.reads_most tells))
+
+pub returns-in_err-node-clause-cut : goal.returns-in_err-node-clause-cut
+returns-in_err-node-clause-cut g t c = λ tells.
+    on_error c.from_residual-in_err-node.result _ (cut_here (g.P.Platform.history c.args.platform.now).present.readable c.args.want.now c.args.key.now (g.P.Platform.reads c.args.platform.now) (g.P.Platform.reads c.read_node.new.platform) (c.read_node.ensures.reads_most tells))
+
+pub returns-in_err-walk-clause-cut : goal.returns-in_err-walk-clause-cut
+returns-in_err-walk-clause-cut g t c = λ tells.
+    (let want = c.args.want.now in let branch = c.branch_at-branch.result in
+    let pages = (g.P.Platform.history c.args.platform.now).present.readable in
+    let entries = c.read_node.new.entries.items in
+    let at = subst (λ (es : List Entry). slice_get (branches want.most (want.level - 1) want.high es) c.loop-place.place ≡ Some branch) c.deref.ensures.0 c.branch_at-branch.ensures in
+    let image : (g.P.Platform.history c.loop-place.platform).present.readable ≡ pages = ap (λ i. i.readable) (c.loop-place.invariant.looks.image tells) in
+    let cut = subst (λ (ps : List (List ℕ)). CutShort ps branch.want branch.key (g.P.Platform.reads c.loop-place.platform) (g.P.Platform.reads c.walk.new.platform)) image (c.in_err-walk.ensures.cut tells) in
+    on_error c.from_residual-in_err-walk.result _ (cut_later pages want c.args.key.now entries c.loop-place.place branch (Adds g.G.Gather.holds c.args.gathered.now c.loop-place.gathered)
+    (g.P.Platform.reads c.args.platform.now) (g.P.Platform.reads c.loop-place.platform) (g.P.Platform.reads c.walk.new.platform)
+    c.requires.level (c.in_ok-read_node.ensures.fits tells) at (c.loop-place.invariant.ahead tells) cut))

@@ -11,6 +11,8 @@ use Rattle.page_store.specs.Stands.{IsSound}
 use Rattle.page_store.proofs.KeepingLaws.{keeps_idle, keeps_then}
 use Rattle.sdbt_base.specs.Bytes.{IsBytes}
 use Rattle.sdbt_base.specs.Keys.{bare, version_of}
+use Rattle.tree_build.specs.Building.{OnlyAdds}
+use Rattle.tree_build.proofs.AddingLaws.{adds_one, adds_read, adds_then, adds_within, drew_placed}
 use Rattle.device_core.proofs.CopyingLaws.{if_err, unread_bad, body_of, copied_one}
 use Rattle.device_core.proofs.copying.copy_record.Given.{Over}
 use Rattle.device_core.proofs.copying.copy_record.Goals.{After-append}
@@ -81,3 +83,23 @@ returns-clause-copied g c =
     (c.in_ok-placed.ensures.placed.address ∙ still) (c.in_ok-placed.ensures.placed.head ∙ ap (λ (n : ℕ). n + 1) still) c.in_ok-placed.ensures.placed.key c.in_ok-placed.ensures.placed.digested c.in_ok-placed.ensures.placed.image
     (λ version. subst (λ (n : ℕ). c.put_block.new.self.body ≡ record_bytes version n (DataRecord low content)) still (body version)) (in_range g at)
     (λ told. (subst (λ (w : Want). FitsAt old.present.readable w c.args.entry.now.key (DataRecord w.low content)) c.of_block-want.ensures (c.in_ok-fetch_block.ensures.fits told)).0)
+
+-- what was added, whatever the append answered
+appended : (g : Over) (c : After-append g) → OnlyAdds g.P.Platform g.T.Tape 1 1 c.args.platform.now c.append.new.platform c.args.tape.now c.append.new.tape
+appended g c =
+    let P = g.P.Platform in let T = g.T.Tape in
+    adds_then P T 0 1 1 1 0 1 c.args.platform.now c.fetch_block.new.platform c.append.new.platform c.args.tape.now c.args.tape.now c.append.new.tape (omega arith) (omega arith)
+    (adds_read P T c.args.platform.now c.fetch_block.new.platform c.args.tape.now c.fetch_block.ensures.reads_page)
+    (adds_one P T c.fetch_block.new.platform c.append.new.platform c.args.tape.now c.append.new.tape c.append.ensures.adds
+    (drew_placed P T 2 c.put_block.new.self.body c.fetch_block.new.platform c.append.new.platform c.args.tape.now c.append.new.tape c.append.result c.append.ensures.placed c.append.ensures.idle c.append.ensures.spent))
+
+pub returns-in_err-fetch_block-clause-beside : goal.returns-in_err-fetch_block-clause-beside
+returns-in_err-fetch_block-clause-beside g c =
+    adds_within g.P.Platform g.T.Tape 0 1 1 1 c.args.platform.now c.fetch_block.new.platform c.args.tape.now c.args.tape.now (omega arith) (omega arith)
+    (adds_read g.P.Platform g.T.Tape c.args.platform.now c.fetch_block.new.platform c.args.tape.now c.fetch_block.ensures.reads_page)
+
+pub returns-in_err-placed-clause-beside : goal.returns-in_err-placed-clause-beside
+returns-in_err-placed-clause-beside g c = appended g (goal.at.returns-in_err-placed-clause-beside g c).After-append
+
+pub returns-clause-beside : goal.returns-clause-beside
+returns-clause-beside g c = appended g (goal.at.returns-clause-beside g c).After-append

@@ -1,12 +1,13 @@
-use Rattle.std.proofs.Common.{set, ◌≡◌, ◌∙◌, ap, refl, ◌+◌, ◌<◌, ◌++◌, All, Err, arith, length, get_or, take}
+use Rattle.std.proofs.Common.{set, ◌≡◌, ◌∙◌, ap, refl, ◌+◌, ◌<◌, ◌≤◌, ◌++◌, All, Err, arith, length, get_or, take}
 use Rattle.std.proofs.lemmas.Result.{err_from_is_err_and}
 use Rattle.std.proofs.lemmas.List.Elements.{All-nil}
 use Rattle.platform.proofs.Moments.{During-start, whole-now}
 use Rattle.node_codec.specs.declared.body.Entry.{Entry}
 use Rattle.page_store.specs.Stands.{IsSound}
 use Rattle.page_store.proofs.KeepingLaws.{keeps_idle, keeps_from, keeps_then}
+use Rattle.tree_build.proofs.AddingLaws.{adds_none, adds_then, adds_within}
 use Rattle.device_core.specs.declared.copying.CopyRefusal.TheVariants.{BadRecord, PlatformFault, TapeFault}
-use Rattle.device_core.proofs.CopyingLaws.{IsListed, adds_none, adds_then, copying_none, copying_more, copying_all, copying_stops, copying_has, if_err, told_on, sound_still, listed_more, listed_all}
+use Rattle.device_core.proofs.CopyingLaws.{IsListed, copying_none, copying_more, copying_all, copying_stops, copying_has, if_err, told_on, sound_still, listed_more, listed_all}
 use Rattle.device_core.proofs.copying.copy_records.Goals as goal
 
 pub loop-entry-init : goal.loop-entry-init
@@ -67,8 +68,8 @@ returns-in_err-entry-clause-keeps g c =
 
 pub returns-in_err-entry-clause-beside : goal.returns-in_err-entry-clause-beside
 returns-in_err-entry-clause-beside g c =
-    adds_then g.P.Platform g.T.Tape c.loop-entry.entry-index 1 (length c.args.entries.now) c.args.platform.now c.loop-entry.platform c.copy_record.new.platform c.args.tape.now c.loop-entry.tape c.copy_record.new.tape
-    (omega (arith, c.loop-entry-test.true)) c.loop-entry.invariant.beside c.copy_record.ensures.beside
+    adds_then g.P.Platform g.T.Tape c.loop-entry.entry-index 1 (length c.args.entries.now) c.loop-entry.entry-index 1 (length c.args.entries.now) c.args.platform.now c.loop-entry.platform c.copy_record.new.platform c.args.tape.now c.loop-entry.tape c.copy_record.new.tape
+    (omega (arith, c.loop-entry-test.true)) (omega (arith, c.loop-entry-test.true)) c.loop-entry.invariant.beside c.copy_record.ensures.beside
 
 pub returns-in_err-entry-clause-platform_cause : goal.returns-in_err-entry-clause-platform_cause
 returns-in_err-entry-clause-platform_cause g c =
@@ -98,8 +99,8 @@ loop-entry-preserved g c =
           (λ keys. IsListed keys c.in_ok-entry.field-0) (λ keys. IsSound new.present × All (IsListed keys) (take (index + 1) (set c.loop-entry.entries index c.in_ok-entry.field-0)))
           all.keeps c.in_ok-entry.ensures.keeps (λ told keys kept ready. ready.0)
           (λ told keys more ready done. (sound_still mid new (c.copy_record.ensures.beside.cell told) ready.0, listed_more keys more c.loop-entry.entries index c.in_ok-entry.field-0 within ready.1 done));
-      beside = adds_then P g.T.Tape index 1 (index + 1) c.args.platform.now c.loop-entry.platform c.copy_record.new.platform c.args.tape.now c.loop-entry.tape c.copy_record.new.tape
-          (omega arith) all.beside c.copy_record.ensures.beside;
+      beside = adds_then P g.T.Tape index 1 (index + 1) index 1 (index + 1) c.args.platform.now c.loop-entry.platform c.copy_record.new.platform c.args.tape.now c.loop-entry.tape c.copy_record.new.tape
+          (omega arith) (omega arith) all.beside c.copy_record.ensures.beside;
       platform_quiet = c.in_ok-entry.ensures.platform_cause.done ∙ all.platform_quiet;
       tape_quiet = c.in_ok-entry.ensures.tape_cause.done ∙ all.tape_quiet;
     }
@@ -121,8 +122,9 @@ returns-clause-keeps g c =
 
 pub returns-clause-beside : goal.returns-clause-beside
 returns-clause-beside g c =
-    let b = c.loop-entry.invariant.beside in
-    record { cell = b.cell; rises = b.rises; at_most = omega (arith, b.at_most, c.loop-entry.auto.entry-index-end); capacity = b.capacity; platform_faults = b.platform_faults; tape_faults = b.tape_faults }
+    let within : c.loop-entry.entry-index ≤ length c.args.entries.now = omega (arith, c.loop-entry.auto.entry-index-end) in
+    adds_within g.P.Platform g.T.Tape c.loop-entry.entry-index (length c.args.entries.now) c.loop-entry.entry-index (length c.args.entries.now) c.args.platform.now c.loop-entry.platform c.args.tape.now c.loop-entry.tape within within
+    c.loop-entry.invariant.beside
 
 pub returns-clause-platform_cause : goal.returns-clause-platform_cause
 returns-clause-platform_cause g c = record { done = c.loop-entry.invariant.platform_quiet; failed = λ is. absurd cc; refused = tt }

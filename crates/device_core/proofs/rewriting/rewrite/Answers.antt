@@ -1,18 +1,19 @@
-use Rattle.std.proofs.Common.{◌≡◌, ◌∙◌, ap, sym, subst, ◌+◌, ◌++◌, ℕ, List, All, arith, length, length-append, take, drop}
+use Rattle.std.proofs.Common.{◌≡◌, ◌∙◌, ap, sym, subst, ◌+◌, ◌≤◌, ◌++◌, ℕ, List, All, arith, length, length-append, take, drop}
 use Rattle.std.proofs.Math.Seq.{take-append_seam}
 use Rattle.std.proofs.lemmas.Result.{err_from_is_err_and}
 use Rattle.node_codec.specs.declared.body.Entry.{Entry}
 use Rattle.page_store.specs.Keeping.{KeepsKeys}
 use Rattle.page_store.specs.Stands.{IsSound}
 use Rattle.page_store.proofs.KeepingLaws.{keeps_from, keeps_then}
-use Rattle.tree_build.specs.Building.{Builds, CanBuild, KnowsItems}
+use Rattle.tree_build.specs.Building.{Builds, CanBuild, KnowsItems, OnlyAdds}
 use Rattle.tree_build.specs.Shape.{built}
+use Rattle.tree_build.proofs.AddingLaws.{adds_then, adds_within}
 use Rattle.tree_build.proofs.ShapeLaws.{shape_least, shape_many}
-use Rattle.device_core.specs.Copying.{AddsPages, Copies}
+use Rattle.device_core.specs.Copying.{Copies}
 use Rattle.device_core.specs.Upgrading.{order_above, needed_of_root}
 use Rattle.device_core.proofs.BeginLaws.{shaped_root}
-use Rattle.device_core.proofs.CopyingLaws.{IsListed, adds_then, if_err, sound_still}
-use Rattle.device_core.proofs.RewriteLaws.{can_build, counted, rewritten, knows_copies, adds_of, adds_more}
+use Rattle.device_core.proofs.CopyingLaws.{IsListed, if_err, sound_still}
+use Rattle.device_core.proofs.RewriteLaws.{can_build, counted, rewritten, knows_copies}
 use Rattle.device_core.proofs.rewriting.rewrite.Given.{Over}
 use Rattle.device_core.proofs.rewriting.rewrite.Goals.{In_ok-copy_records, In_ok-build}
 use Rattle.device_core.proofs.rewriting.rewrite.Goals as goal
@@ -56,9 +57,14 @@ knows g c keys is = subst (λ (es : List Entry). KnowsItems (g.P.Platform.histor
 as_needed : (g : Over) (c : In_ok-copy_records g) (order : ℕ) → order ≡ order_above c.args.root.now.order → built order (length (current g c)) ≡ built (order_above c.args.root.now.order) c.args.root.now.mapped
 as_needed g c order is = λ i. built (is i) ((ap length (current_is g c) ∙ many g c) i)
 
-copied_adds : (g : Over) (c : In_ok-copy_records g) → AddsPages g.P.Platform g.T.Tape c.args.root.now.mapped c.args.platform.now c.copy_records.new.platform c.args.tape.now c.copy_records.new.tape
-copied_adds g c = adds_more g.P.Platform g.T.Tape (length c.deref_mut.result.now) c.args.root.now.mapped c.args.platform.now c.copy_records.new.platform c.args.tape.now c.copy_records.new.tape
-    (omega (arith, ap length c.deref_mut.ensures.value, c.requires.has.listing.0)) c.copy_records.ensures.beside
+-- so many copies were added
+sized : (g : Over) (c : In_ok-copy_records g) → length c.deref_mut.result.now ≤ c.args.root.now.mapped
+sized g c = omega (arith, ap length c.deref_mut.ensures.value, c.requires.has.listing.0)
+
+copied_adds : (g : Over) (c : In_ok-copy_records g) → OnlyAdds g.P.Platform g.T.Tape c.args.root.now.mapped c.args.root.now.mapped c.args.platform.now c.copy_records.new.platform c.args.tape.now c.copy_records.new.tape
+copied_adds g c =
+    let long = length c.deref_mut.result.now in
+    adds_within g.P.Platform g.T.Tape long c.args.root.now.mapped long c.args.root.now.mapped c.args.platform.now c.copy_records.new.platform c.args.tape.now c.copy_records.new.tape (sized g c) (sized g c) c.copy_records.ensures.beside
 
 -- the nodes over the copies
 builds : (g : Over) (c : In_ok-build g) → take c.args.prepared.now.items.len (c.copy_records.new.entries ++ drop (length c.copy_records.new.entries) c.args.prepared.now.items.items) ≡ c.copy_records.new.entries
@@ -76,6 +82,14 @@ returns-in_err-copy_records-clause-keeps g c =
     let old = g.P.Platform.history c.args.platform.now in
     keeps_from g.P.Platform.tells (g.T.Tape.drawn c.args.tape.now) (g.T.Tape.drawn c.copy_records.new.tape) old (g.P.Platform.history c.copy_records.new.platform) (λ keys. IsSound old.present) (λ keys. IsSound old.present) _ _
     c.copy_records.ensures.keeps (λ told keys sound. sound) (λ told keys more sound done. if_err c.from_residual.result p.0 _ p.1)
+
+pub returns-in_err-copy_records-clause-beside : goal.returns-in_err-copy_records-clause-beside
+returns-in_err-copy_records-clause-beside g c =
+    let root = c.args.root.now in
+    let long = length c.deref_mut.result.now in
+    let same = ap length c.deref_mut.ensures.value in
+    adds_within g.P.Platform g.T.Tape long (needed_of_root root) long root.mapped c.args.platform.now c.copy_records.new.platform c.args.tape.now c.copy_records.new.tape
+    (omega (arith, same, c.requires.has.listing.0)) (omega (arith, same, c.requires.has.listing.0)) c.copy_records.ensures.beside
 
 pub build-requires-clause-can : goal.build-requires-clause-can
 build-requires-clause-can g c =
@@ -104,8 +118,8 @@ returns-in_err-build-clause-beside g c =
     let at = (goal.at.returns-in_err-build-clause-beside g c).In_ok-copy_records in
     let root = c.args.root.now in
     let more = built (order_above root.order) root.mapped in
-    adds_then g.P.Platform g.T.Tape root.mapped more (needed_of_root root) c.args.platform.now c.copy_records.new.platform c.build.new.platform c.args.tape.now c.copy_records.new.tape c.build.new.tape (omega arith) (copied_adds g at)
-    (adds_of g.P.Platform g.T.Tape (built c.order_over.result (length (current g at))) more c.copy_records.new.platform c.build.new.platform c.copy_records.new.tape c.build.new.tape (omega (arith, as_needed g at c.order_over.result c.order_over.ensures)) c.build.ensures.beside)
+    adds_then g.P.Platform g.T.Tape root.mapped more (needed_of_root root) root.mapped 0 root.mapped c.args.platform.now c.copy_records.new.platform c.build.new.platform c.args.tape.now c.copy_records.new.tape c.build.new.tape (omega arith) (omega arith) (copied_adds g at)
+    (adds_within g.P.Platform g.T.Tape (built c.order_over.result (length (current g at))) more 0 0 c.copy_records.new.platform c.build.new.platform c.copy_records.new.tape c.build.new.tape (omega (arith, as_needed g at c.order_over.result c.order_over.ensures)) (omega arith) c.build.ensures.beside)
 
 pub top_level-level-requires : goal.top_level-level-requires
 top_level-level-requires g c =
@@ -158,5 +172,5 @@ returns-clause-beside g c =
     let at = (goal.at.returns-clause-beside g c).In_ok-copy_records in
     let root = c.args.root.now in
     let more = built (order_above root.order) root.mapped in
-    adds_then g.P.Platform g.T.Tape root.mapped more (needed_of_root root) c.args.platform.now c.copy_records.new.platform c.build.new.platform c.args.tape.now c.copy_records.new.tape c.build.new.tape (omega arith) (copied_adds g at)
-    (adds_of g.P.Platform g.T.Tape (built c.order_over.result (length (current g at))) more c.copy_records.new.platform c.build.new.platform c.copy_records.new.tape c.build.new.tape (omega (arith, as_needed g at c.order_over.result c.order_over.ensures)) c.build.ensures.beside)
+    adds_then g.P.Platform g.T.Tape root.mapped more (needed_of_root root) root.mapped 0 root.mapped c.args.platform.now c.copy_records.new.platform c.build.new.platform c.args.tape.now c.copy_records.new.tape c.build.new.tape (omega arith) (omega arith) (copied_adds g at)
+    (adds_within g.P.Platform g.T.Tape (built c.order_over.result (length (current g at))) more 0 0 c.copy_records.new.platform c.build.new.platform c.copy_records.new.tape c.build.new.tape (omega (arith, as_needed g at c.order_over.result c.order_over.ensures)) (omega arith) c.build.ensures.beside)

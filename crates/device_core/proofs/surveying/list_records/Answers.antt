@@ -1,8 +1,12 @@
-use Rattle.std.proofs.Common.{◌∙◌, List, Err, ap, sym, subst, arith}
+use Rattle.std.proofs.Common.{◌≡◌, ◌∙◌, length, List, Err, ap, sym, subst, arith}
 use Rattle.std.specs.Prelude.{IsTrue}
 use Rattle.std.proofs.lemmas.Grind.{common_steps}
 use Rattle.std.proofs.lemmas.Result.{err_from_is_err_and}
+use Rattle.platform.specs.Image.{Image}
 use Rattle.node_codec.specs.declared.body.Entry.{Entry}
+use Rattle.page_store.specs.Places.{root_want}
+use Rattle.btree_walk.specs.Nodes.{NodesOf}
+use Rattle.btree_walk.proofs.OneWalkLaws.{one_nodes}
 use Rattle.device_core.specs.Surveying.{IsListing}
 use Rattle.device_core.specs.declared.surveying.Survey.{Survey}
 use Rattle.device_core.proofs.SurveyLaws.{miscounted, walk_cause, walk_cause_then}
@@ -32,3 +36,14 @@ returns-in_err-nodes-clause-cause g c =
     let p = err_from_is_err_and c.from_residual-in_err-nodes.result c.from_residual-in_err-nodes.ensures.1 in
     rw (p.1, p.2) (walk_cause_then Survey P c.args.platform.now c.entries.new.platform c.addresses.new.platform c.args.root.now c.in_err-nodes.field-0.0 c.in_ok-list.ensures.cause.done c.entries.ensures.looks.image c.in_err-nodes.ensures.cause
     (λ told addr is. c.in_err-nodes.ensures.wrong told addr (ap Err is)))
+
+pub returns-clause-reads : goal.returns-clause-reads
+returns-clause-reads g c = λ told.
+    let root = c.args.root.now in
+    let pages = (g.P.Platform.history c.args.platform.now).present.readable in
+    let lists = c.in_ok-list.ensures.listed told in
+    let again = c.in_ok-nodes.ensures.listed told in
+    let are : NodesOf pages root again.nodes = subst (λ (i : Image). NodesOf i.readable root again.nodes) (c.entries.ensures.looks.image told) again.are in
+    let fits = c.requires.within.in_range in
+    let one : lists.nodes ≡ again.nodes = one_nodes pages root.order root.level (root_want root) root.key lists.nodes again.nodes (omega (arith, fits.addr, fits.head)) lists.are are in
+    record { nodes = lists.nodes; are = lists.are; read = omega (arith, lists.reads, again.reads, ap length one) }

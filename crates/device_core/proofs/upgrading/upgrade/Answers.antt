@@ -6,13 +6,14 @@ use Rattle.sdbt_base.specs.Counts.{Counts, counts}
 use Rattle.platform.specs.Image.{Image}
 use Rattle.platform.specs.History.{CellStays}
 use Rattle.root_codec.specs.declared.root.Root.{Root}
+use Rattle.btree_walk.specs.Nodes.{NodesOf}
 use Rattle.device_terms.specs.Certifying.{PutsSynced}
 use Rattle.device_terms.proofs.MomentLaws.{stays_then}
 use Rattle.device_terms.proofs.StandingLaws.{during_leaves}
 use Rattle.device_terms.proofs.PuttingLaws.{puts_behind}
 use Rattle.device_core.specs.Rewriting.{Rewrites}
 use Rattle.device_core.specs.Publishing.{IsPublishCause}
-use Rattle.device_core.specs.Upgrading.{IsUpgradedRoot, PutsUpgrade, StandsFrom, needed_of_root}
+use Rattle.device_core.specs.Upgrading.{IsUpgradedRoot, PutsUpgrade, SpendsOn, StandsFrom, needed_of_root}
 use Rattle.device_core.specs.declared.preparing.Prepared.{Prepared}
 use Rattle.device_core.specs.declared.publishing.PublishFault.{PublishFault}
 use Rattle.device_core.specs.declared.publishing.PublishFault.TheVariants as publish
@@ -231,3 +232,52 @@ prepare-requires-clause-room g c =
     let reads = c.begin.ensures.reads_cell in
     let begins = c.in_ok-root.ensures.cause.0 in
     omega (arith, begins.room, g.met.P.Platform.has_room c.args.platform.now, reads.head, reads.capacity)
+
+-- ---- keys and reads
+
+pub returns-in_err-root-clause-spends : goal.returns-in_err-root-clause-spends
+returns-in_err-root-clause-spends g c =
+    let p = err_from_is_err_and c.from_residual.result c.from_residual.ensures.1 in
+    inl (refl, never_ok c.from_residual.result p.0 p.1)
+
+pub returns-in_err-prepared-clause-spends : goal.returns-in_err-prepared-clause-spends
+returns-in_err-prepared-clause-spends g c =
+    let p = err_from_is_err_and c.from_residual-in_err-prepared.result c.from_residual-in_err-prepared.ensures.1 in
+    inl (refl, never_ok c.from_residual-in_err-prepared.result p.0 p.1)
+
+-- what was read and drawn up to the making of the new tree
+spent : (g : Over) (c : After-rewrite g) → SpendsOn g.P.Platform g.T.Tape c.args.platform.now c.rewrite.new.platform c.args.tape.now c.rewrite.new.tape
+spent g c = record {
+  root = c.in_ok-root.root;
+  begins = c.in_ok-root.ensures.cause.0;
+  draws = c.rewrite.ensures.beside.draws;
+  reads = λ told.
+      let root = c.in_ok-root.root in
+      let cell = c.begin.ensures.reads_cell in
+      let twice = c.in_ok-prepared.ensures.reads told in
+      let are = subst (λ (i : Image). NodesOf i.readable root twice.nodes) (cell.image told) twice.are in
+      (twice.nodes, are, omega (arith, cell.reads told, twice.read, c.rewrite.ensures.beside.reads_most told));
+}
+
+pub returns-in_err-next-clause-spends : goal.returns-in_err-next-clause-spends
+returns-in_err-next-clause-spends g c = inr (spent g (goal.at.returns-in_err-next-clause-spends g c).After-rewrite)
+
+-- and up to the end: the publishing of the root record reads nothing
+spent_all : (g : Over) (c : After-publish g) → SpendsOn g.P.Platform g.T.Tape c.args.platform.now c.publish.new.platform c.args.tape.now c.rewrite.new.tape
+spent_all g c = record {
+  root = c.in_ok-root.root;
+  begins = c.in_ok-root.ensures.cause.0;
+  draws = c.rewrite.ensures.beside.draws;
+  reads = λ told.
+      let root = c.in_ok-root.root in
+      let cell = c.begin.ensures.reads_cell in
+      let twice = c.in_ok-prepared.ensures.reads told in
+      let are = subst (λ (i : Image). NodesOf i.readable root twice.nodes) (cell.image told) twice.are in
+      (twice.nodes, are, omega (arith, cell.reads told, twice.read, c.rewrite.ensures.beside.reads_most told, c.publish.ensures.reads told));
+}
+
+pub returns-in_err-publish-clause-spends : goal.returns-in_err-publish-clause-spends
+returns-in_err-publish-clause-spends g c = inr (spent_all g (goal.at.returns-in_err-publish-clause-spends g c).After-publish)
+
+pub returns-clause-spends : goal.returns-clause-spends
+returns-clause-spends g c = inr (spent_all g (goal.at.returns-clause-spends g c).After-publish)

@@ -12,7 +12,6 @@ pub loop-entry-preserved : goal.loop-entry-preserved
 loop-entry-preserved c =
     let version = c.args.version in
     let addr = c.args.addr in
-    let low = c.entry-item.result.low in
     let one = range_at version addr c.loop-entry.least c.loop-entry.entry-index c.entry-item.result c.args.entries.now c.loop-entry-test.true c.entry-item.is in
     let within : IsWithin version addr c.entry-item.result = c.is_within.ensures.0 c.if-not-is_within.false in
     record {

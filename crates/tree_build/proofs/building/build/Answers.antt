@@ -3,8 +3,9 @@ use Rattle.std.specs.Prelude.{slice_get}
 use Rattle.node_codec.specs.declared.body.Entry.{Entry}
 use Rattle.tree_build.specs.declared.shapes.Span.{Span}
 use Rattle.tree_build.specs.Shape.{built}
+use Rattle.tree_build.proofs.AddingLaws.{adds_then, adds_within}
 use Rattle.tree_build.proofs.ShapeLaws.{shape_many}
-use Rattle.tree_build.proofs.RoundLaws.{IsMade, made_none, made_next, made_size, made_room, round_fits, round_within, all_made, all_keep, adds_more, adds_within, fault_keeps, none_ok}
+use Rattle.tree_build.proofs.RoundLaws.{IsMade, made_none, made_next, made_size, made_room, round_fits, round_within, all_made, all_keep, fault_keeps, none_ok}
 use Rattle.tree_build.proofs.building.build.Goals as goal
 
 pub loop-i-init : goal.loop-i-init
@@ -45,9 +46,8 @@ pub returns-in_err-entry-clause-beside : goal.returns-in_err-entry-clause-beside
 returns-in_err-entry-clause-beside g c =
     let count = ap length c.requires.shape in
     let many = shape_many c.args.order (length c.args.items.now.items) c.requires.can.1.shaped in
-    adds_within g.P.Platform g.T.Tape (c.loop-i.i + 1) (built c.args.order (length c.args.items.now.items)) c.args.platform.now c.build_node.new.platform c.args.tape.now c.build_node.new.tape
-    (omega (arith, count, many, c.loop-i-test.true, c.len-i-end.ensures))
-    (adds_more g.P.Platform g.T.Tape c.loop-i.i c.args.platform.now c.loop-i.platform c.build_node.new.platform c.args.tape.now c.loop-i.tape c.build_node.new.tape c.loop-i.invariant.made.beside c.build_node.ensures.adds)
+    adds_then g.P.Platform g.T.Tape c.loop-i.i 1 (built c.args.order (length c.args.items.now.items)) 0 0 0 c.args.platform.now c.loop-i.platform c.build_node.new.platform c.args.tape.now c.loop-i.tape c.build_node.new.tape
+    (omega (arith, count, many, c.loop-i-test.true, c.len-i-end.ensures)) (omega arith) c.loop-i.invariant.made.beside c.build_node.ensures.adds
 
 pub add-requires : goal.add-requires
 add-requires g c =
@@ -86,5 +86,5 @@ pub returns-clause-beside : goal.returns-clause-beside
 returns-clause-beside g c =
     let count = ap length c.requires.shape in
     let many = shape_many c.args.order (length c.args.items.now.items) c.requires.can.1.shaped in
-    adds_within g.P.Platform g.T.Tape c.loop-i.i (built c.args.order (length c.args.items.now.items)) c.args.platform.now c.loop-i.platform c.args.tape.now c.loop-i.tape
-    (omega (arith, count, many, c.loop-i.auto.i-end, c.len-i-end.ensures)) c.loop-i.invariant.made.beside
+    adds_within g.P.Platform g.T.Tape c.loop-i.i (built c.args.order (length c.args.items.now.items)) 0 0 c.args.platform.now c.loop-i.platform c.args.tape.now c.loop-i.tape
+    (omega (arith, count, many, c.loop-i.auto.i-end, c.len-i-end.ensures)) (omega arith) c.loop-i.invariant.made.beside

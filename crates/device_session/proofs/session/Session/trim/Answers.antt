@@ -186,6 +186,31 @@ returns-clause-goes_on g c =
     level old new (inl e) le = omega (arith, e, le)
     level old new (inr e) le = omega (arith, e, le)
 
+-- ---- what is touched
+
+pub returns-then-block-self-clause-idle : goal.returns-then-block-self-clause-idle
+returns-then-block-self-clause-idle g c = λ same. (refl, record { order = refl; blocks = refl; head = refl; level = refl; top = refl; gone = refl; never = refl })
+
+pub returns-in-Err-BadRecord-clause-idle : goal.returns-in-Err-BadRecord-clause-idle
+returns-in-Err-BadRecord-clause-idle g c = λ same. (c.ready.ensures.same.1, c.ready.ensures.same.2)
+
+pub returns-in-Err-PlatformFault-clause-idle : goal.returns-in-Err-PlatformFault-clause-idle
+returns-in-Err-PlatformFault-clause-idle g c = λ same. (c.ready.ensures.same.1, c.ready.ensures.same.2)
+
+pub returns-in-Err-Memory-clause-idle : goal.returns-in-Err-Memory-clause-idle
+returns-in-Err-Memory-clause-idle g c = λ same. (c.ready.ensures.same.1, c.ready.ensures.same.2)
+
+pub returns-then-not-is_mapped-clause-idle : goal.returns-then-not-is_mapped-clause-idle
+returns-then-not-is_mapped-clause-idle g c = λ same. (c.ready.ensures.same.1, c.ready.ensures.same.2)
+
+pub returns-then-self-eq0-clause-idle : goal.returns-then-self-eq0-clause-idle
+returns-then-self-eq0-clause-idle g c = λ same. (c.ready.ensures.same.1, c.ready.ensures.same.2)
+
+pub returns-clause-idle : goal.returns-clause-idle
+returns-clause-idle g c = λ same.
+    let seen : c.self-2.inside.mapped ≡ c.ready.new.self.mapped = ap (λ (s : Session). s.mapped) c.self-2.view_is in
+    absurd (omega (arith, same, seen, c.ready.ensures.same.0, c.if-self-eq0.false))
+
 pub returns-then-block-self-clause-updates : goal.returns-then-block-self-clause-updates
 returns-then-block-self-clause-updates g c = updates_none _ _ _ refl refl refl
 

@@ -8,7 +8,7 @@ pub invariant_of-result : goal.invariant_of-result
 invariant_of-result g c =
     let is : g.C.PageCalls.events c.settle.new.self ≡ opening c.in_ok-pages.pages = search rules in
     let all = opens _ _ c.in_ok-pages.pages (g.met.C.PageCalls.are_files c.settle.new.self) is in
-    record { told = all.told; readable = all.readable; recorded = all.recorded; room = omega arith; sound = λ calm. all.sound; settled = λ calm. all.settled; safe = all.safe; once = once_opening c.in_ok-pages.pages _ is }
+    record { told = all.told; readable = all.readable; recorded = all.recorded; room = omega arith; sound = λ calm. all.sound; stuck = λ yes. cc; settled = λ calm. all.settled; safe = all.safe; once = once_opening c.in_ok-pages.pages _ is }
 
 pub returns-clause-image : goal.returns-clause-image
 returns-clause-image g c told =

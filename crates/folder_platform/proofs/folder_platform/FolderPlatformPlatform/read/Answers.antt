@@ -9,4 +9,4 @@ invariant_of-self-else-is_err g c =
     let old = c.args.self.now in
     let e = c.read_page.ensures in
     let all = kept_answer _ _ _ _ c.args.addr c.read_page.new.into c.read_page.result e.start e.noted old.told in
-    record { told = all.told; readable = all.readable ∙ old.readable; recorded = all.recorded ∙ old.recorded; room = old.room; sound = λ calm. done_answer _ _ c.args.addr c.read_page.new.into c.read_page.result e.noted ∙ old.sound calm; settled = λ calm. all.settled (old.settled calm); safe = safe_answer _ _ _ _ e.start (old.recorded ∙ sym old.readable) (old.settled c.if-self.false) old.safe c.args.addr c.read_page.new.into c.read_page.result e.noted; once = once_answer _ _ c.args.addr c.read_page.new.into c.read_page.result e.noted old.once }
+    record { told = all.told; readable = all.readable ∙ old.readable; recorded = all.recorded ∙ old.recorded; room = old.room; sound = λ calm. done_answer _ _ c.args.addr c.read_page.new.into c.read_page.result e.noted ∙ old.sound calm; stuck = λ yes. cc; settled = λ calm. all.settled (old.settled calm); safe = safe_answer _ _ _ _ e.start (old.recorded ∙ sym old.readable) (old.settled c.if-self.false) old.safe c.args.addr c.read_page.new.into c.read_page.result e.noted; once = once_answer _ _ c.args.addr c.read_page.new.into c.read_page.result e.noted old.once }
