@@ -93,5 +93,5 @@ promised Going old new after device exit marks stands served c = record {
   handed = c.on.keys.handed tt;
   discloses = λ keys kept. course_discloses Going old new None after (closed device) exit marks keys c kept (device, stands);
   certified = certified_going (Unit {0}) old.written new.written old.history new.history Going ⊥ (λ never. absurd never) c.on.certified;
-  fits = leaves_fitting old.written new.written old.history.present new.history.present exit.device c.made.exits.there.device (c.on.fits tt (closed device) (record { there = record { device = stands; session = tt }; served = served }));
+  fits = leaves_fitting old.written new.written old.history new.history (made_stands old.history new.history after (closed device) exit marks c.made) (c.on.fits tt (closed device) (record { there = record { device = stands; session = tt }; served = served }));
 }

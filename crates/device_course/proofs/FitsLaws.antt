@@ -1,10 +1,10 @@
 -- How a ledger goes on to fit an image.
 use Rattle.std.proofs.Common.{◌≡◌, ◌≢◌, ◌⊎◌, inl, inr, ℕ, zero, suc, ◌+◌, ◌<◌, ◌≤◌, List, [], ◌∷◌, ◌++◌, All, Option, None, Some, take, length, map, get_or, refl, sym, subst, ap, ◌∙◌, arith, append_assoc}
-use Rattle.std.specs.Prelude.{AllPairs, Contains}
+use Rattle.std.specs.Prelude.{AllPairs, Contains, IsSome}
 use Rattle.std.specs.Option.{option_map_or}
 use Rattle.std.proofs.lemmas.Bool.{cases_eq, cases_lt}
 use Rattle.std.proofs.lemmas.Option.{none-some, same_Some}
-use Rattle.std.proofs.lemmas.List.{append-nil}
+use Rattle.std.proofs.lemmas.List.{append-nil, length-append, nil_from_length, take_all}
 use Rattle.std.proofs.lemmas.List.Elements.{All-nil, All-cons, All-contains, All-weaker, All-append, All-map, Contains-append_left, Contains-append_right, Contains-get_or}
 use Rattle.std.proofs.lemmas.List.Kept.{AllPairs-cons}
 use Rattle.sdbt_base.specs.Told.{Got, GotPart}
@@ -14,10 +14,10 @@ use Rattle.sdbt_base.specs.Keys.{bare}
 use Rattle.sdbt_base.specs.Traces.{Traced, TraceEntry, DataOf, NodeOver}
 use Rattle.sdbt_base.specs.declared.lists.Unkept.{Unkept}
 use Rattle.platform.specs.Image.{Image, IsEarlier, MayLeave, LeavesOnly}
-use Rattle.platform.specs.History.{History, Turns, CellStays}
-use Rattle.platform.proofs.RunLaws.{Turns-cases}
+use Rattle.platform.specs.History.{History, Extends, During, Turns, CellStays, CellTurns, image_at, moment}
+use Rattle.platform.specs.declared.platforms.Platform.{Ghosts as PlatformGhosts}
 use Rattle.platform.specs.Logged.{AllPairs-first, AllPairs-rest}
-use Rattle.platform.proofs.Moments.{During-now, Extends-earlier, synced-stays}
+use Rattle.platform.proofs.Moments.{During-now, During-start, During-turns, Extends-earlier, Extends-since, LeavesOnly-now, earlier-now, image_at-now, synced-stays, whole-now}
 use Rattle.node_codec.specs.declared.body.Entry.{Entry}
 use Rattle.root_codec.specs.declared.root.Root.{Root}
 use Rattle.root_codec.specs.RootRecord.{FitsRoot, root_bytes}
@@ -28,7 +28,7 @@ use Rattle.page_store.specs.Tree.{Place, Parts, Subtree, Tree, joined}
 use Rattle.page_store.specs.Kept.{IsRootOf}
 use Rattle.page_store.specs.Stands.{Stands, StandsBy, IsSound}
 use Rattle.page_store.specs.Floors.{Forgets, HasPlace, IsInTree, IsNewRoot, head_in, low_of}
-use Rattle.page_store.proofs.KeptLaws.{tree_later, one_root_in, root_of_stands}
+use Rattle.page_store.proofs.KeptLaws.{tree_later, may_leave_itself, one_root_in, root_of_stands}
 use Rattle.page_store.proofs.TreeLaws.{ReadsAlike, one_tree, tree_kept}
 use Rattle.page_store.proofs.FloorLaws.{low_of_stands, place_of_stands, place_in_tree}
 use Rattle.cert_maker.specs.Cert.{Cert}
@@ -51,13 +51,14 @@ use Rattle.device_session.specs.Holds.{Holds}
 use Rattle.device_session.specs.Sessions.{Session}
 use Rattle.device_session.specs.Open.{AreDataPages}
 use Rattle.device_session.specs.Certifying.{IsOfCommit}
-use Rattle.device_terms.specs.Certifying.{Certifies, IsOfTrees, PutsEntry}
+use Rattle.device_terms.specs.Certifying.{Certifies, IsOfTrees, PutsEntry, PutsSynced}
 use Rattle.device_core.specs.Certifying.{IsOfFormat}
-use Rattle.device_core.specs.Upgrading.{CertifiesUpgrade, IsOfUpgrade}
+use Rattle.device_core.specs.Upgrading.{CertifiesUpgrade, IsOfUpgrade, PutsUpgrade, needed_of_root}
+use Rattle.device_core.proofs.OrderLaws.{root_needs}
 use Rattle.device_course.proofs.SaidLaws.{entry_has, has_entry}
 use Rattle.device_session.specs.Keys.{HoldsListed}
 use Rattle.device_course.specs.States.{IsAt, IsSessionOf}
-use Rattle.device_course.specs.Fitting.{FitsCell, FitsImage, KeepsFitting, LeavesFitting}
+use Rattle.device_course.specs.Fitting.{FitsCell, FitsImage, KeepsFitting, LeavesFitting, PutsBehindPages, SinceLastPage}
 
 -- ---- without a new root record
 
@@ -81,45 +82,151 @@ fits_later text image later earlier same f = record {
 pub fits_emptied : (text : List ℕ) (image later : Image) → later.cell ≡ None → FitsImage text image → FitsImage text later
 fits_emptied text image later none f = record { certs = f.certs; ledger = f.ledger; fits = inl none }
 
+-- an earlier moment that has the cell and all pages of the present one
+fits_with_all : (text : List ℕ) (history : History) (i : ℕ) → i ≤ moment history → (image_at history i).cell ≡ history.present.cell → (image_at history i).recorded ≡ history.present.recorded
+    → FitsImage text history.present → FitsImage text (image_at history i)
+fits_with_all text history i past cell all f =
+    let image = image_at history i in
+    let now = history.present in
+    let many : length now.readable ≤ length image.recorded = omega (arith, (whole-now history).as_many, ap (λ (pages : List (List ℕ)). length pages) all) in
+    let reads : now.readable ≡ image.readable = sym (take_all (length image.recorded) now.readable many) ∙ (earlier-now history i past).readable in
+    record {
+      certs = f.certs;
+      ledger = f.ledger;
+      fits = elim f.fits [
+        | inl none ↦ inl (cell ∙ none)
+        | inr c ↦ inr (record {
+          root = c.root;
+          is = record { cell = cell ∙ c.is.cell; in_range = c.is.in_range; key = c.is.key };
+          parts = c.parts;
+          tree = subst (λ (pages : List (List ℕ)). Tree pages c.root c.parts) reads c.tree;
+          fits = c.fits;
+        })
+      ];
+    }
+
+-- ---- at each moment since when no page was handed over
+
+since_during : (tells : Type 0) (old new : History) (P : Image → Type 0) → During old new P → SinceLastPage tells old new P
+since_during tells old new P during = record { now = During-now old new P during; each = λ told i from to all. during.each i from to }
+
+-- what was put, with which each ledger that fitted an image goes on to fit it for as long as the cell is as it was
+record Waits (written written_now : Option (List ℕ)) (old : Image) : Type 0 where
+  put : List ℕ
+  got : Got written put written_now
+  fits : (text : List ℕ) → FitsImage text old → (image : Image) → IsEarlier old image → image.cell ≡ old.cell → FitsImage (text ++ put) image
+
 -- nothing was put
-fitting_none : (written : Option (List ℕ)) (old new : Image) → ((text : List ℕ) → FitsImage text old → FitsImage text new) → KeepsFitting written written old new
-fitting_none written old new keeps = record {
+waits_none : (written : Option (List ℕ)) (old : Image) → Waits written written old
+waits_none written old = record {
   put = [];
   got = Got-nothing written;
-  fits = λ text f. subst (λ (t : List ℕ). FitsImage t new) (sym (append-nil text)) (keeps text f);
+  fits = λ text f image earlier same. subst (λ (t : List ℕ). FitsImage t image) (sym (append-nil text)) (fits_later text old image earlier same f);
 }
 
-pub fitting_start : (written : Option (List ℕ)) (image : Image) → KeepsFitting written written image image
-fitting_start written image = fitting_none written image image (λ text f. f)
+-- the cell stays
+fitting_stays : (written written_now : Option (List ℕ)) (old new : History) → CellStays old new → PutsBehindPages written written_now old new → Waits written written_now old.present → KeepsFitting written written_now old new
+fitting_stays written written_now old new stays put_behind w = record {
+  put = w.put;
+  got = w.got;
+  fits = λ text f. since_during (IsSome written) old new (FitsImage (text ++ w.put))
+      (record { extends = stays.extends; each = λ i from to. w.fits text f (image_at new i) (Extends-since old new i stays.extends from) (stays.each i from to) });
+  behind = put_behind;
+}
 
-pub fitting_still : (written written_now : Option (List ℕ)) (old new : Image) → written_now ≡ written → IsEarlier old new → new.cell ≡ old.cell → KeepsFitting written written_now old new
-fitting_still written written_now old new unput earlier same =
-    subst (λ (w : Option (List ℕ)). KeepsFitting written w old new) (sym unput) (fitting_none written old new (λ text f. fits_later text old new earlier same f))
+-- the cell is another one at the end, which the ledger fits
+fitting_turns : (written written_now : Option (List ℕ)) (old new : History) → CellTurns old new → PutsBehindPages written written_now old new → (w : Waits written written_now old.present)
+    → ((text : List ℕ) → FitsImage text old.present → FitsImage (text ++ w.put) new.present) → KeepsFitting written written_now old new
+fitting_turns written written_now old new turns put_behind w comes = record {
+  put = w.put;
+  got = w.got;
+  fits = λ text f. record {
+    now = comes text f;
+    each = λ told i from to all. elim (cases_lt i turns.turn) [
+      | inl early ↦ w.fits text f (image_at new i) (Extends-since old new i turns.extends from) (turns.before i from to early)
+      | inr late ↦ fits_with_all (text ++ w.put) new i to (turns.after i from to late) all (comes text f)
+    ];
+  };
+  behind = put_behind;
+}
 
--- the image is as it was
-pub fitting_same : (written : Option (List ℕ)) (old new : Image) → new ≡ old → KeepsFitting written written old new
-fitting_same written old new same = subst (λ (i : Image). KeepsFitting written written old i) (sym same) (fitting_start written old)
+-- the cell stays at each moment, and nothing is put
+pub fitting_while : (written : Option (List ℕ)) (old new : History) → CellStays old new → KeepsFitting written written old new
+fitting_while written old new stays = fitting_stays written written old new stays (λ same. refl) (waits_none written old.present)
 
-pub fitting_emptied : (written : Option (List ℕ)) (old new : Image) → new.cell ≡ None → KeepsFitting written written old new
-fitting_emptied written old new none = fitting_none written old new (λ text f. fits_emptied text old new none f)
+pub fitting_start : (written : Option (List ℕ)) (history : History) → KeepsFitting written written history history
+fitting_start written history = fitting_while written history history (During-start history (λ image. image.cell ≡ history.present.cell) refl)
 
--- the cell stays at each moment
-pub fitting_while : (written : Option (List ℕ)) (old new : History) → CellStays old new → KeepsFitting written written old.present new.present
-fitting_while written old new stays = fitting_still written written old.present new.present refl (Extends-earlier old new stays.extends) (During-now old new (λ image. image.cell ≡ old.present.cell) stays)
+fitting_unput : (written written_now : Option (List ℕ)) (old new : History) → written_now ≡ written → CellStays old new → KeepsFitting written written_now old new
+fitting_unput written written_now old new unput stays = subst (λ (w : Option (List ℕ)). KeepsFitting written w old new) (sym unput) (fitting_while written old new stays)
 
 -- the cell stays until it is empty
-pub fitting_erased : (written : Option (List ℕ)) (old new : History) → Turns old new (λ image. image.cell ≡ old.present.cell) (λ image. image.cell ≡ None) → KeepsFitting written written old.present new.present
-fitting_erased written old new turns = elim (Turns-cases old new (λ image. image.cell ≡ old.present.cell) (λ image. image.cell ≡ None) turns) [
-  | inl stays ↦ fitting_still written written old.present new.present refl (Extends-earlier old new turns.extends) (During-now old new (λ image. image.cell ≡ old.present.cell) stays)
-  | inr empty ↦ fitting_emptied written old.present new.present empty
-]
+pub fitting_erased : (written : Option (List ℕ)) (old new : History) → Turns old new (λ image. image.cell ≡ old.present.cell) (λ image. image.cell ≡ None) → KeepsFitting written written old new
+unfolding waits_none
+fitting_erased written old new turns =
+    let either = During-turns old new (λ image. image.cell ≡ old.present.cell) (λ image. image.cell ≡ None) turns in
+    let none = waits_none written old.present in
+    record {
+      put = [];
+      got = none.got;
+      fits = λ text f. since_during (IsSome written) old new (FitsImage (text ++ [])) (record {
+        extends = turns.extends;
+        each = λ i from to. elim (either.each i from to) [
+          | inl same ↦ none.fits text f (image_at new i) (Extends-since old new i turns.extends from) same
+          | inr empty ↦ subst (λ (t : List ℕ). FitsImage t (image_at new i)) (sym (append-nil text)) (fits_emptied text old.present (image_at new i) empty f)
+        ];
+      });
+      behind = λ same. refl;
+    }
 
--- one part after another
-pub fitting_then : (written mid written_now : Option (List ℕ)) (first second third : Image) → KeepsFitting written mid first second → KeepsFitting mid written_now second third → KeepsFitting written written_now first third
-fitting_then written mid written_now first second third a b = record {
+-- ---- one part after another
+
+-- where as many pages were handed over they are the same
+same_pages : (earlier later : Image) → IsEarlier earlier later → length later.recorded ≤ length earlier.recorded → earlier.recorded ≡ later.recorded
+same_pages earlier later is most = sym is.recorded ∙ take_all (length earlier.recorded) later.recorded most
+
+-- where nothing was handed over since, nothing was between
+same_between : (first mid last : Image) → IsEarlier first mid → IsEarlier mid last → first.recorded ≡ last.recorded → (first.recorded ≡ mid.recorded) × (mid.recorded ≡ last.recorded)
+same_between first mid last one two same =
+    let many : length first.recorded ≡ length last.recorded = ap (λ (pages : List (List ℕ)). length pages) same in
+    (same_pages first mid one (omega (arith, many, two.pages)), same_pages mid last two (omega (arith, many, one.pages)))
+
+told_then : (written put mid : Option (List ℕ)) (bytes : List ℕ) → IsSome written → Got written bytes mid → IsSome mid
+told_then None put mid bytes told got = absurd cc
+told_then (Some before) put mid bytes told got = cc
+
+put_none : (written written_now : Option (List ℕ)) (put : List ℕ) → IsSome written → Got written put written_now → written_now ≡ written → put ≡ []
+put_none None written_now put told got same = absurd cc
+put_none (Some before) written_now put told got same =
+    let all : before ++ put ≡ before = same_Some _ _ (sym got ∙ same) in
+    nil_from_length put (omega (arith, length-append before put, ap (λ (bytes : List ℕ). length bytes) all))
+
+pub fitting_then : (written mid written_now : Option (List ℕ)) (first second third : History) → Extends first second → Extends second third → KeepsFitting written mid first second → KeepsFitting mid written_now second third
+    → KeepsFitting written written_now first third
+fitting_then written mid written_now first second third one two a b = record {
   put = a.put ++ b.put;
   got = Got-then written a.put mid b.put written_now a.got b.got;
-  fits = λ text f. subst (λ (t : List ℕ). FitsImage t third) (append_assoc text a.put b.put) (b.fits (text ++ a.put) (a.fits text f));
+  fits = λ text f.
+      let before = a.fits text f in
+      let after = b.fits (text ++ a.put) before.now in
+      let told_mid : IsSome written → IsSome mid = λ told. told_then written mid mid a.put told a.got in
+      let whole : (image : Image) → FitsImage ((text ++ a.put) ++ b.put) image → FitsImage (text ++ (a.put ++ b.put)) image = λ image. subst (λ (t : List ℕ). FitsImage t image) (append_assoc text a.put b.put) in
+      record {
+        now = whole third.present after.now;
+        each = λ told i from to all. elim (cases_lt (moment second) i) [
+          | inl later ↦ whole (image_at third i) (after.each (told_mid told) i (omega (arith, later)) to all)
+          | inr past ↦
+              let was : image_at third i ≡ image_at second i = two.same i past in
+              let none = same_between (image_at second i) second.present third.present (earlier-now second i past) (Extends-earlier second third two) (sym (ap (λ (image : Image). image.recorded) was) ∙ all) in
+              let unput : b.put ≡ [] = put_none mid written_now b.put (told_mid told) b.got (b.behind (sym none.1)) in
+              whole (image_at third i) (subst (λ (put : List ℕ). FitsImage ((text ++ a.put) ++ put) (image_at third i)) (sym unput)
+              (subst (λ (t : List ℕ). FitsImage t (image_at third i)) (sym (append-nil (text ++ a.put)))
+              (subst (FitsImage (text ++ a.put)) (sym was) (before.each told i from past none.0))))
+        ];
+      };
+  behind = λ same.
+      let none = same_between first.present second.present third.present (Extends-earlier first second one) (Extends-earlier second third two) (sym same) in
+      b.behind (sym none.1) ∙ a.behind (sym none.0);
 }
 
 -- ---- what the places of a tree say
@@ -322,18 +429,18 @@ waiting text put cert old new earlier same number goes_on f =
       }
     ]
 
--- the entry of a call that left the cell as it was
-pub fitting_waits : (written written_now : Option (List ℕ)) (cert : Cert) (old new : Image) → FitsText cert → IsEarlier old new → new.cell ≡ old.cell → ((root : Root) → IsRootOf old root → cert.commit ≡ root.commit + 1)
-    → Got written (entry cert) written_now ⊎ GotPart written (entry cert) written_now → KeepsFitting written written_now old new
-fitting_waits written written_now cert old new in_text earlier same number (inl whole) = record {
+-- an entry, or a part of one
+waits_entry : (written written_now : Option (List ℕ)) (cert : Cert) (old : Image) → FitsText cert → ((root : Root) → IsRootOf old root → cert.commit ≡ root.commit + 1) → Got written (entry cert) written_now ⊎ GotPart written (entry cert) written_now
+    → Waits written written_now old
+waits_entry written written_now cert old in_text number (inl whole) = record {
   put = entry cert;
   got = whole;
-  fits = λ text f. waiting text (entry cert) cert old new earlier same number (λ certs ledger. inr (entry_adds text certs cert in_text ledger)) f;
+  fits = λ text f image earlier same. waiting text (entry cert) cert old image earlier same number (λ certs ledger. inr (entry_adds text certs cert in_text ledger)) f;
 }
-fitting_waits written written_now cert old new in_text earlier same number (inr (n, part)) = record {
+waits_entry written written_now cert old in_text number (inr (n, part)) = record {
   put = take n (entry cert);
   got = part;
-  fits = λ text f. waiting text (take n (entry cert)) cert old new earlier same number (λ certs ledger. part_adds text certs cert n in_text ledger) f;
+  fits = λ text f image earlier same. waiting text (take n (entry cert)) cert old image earlier same number (λ certs ledger. part_adds text certs cert n in_text ledger) f;
 }
 
 -- the root record that came into the cell
@@ -369,51 +476,57 @@ next_fits old new device root next before pages cert in_text in_range number cam
       ];
     }
 
--- what was put is that entry, or a part of it, or all of it before the root record comes
-puts_fit : (tells : Type 0) (written written_now : Option (List ℕ)) (old new : History) (root : Root) (Is : Root → Cert → Type 0) (Done : Type 0) → tells → IsRootOf old.present root → IsEarlier old.present new.present
-    → PutsEntry tells written written_now old new root.head (root.commit + 1) Is Done
-    → ((cert : Cert) (next : Root) → FitsText cert → FitsRoot next → next.commit ≡ root.commit + 1 → new.present.cell ≡ Some (root_bytes next) → Is next cert → (text : List ℕ) → FitsImage text old.present → FitsImage (text ++ entry cert) new.present)
-    → KeepsFitting written written_now old.present new.present
-puts_fit tells written written_now old new root Is Done told there earlier p goes_on =
-    let numbered : (other : Root) → IsRootOf old.present other → p.cert.commit ≡ other.commit + 1 = λ other is.
-    let same : root ≡ other = one_root_in old.present old.present root other refl there is in
-    p.speaks.commit ∙ p.number ∙ ap (λ (r : Root). r.commit + 1) same in
-    let waits : CellStays old new → Got written (entry p.cert) written_now ⊎ GotPart written (entry p.cert) written_now → KeepsFitting written written_now old.present new.present = λ stays put.
-    fitting_waits written written_now p.cert old.present new.present p.in_text earlier (During-now old new (λ image. image.cell ≡ old.present.cell) stays) numbered put in
+-- what was put is the entry of the root record that came, or that or a part of it with the cell as it was
+puts_fit : (tells : Type 0) (written written_now : Option (List ℕ)) (old new : History) (base commit : ℕ) (Is : Root → Cert → Type 0) (Done : Type 0) → tells → CellTurns old new → PutsBehindPages written written_now old new
+    → (p : PutsEntry tells written written_now old new base commit Is Done) → ((root : Root) → IsRootOf old.present root → p.cert.commit ≡ root.commit + 1)
+    → ((cert : Cert) (next : Root) → FitsText cert → FitsRoot next → next.commit ≡ commit → new.present.cell ≡ Some (root_bytes next) → Is next cert → (text : List ℕ) → FitsImage text old.present → FitsImage (text ++ entry cert) new.present)
+    → KeepsFitting written written_now old new
+unfolding waits_entry
+puts_fit tells written written_now old new base commit Is Done told turns put_behind p numbered goes_on =
+    let waits : CellStays old new → Got written (entry p.cert) written_now ⊎ GotPart written (entry p.cert) written_now → KeepsFitting written written_now old new = λ stays put.
+    fitting_stays written written_now old new stays put_behind (waits_entry written written_now p.cert old.present p.in_text numbered put) in
     elim p.put [
       | inl whole ↦ elim (whole.1 told) [
-        | inl came ↦ record { put = entry p.cert; got = whole.0; fits = λ text f. goes_on p.cert p.root p.in_text p.in_range p.number came (p.is told) text f }
+        | inl came ↦ fitting_turns written written_now old new turns put_behind (waits_entry written written_now p.cert old.present p.in_text numbered (inl whole.0))
+            (goes_on p.cert p.root p.in_text p.in_range p.number came (p.is told))
         | inr stays ↦ waits stays.0 (inl whole.0)
       ]
       | inr part ↦ waits (part.1 told) (inr part.0)
     ]
 
+-- its number is the next one
+next_number : (tells : Type 0) (written written_now : Option (List ℕ)) (old new : History) (base : ℕ) (root : Root) (Is : Root → Cert → Type 0) (Done : Type 0) → IsRootOf old.present root
+    → (p : PutsEntry tells written written_now old new base (root.commit + 1) Is Done) → (other : Root) → IsRootOf old.present other → p.cert.commit ≡ other.commit + 1
+next_number tells written written_now old new base root Is Done there p other is =
+    let same : root ≡ other = one_root_in old.present old.present root other refl there is in
+    p.speaks.commit ∙ p.number ∙ ap (λ (r : Root). r.commit + 1) same
+
 pub fitting_commit : (tells : Type 0) (written written_now : Option (List ℕ)) (old new : History) (session : Session) (device : Device) (contents : Blocks) (Done : Type 0) → tells → Holds session old.present device contents → Forgets old new
-    → Certifies tells written written_now old new session.root.head (session.root.commit + 1) (IsOfCommit session old.present new.present) Done → KeepsFitting written written_now old.present new.present
-fitting_commit tells written written_now old new session device contents Done told h forgets certifies =
-    let earlier = Extends-earlier old new forgets.turns.extends in
+    → PutsBehindPages written written_now old new → Certifies tells written written_now old new session.root.head (session.root.commit + 1) (IsOfCommit session old.present new.present) Done → KeepsFitting written written_now old new
+fitting_commit tells written written_now old new session device contents Done told h forgets put_behind certifies =
     let before : Parts = h.committed in
     let was : StandsBy old.present device session.root before = h.stands in
     let pages = wrote old.present session device contents h in
     elim certifies [
-      | inl none ↦ fitting_still written written_now old.present new.present none.0 earlier (During-now old new (λ image. image.cell ≡ old.present.cell) (none.1 told))
-      | inr p ↦ puts_fit tells written written_now old new session.root (IsOfCommit session old.present new.present) Done told (root_of_stands old.present device session.root before was) earlier p
+      | inl none ↦ fitting_unput written written_now old new none.0 (none.1 told)
+      | inr p ↦ puts_fit tells written written_now old new session.root.head (session.root.commit + 1) (IsOfCommit session old.present new.present) Done told forgets.turns put_behind p
+          (next_number tells written written_now old new session.root.head session.root (IsOfCommit session old.present new.present) Done (root_of_stands old.present device session.root before was) p)
           (λ cert next in_text in_range number came is. next_fits old new device session.root next before pages.list cert in_text in_range number came forgets was (is device contents h pages.list pages.are before was.tree) pages.between)
     ]
 
 -- ---- an upgrade
 
 -- of a device, or where there is none
-pub fitting_upgrade : (tells : Type 0) (written written_now : Option (List ℕ)) (old new : History) (Done : Type 0) → tells → IsSound old.present → Forgets old new → CertifiesUpgrade tells written written_now old new Done
-    → KeepsFitting written written_now old.present new.present
-fitting_upgrade tells written written_now old new Done told sound forgets (inl none) =
-    fitting_still written written_now old.present new.present none.0 (Extends-earlier old new forgets.turns.extends) (During-now old new (λ image. image.cell ≡ old.present.cell) (none.1 told))
-fitting_upgrade tells written written_now old new Done told sound forgets (inr (root, fits, key, cell, puts)) =
+pub fitting_upgrade : (tells : Type 0) (written written_now : Option (List ℕ)) (old new : History) (Done : Type 0) → tells → IsSound old.present → Forgets old new → PutsBehindPages written written_now old new
+    → CertifiesUpgrade tells written written_now old new Done → KeepsFitting written written_now old new
+fitting_upgrade tells written written_now old new Done told sound forgets put_behind (inl none) = fitting_unput written written_now old new none.0 (none.1 told)
+fitting_upgrade tells written written_now old new Done told sound forgets put_behind (inr (root, fits, key, cell, puts)) =
     let there = came_root old.present root sound fits (cell told) in
     let device : Device = there.0 in
     let before : Parts = there.1 in
     let was : StandsBy old.present device root before = there.2 in
-    puts_fit tells written written_now old new root (IsOfUpgrade root old.present new.present) Done told (root_of_stands old.present device root before was) (Extends-earlier old new forgets.turns.extends) puts
+    puts_fit tells written written_now old new root.head (root.commit + 1) (IsOfUpgrade root old.present new.present) Done told forgets.turns put_behind puts
+    (next_number tells written written_now old new root.head root (IsOfUpgrade root old.present new.present) Done (root_of_stands old.present device root before was) puts)
     (λ cert next in_text in_range number came is. next_fits old new device root next before [] cert in_text in_range number came forgets was (is device before was) (λ page has. absurd (omega (arith, has.1))))
 
 -- ---- a format
@@ -443,25 +556,14 @@ first_succeeds old new other next after none is forgets =
       between = λ page has. absurd (omega (arith, has.1));
     }
 
-pub fitting_format : (tells : Type 0) (written written_now : Option (List ℕ)) (old new : History) (base : ℕ) (Done : Type 0) → tells → Forgets old new
-    → Certifies tells written written_now old new base 0 (IsOfFormat old.present new.present) Done → KeepsFitting written written_now old.present new.present
-fitting_format tells written written_now old new base Done told forgets certifies =
-    let earlier = Extends-earlier old new forgets.turns.extends in
-    elim certifies [
-      | inl none ↦ fitting_still written written_now old.present new.present none.0 earlier (During-now old new (λ image. image.cell ≡ old.present.cell) (none.1 told))
-      | inr p ↦
-          let of = p.is told in
-          let waits : CellStays old new → Got written (entry p.cert) written_now ⊎ GotPart written (entry p.cert) written_now → KeepsFitting written written_now old.present new.present = λ stays put.
-          fitting_waits written written_now p.cert old.present new.present p.in_text earlier (During-now old new (λ image. image.cell ≡ old.present.cell) stays)
-          (λ root is. absurd (none-some (root_bytes root) (sym of.0 ∙ is.cell))) put in
-          elim p.put [
-            | inl whole ↦ elim (whole.1 told) [
-              | inl came ↦ record { put = entry p.cert; got = whole.0; fits = λ text f. next_fits p.cert p.root p.in_text p.in_range p.number came of text f }
-              | inr stays ↦ waits stays.0 (inl whole.0)
-            ]
-            | inr part ↦ waits (part.1 told) (inr part.0)
-          ]
-    ]
+pub fitting_format : (tells : Type 0) (written written_now : Option (List ℕ)) (old new : History) (base : ℕ) (Done : Type 0) → tells → Forgets old new → PutsBehindPages written written_now old new
+    → Certifies tells written written_now old new base 0 (IsOfFormat old.present new.present) Done → KeepsFitting written written_now old new
+fitting_format tells written written_now old new base Done told forgets put_behind certifies = elim certifies [
+  | inl none ↦ fitting_unput written written_now old new none.0 (none.1 told)
+  | inr p ↦ puts_fit tells written written_now old new base 0 (IsOfFormat old.present new.present) Done told forgets.turns put_behind p
+      (λ root is. absurd (none-some (root_bytes root) (sym (p.is told).0 ∙ is.cell)))
+      next_fits
+]
   where
     next_fits : (cert : Cert) (next : Root) → FitsText cert → FitsRoot next → next.commit ≡ 0 → new.present.cell ≡ Some (root_bytes next) → IsOfFormat old.present new.present next cert
         → (text : List ℕ) → FitsImage text old.present → FitsImage (text ++ entry cert) new.present
@@ -505,27 +607,27 @@ session_holds session image (Some device) (Some there) is = (device, there.conte
 -- a commit, by its public clauses
 pub fitting_committed : (tells : Type 0) (written written_now : Option (List ℕ)) (old new : History) (held : Option Session) (session : Session) (Done : Type 0) → held ≡ Some session
     → (tells → (keys : List (List ℕ)) → HoldsListed session old.present keys → Forgets old new)
-    → Certifies tells written written_now old new session.root.head (session.root.commit + 1) (IsOfCommit session old.present new.present) Done
-    → tells → (entry : State) → IsAt old.present held entry → KeepsFitting written written_now old.present new.present
-fitting_committed tells written written_now old new held session Done is forgets certifies told entry at =
+    → Certifies tells written written_now old new session.root.head (session.root.commit + 1) (IsOfCommit session old.present new.present) Done → (tells → PutsBehindPages written written_now old new)
+    → tells → (entry : State) → IsAt old.present held entry → KeepsFitting written written_now old new
+fitting_committed tells written written_now old new held session Done is forgets certifies put_behind told entry at =
     let there : IsSessionOf (Some session) old.present entry.device entry.session = subst (λ (s : Option Session). IsSessionOf s old.present entry.device entry.session) is at.there.session in
     let h = session_holds session old.present entry.device entry.session there in
     fitting_commit tells written written_now old new session h.0 h.1 Done told h.2
-    (forgets told (map (λ (s : Stub). bare s.key) (places_of session.grove)) (listed session old.present h.0 h.1 h.2)) certifies
+    (forgets told (map (λ (s : Stub). bare s.key) (places_of session.grove)) (listed session old.present h.0 h.1 h.2)) (put_behind told) certifies
 
 -- a format, by its public clauses
 pub fitting_formatted : (tells : Type 0) (written written_now : Option (List ℕ)) (old new : History) (held : Option Session) (base : ℕ) (Done : Type 0) → (tells → IsSound old.present → Forgets old new)
-    → Certifies tells written written_now old new base 0 (IsOfFormat old.present new.present) Done
-    → tells → (entry : State) → IsAt old.present held entry → KeepsFitting written written_now old.present new.present
-fitting_formatted tells written written_now old new held base Done forgets certifies told entry at =
-    fitting_format tells written written_now old new base Done told (forgets told (entry.device, at.there.device)) certifies
+    → Certifies tells written written_now old new base 0 (IsOfFormat old.present new.present) Done → (tells → PutsBehindPages written written_now old new)
+    → tells → (entry : State) → IsAt old.present held entry → KeepsFitting written written_now old new
+fitting_formatted tells written written_now old new held base Done forgets certifies put_behind told entry at =
+    fitting_format tells written written_now old new base Done told (forgets told (entry.device, at.there.device)) (put_behind told) certifies
 
 -- an upgrade, by its public clauses
 pub fitting_upgraded : (tells : Type 0) (written written_now : Option (List ℕ)) (old new : History) (Done : Type 0) → (tells → IsSound old.present → Forgets old new) → CertifiesUpgrade tells written written_now old new Done
-    → tells → (entry : State) → IsAt old.present None entry → KeepsFitting written written_now old.present new.present
-fitting_upgraded tells written written_now old new Done forgets certifies told entry at =
+    → (tells → PutsBehindPages written written_now old new) → tells → (entry : State) → IsAt old.present None entry → KeepsFitting written written_now old new
+fitting_upgraded tells written written_now old new Done forgets certifies put_behind told entry at =
     let sound : IsSound old.present = (entry.device, at.there.device) in
-    fitting_upgrade tells written written_now old new Done told sound (forgets told sound) certifies
+    fitting_upgrade tells written written_now old new Done told sound (forgets told sound) (put_behind told) certifies
 
 -- ---- a loss of power
 
@@ -550,18 +652,64 @@ fits_left text image (Some device) (root, parts, stands) f left leaves =
       ];
     }
 
--- and so is what it leaves at the end of a part
-pub leaves_fitting : (written written_now : Option (List ℕ)) (old new : Image) (device : Option Device) → Stands new device → KeepsFitting written written_now old new → LeavesFitting written written_now old new
-leaves_fitting written written_now old new device stands k = record {
+-- and so is what it leaves at each moment of a part of which it is known what each image stands for
+pub leaves_fitting : (written written_now : Option (List ℕ)) (old new : History) → During old new (λ image. (d : Option Device) × LeavesOnly (λ left. Stands left d) image) → KeepsFitting written written_now old new
+    → LeavesFitting written written_now old.present old new
+leaves_fitting written written_now old new stands k = record {
   put = k.put;
   got = k.got;
-  fits = λ text f. fits_left (text ++ k.put) new device stands (k.fits text f);
+  fits = λ text f.
+      let fits = k.fits text f in
+      let last = During-now old new (λ image. (d : Option Device) × LeavesOnly (λ left. Stands left d) image) stands in
+      record {
+        now = fits_left (text ++ k.put) new.present last.0 (LeavesOnly-now new (λ left. Stands left last.0) last.1) fits.now;
+        each = λ told i from to all.
+            let there = stands.each i from to in
+            fits_left (text ++ k.put) (image_at new i) there.0 (there.1 (image_at new i) (may_leave_itself new i)) (fits.each told i from to all);
+      };
 }
 
--- one run after another, over what a loss of power left
-pub leaves_then : (written mid written_now : Option (List ℕ)) (first second left third : Image) → LeavesFitting written mid first second → MayLeave second left → LeavesFitting mid written_now left third → LeavesFitting written written_now first third
-leaves_then written mid written_now first second left third a leaves b = record {
-  put = a.put ++ b.put;
-  got = Got-then written a.put mid b.put written_now a.got b.got;
-  fits = λ text f. subst (λ (t : List ℕ). LeavesOnly (FitsImage t) third) (append_assoc text a.put b.put) (b.fits (text ++ a.put) (a.fits text f left leaves));
+-- one run after another, over what a loss of power left of an image that the first one's ledger fits
+pub leaves_over : (written mid written_now : Option (List ℕ)) (before left : Image) (cut new : History) (put : List ℕ) → Got written put mid → ((text : List ℕ) → FitsImage text before → FitsImage (text ++ put) left)
+    → LeavesFitting mid written_now left cut new → LeavesFitting written written_now before cut new
+leaves_over written mid written_now before left cut new put got fits b = record {
+  put = put ++ b.put;
+  got = Got-then written put mid b.put written_now got b.got;
+  fits = λ text f.
+      let after = b.fits (text ++ put) (fits text f) in
+      let whole : (image : Image) → LeavesOnly (FitsImage ((text ++ put) ++ b.put)) image → LeavesOnly (FitsImage (text ++ (put ++ b.put))) image =
+      λ image. subst (λ (t : List ℕ). LeavesOnly (FitsImage t) image) (append_assoc text put b.put) in
+      record { now = whole new.present after.now; each = λ told i from to all. whole (image_at new i) (after.each (told_then written mid mid put told got) i from to all) };
 }
+
+-- where the power is lost at the exit of the first, and its last image is found
+pub leaves_then : (written mid written_now : Option (List ℕ)) (old second cut new : History) (before : Image) → LeavesFitting written mid before old second → MayLeave second.present cut.present → LeavesFitting mid written_now cut.present cut new
+    → LeavesFitting written written_now before cut new
+leaves_then written mid written_now old second cut new before a leaves b =
+    leaves_over written mid written_now before cut.present cut new a.put a.got (λ text f. (a.fits text f).now cut.present leaves) b
+
+-- at the end alone
+pub leaves_last : (written written_now : Option (List ℕ)) (before : Image) (old new : History) → LeavesFitting written written_now before old new → LeavesFitting written written_now before new new
+leaves_last written written_now before old new a = record {
+  put = a.put;
+  got = a.got;
+  fits = λ text f.
+      let last = (a.fits text f).now in
+      record { now = last; each = λ told i from to all. subst (LeavesOnly (FitsImage (text ++ a.put))) (sym (image_at-now new i from)) last };
+}
+
+-- ---- the ledger gets something only behind pages
+
+-- by a call that adds some pages before
+pub behind_added : {S W : Type 0} (P : PlatformGhosts S) (written : W → Option (List ℕ)) (added : ℕ) (platform platform_now : S) (ledger ledger_now : W) → (P.tells → (there : S) → length (P.history there).present.recorded ≡ P.head there)
+    → 1 ≤ added → PutsSynced P added platform platform_now ledger ledger_now → P.tells → PutsBehindPages (written ledger) (written ledger_now) (P.history platform) (P.history platform_now)
+behind_added P written added platform platform_now ledger ledger_now counts some (inl same) told none = ap written same
+behind_added P written added platform platform_now ledger ledger_now counts some (inr adds) told none =
+    absurd (omega (arith, some, adds.0, counts told platform, counts told platform_now, ap (λ (pages : List (List ℕ)). length pages) none))
+
+-- by an upgrade
+pub behind_upgrade : {S W : Type 0} (P : PlatformGhosts S) (written : W → Option (List ℕ)) (platform platform_now : S) (ledger ledger_now : W) → (P.tells → (there : S) → length (P.history there).present.recorded ≡ P.head there)
+    → PutsUpgrade P platform platform_now ledger ledger_now → P.tells → PutsBehindPages (written ledger) (written ledger_now) (P.history platform) (P.history platform_now)
+behind_upgrade P written platform platform_now ledger ledger_now counts (inl same) = behind_added P written 1 platform platform_now ledger ledger_now counts (omega arith) (inl same)
+behind_upgrade P written platform platform_now ledger ledger_now counts (inr (root, begins, adds)) =
+    behind_added P written (needed_of_root root) platform platform_now ledger ledger_now counts (root_needs root begins.on.within.in_range) (inr adds)

@@ -26,12 +26,12 @@ use Rattle.device_terms.specs.Effects.{Discloses}
 use Rattle.device_terms.specs.Served.{IsServedImage}
 use Rattle.device_terms.proofs.ServedLaws.{serves_still}
 use Rattle.device_core.specs.Upgrading.{CertifiesUpgrade}
-use Rattle.device_course.specs.Fitting.{KeepsFitting}
+use Rattle.device_course.specs.Fitting.{KeepsFitting, PutsBehindPages}
 use Rattle.device_course.specs.States.{IsListed, IsAt}
 use Rattle.device_course.specs.Certified.{Certified}
 use Rattle.device_course.specs.Keys.{KeepsOn}
 use Rattle.device_course.proofs.CertifiedLaws.{certified_commit, certified_start, certified_stays, certified_going, certified_then}
-use Rattle.device_course.proofs.FitsLaws.{fitting_committed, fitting_start, fitting_same, fitting_erased, fitting_then, fitting_upgraded, fitting_while}
+use Rattle.device_course.proofs.FitsLaws.{fitting_committed, fitting_start, fitting_erased, fitting_then, fitting_upgraded, fitting_while}
 
 pub sound_of : (session : Option Session) (image : Image) (keys : List (List ℕ)) → IsListed session image keys → IsSound image
 sound_of None image keys sound = sound
@@ -47,7 +47,7 @@ on_start tells drawn written session history Going = record {
   deleted = λ told keys kept h. deleted_start history (sound_of session history.present keys h);
   serves = λ told served. During-start history IsServedImage served;
   certified = certified_start tells written history Going;
-  fits = λ told entry there. fitting_start written history.present;
+  fits = λ told entry there. fitting_start written history;
 }
 
 -- a call that leaves the image as it was
@@ -57,11 +57,11 @@ on_look tells drawn written session old new Going Done same cell done = record {
   deleted = λ told keys kept h. deleted_call old new (forgets_still old new (sound_of session old.present keys h) (cell told));
   serves = λ told served. serves_still old new (cell told) served;
   certified = certified_stays tells written old new Going cell;
-  fits = λ told entry there. fitting_same written old.present new.present (same told);
+  fits = λ told entry there. fitting_while written old new (cell told);
 }
 
 -- a call that may draw
-pub on_call : (tells : Type 0) (drawn drawn_now : Option (List (List ℕ))) (written written_now : Option (List ℕ)) (session : Option Session) (old new : History) (Going : Type 0) (Ready Then Done : List (List ℕ) → Type 0) → KeepsKeys tells drawn drawn_now old new Ready Then → (tells → (keys : List (List ℕ)) → IsListed session old.present keys → Ready keys) → (tells → (keys : List (List ℕ)) → IsListed session old.present keys → Forgets old new) → (tells → (keys more : List (List ℕ)) → IsListed session old.present keys → Then (keys ++ more) → Done (keys ++ more)) → (tells → IsServedImage old.present → During old new IsServedImage) → Certified tells written written_now old new Going → (tells → (entry : State) → IsAt old.present session entry → KeepsFitting written written_now old.present new.present) → KeepsOn tells drawn drawn_now written written_now session old new Going Done
+pub on_call : (tells : Type 0) (drawn drawn_now : Option (List (List ℕ))) (written written_now : Option (List ℕ)) (session : Option Session) (old new : History) (Going : Type 0) (Ready Then Done : List (List ℕ) → Type 0) → KeepsKeys tells drawn drawn_now old new Ready Then → (tells → (keys : List (List ℕ)) → IsListed session old.present keys → Ready keys) → (tells → (keys : List (List ℕ)) → IsListed session old.present keys → Forgets old new) → (tells → (keys more : List (List ℕ)) → IsListed session old.present keys → Then (keys ++ more) → Done (keys ++ more)) → (tells → IsServedImage old.present → During old new IsServedImage) → Certified tells written written_now old new Going → (tells → (entry : State) → IsAt old.present session entry → KeepsFitting written written_now old new) → KeepsOn tells drawn drawn_now written written_now session old new Going Done
 on_call tells drawn drawn_now written written_now session old new Going Ready Then Done k ready forgets done serves certified fits = record {
   keys = keeps_from tells drawn drawn_now old new Ready (IsListed session old.present) Then Done k ready done;
   deleted = λ told keys kept h. deleted_call old new (forgets told keys h);
@@ -97,7 +97,7 @@ on_then tells drawn mid drawn_now written put written_now session between first 
   certified = certified_then tells written put written_now first second third Was Going was two.keys.extends one.certified two.certified;
   fits = λ told entry there.
       let now = through told entry there in
-      fitting_then written put written_now first.present second.present third.present (one.fits told entry there) (two.fits told now.0 now.1);
+      fitting_then written put written_now first second third (one.keys.extends told) (two.keys.extends told) (one.fits told entry there) (two.fits told now.0 now.1);
 }
 
 -- ---- calls of a session
@@ -125,8 +125,8 @@ on_update tells drawn drawn_now written held session old new Going Then Done is 
 pub on_commit : {X Y : Type 0} (tells : Type 0) (drawn drawn_now : Option (List (List ℕ))) (written written_now : Option (List ℕ)) (held : Option Session) (session : Session) (pages : ℕ) (old new : History) (result : Result X Y) (Going : Type 0) (Then Done : List (List ℕ) → Type 0) → held ≡ Some session
     → IsOpen session pages → (tells → old.present.cell ≡ Some (root_bytes session.root)) → Discloses tells drawn drawn_now old new (HoldsListed session old.present) Then
     → Certifies tells written written_now old new session.root.head (session.root.commit + 1) (IsOfCommit session old.present new.present) (IsOk result)
-    → (Going → IsOk result) → ((keys : List (List ℕ)) → Then keys → Done keys) → KeepsOn tells drawn drawn_now written written_now held old new Going Done
-on_commit tells drawn drawn_now written written_now held session pages old new result Going Then Done is there_open cell discloses certifies going done =
+    → (tells → PutsBehindPages written written_now old new) → (Going → IsOk result) → ((keys : List (List ℕ)) → Then keys → Done keys) → KeepsOn tells drawn drawn_now written written_now held old new Going Done
+on_commit tells drawn drawn_now written written_now held session pages old new result Going Then Done is there_open cell discloses certifies behind going done =
     on_call tells drawn drawn_now written written_now held old new Going (HoldsListed session old.present) Then Done discloses.keys
     (λ told keys h. listed_some held session old.present keys is h)
     (λ told keys h. discloses.forgets told keys (listed_some held session old.present keys is h))
@@ -134,20 +134,20 @@ on_commit tells drawn drawn_now written written_now held session pages old new r
     discloses.serves
     (certified_going tells written written_now old new (IsOk result) Going going
     (certified_commit tells written written_now old new session (IsOfCommit session old.present new.present) result there_open.served.in_range discloses.turns cell certifies))
-    (fitting_committed tells written written_now old new held session (IsOk result) is discloses.forgets certifies)
+    (fitting_committed tells written written_now old new held session (IsOk result) is discloses.forgets certifies behind)
 
 -- an upgrade where there is no session, whatever its answer: the image stands still
 pub on_upgrade : (tells : Type 0) (drawn drawn_now : Option (List (List ℕ))) (written written_now : Option (List ℕ)) (old new : History) (Made Going : Type 0) (Then Done : List (List ℕ) → Type 0)
-    → Discloses tells drawn drawn_now old new (λ keys. IsSound old.present) Then → CertifiesUpgrade tells written written_now old new Made → Certified tells written written_now old new Going → ((keys : List (List ℕ)) → IsSound new.present → Done keys)
+    → Discloses tells drawn drawn_now old new (λ keys. IsSound old.present) Then → CertifiesUpgrade tells written written_now old new Made → (tells → PutsBehindPages written written_now old new) → Certified tells written written_now old new Going → ((keys : List (List ℕ)) → IsSound new.present → Done keys)
     → KeepsOn tells drawn drawn_now written written_now None old new Going Done
-on_upgrade tells drawn drawn_now written written_now old new Made Going Then Done discloses certifies certified done =
+on_upgrade tells drawn drawn_now written written_now old new Made Going Then Done discloses certifies behind certified done =
     on_call tells drawn drawn_now written written_now None old new Going (λ keys. IsSound old.present) Then Done discloses.keys
     (λ told keys h. h)
     discloses.forgets
     (λ told keys more h then'. done (keys ++ more) (During-now old new IsSound (discloses.forgets told keys h).sound))
     discloses.serves
     certified
-    (fitting_upgraded tells written written_now old new Made (λ told. discloses.forgets told []) certifies)
+    (fitting_upgraded tells written written_now old new Made (λ told. discloses.forgets told []) certifies behind)
 
 -- without a session a mount finds the device
 pub mount_listed : (held : Option Session) (image : Image) (keys bytes : List (List ℕ)) (X : Type 0) (cell : List ℕ) → held ≡ None → image.cell ≡ Some cell → IsListed held image keys → ((device : Device) → Stands image (Some device) → X) → X

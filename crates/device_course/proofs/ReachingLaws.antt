@@ -19,6 +19,7 @@ use Rattle.device_course.specs.Keys.{KeepsOn}
 use Rattle.device_course.specs.Course.{Made}
 use Rattle.device_course.proofs.CourseLaws.{course_ended, course_discloses}
 use Rattle.device_course.proofs.FitsLaws.{leaves_fitting}
+use Rattle.device_course.proofs.MadeLaws.{made_stands}
 use Rattle.device_course.specs.Reaching.{Taken, WasTaken, ReachesUnion, DisclosesTree}
 
 -- what the root record of each moment reaches, those of several do together
@@ -69,8 +70,8 @@ discloses tells old new Going Done later on made = record {
 pub fits : (tells : Type 0) (old new : Outside) (Going : Type 0) (Done : List (List ℕ) → Type 0) → KeepsOn tells old.drawn new.drawn old.written new.written None old.history new.history Going Done
     → (tells → (device : Option Device) → Stands old.history.present device → IsServedImage old.history.present
     → (marks : List (Option Device)) × Made old.history new.history None (closed device) marks (closed (last_mark device marks)))
-    → tells → (device : Option Device) → Stands old.history.present device → IsServedImage old.history.present → LeavesFitting old.written new.written old.history.present new.history.present
+    → tells → (device : Option Device) → Stands old.history.present device → IsServedImage old.history.present → LeavesFitting old.written new.written old.history.present old.history new.history
 fits tells old new Going Done on made told device stands served =
     let m = made told device stands served in
-    leaves_fitting old.written new.written old.history.present new.history.present (last_mark device m.0) m.1.exits.there.device
+    leaves_fitting old.written new.written old.history new.history (made_stands old.history new.history None (closed device) (closed (last_mark device m.0)) m.0 m.1)
     (on.fits told (closed device) (record { there = record { device = stands; session = tt }; served = served }))

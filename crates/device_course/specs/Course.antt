@@ -54,4 +54,4 @@ pub record Promised (old new : Outside) (device : Option Device) (marks : List (
   pub handed : HandedOver grew old.history.present new.history.present
   pub discloses : (keys : List (List ℕ)) → Kept keys old.history.present → DisclosesBy keys grew old.history new.history
   pub certified : Certified (Unit {0}) old.written new.written old.history new.history ⊥
-  pub fits : LeavesFitting old.written new.written old.history.present new.history.present
+  pub fits : LeavesFitting old.written new.written old.history.present old.history new.history

@@ -20,4 +20,4 @@ pub record KeepsOn (tells : Type 0) (drawn drawn_now : Option (List (List ℕ)))
   pub deleted : tells → (keys : List (List ℕ)) → Kept keys old.present → IsListed session old.present keys → KeepsDeleted old new
   pub serves : tells → IsServedImage old.present → During old new IsServedImage
   pub certified : Certified tells written written_now old new Going
-  pub fits : tells → (entry : State) → IsAt old.present session entry → KeepsFitting written written_now old.present new.present
+  pub fits : tells → (entry : State) → IsAt old.present session entry → KeepsFitting written written_now old new

@@ -1,6 +1,6 @@
 -- Two runs together, of which the second opened what is left at one moment of the first.
-use Rattle.std.proofs.Common.{◌≡◌, ◌↔◌, ℕ, ◌<◌, ◌≤◌, min, List, [], ◌∷◌, ◌++◌, Option, Some, None, length, refl, sym, ◌∙◌, ap, subst, arith, append_assoc}
-use Rattle.std.specs.Prelude.{All, Contains}
+use Rattle.std.proofs.Common.{◌≡◌, ◌↔◌, ℕ, ◌<◌, ◌≤◌, min, List, [], ◌∷◌, ◌++◌, Option, Some, None, inl, inr, length, refl, sym, ◌∙◌, ap, subst, arith, append_assoc}
+use Rattle.std.specs.Prelude.{All, Contains, IsSome}
 use Rattle.std.proofs.lemmas.List.{take_all}
 use Rattle.std.proofs.lemmas.Option.{none-some}
 use Rattle.std.proofs.lemmas.List.Elements.{All-nil, All-cons, All-map, All-weaker, Contains-append_left}
@@ -30,6 +30,7 @@ use Rattle.page_store.proofs.FloorLaws.{floor_first, floor_below}
 use Rattle.device_terms.specs.Served.{IsServedImage}
 use Rattle.device_course.specs.Reaching.{DisclosesTree}
 use Rattle.device_course.specs.Fitting.{FitsImage, LeavesFitting}
+use Rattle.device_course.proofs.FitsLaws.{leaves_over}
 use Rattle.script_lang.specs.Answers.{IsMark}
 use Rattle.script_lang.specs.Replies.{Reply}
 use Rattle.script_lang.specs.Commands.{Command}
@@ -43,7 +44,7 @@ use Rattle.folder_platform.specs.Files.{Files}
 use Rattle.folder_platform.specs.Loss.{AreLeft, opened}
 use Rattle.folder_restart.proofs.StandingLaws.{stands_opened}
 use Rattle.folder_runs.specs.Chains.{ReachedOver, ReachedFirst, PremisesOver}
-use Rattle.folder_runs.specs.Restarts.{Resumes, GoesOnOver, IsOpenedAfter, ReachNoMoreOver, DisclosesOver, DisclosesRuns}
+use Rattle.folder_runs.specs.Restarts.{Resumes, GoesOnOver, AreLeftAtExit, IsOpenedAfter, ReachNoMoreOver, DisclosesOver, DisclosesRuns}
 use Rattle.folder_runs.proofs.ChainsOver.{over_first, over_second, over_grows, first_grows, reached_first, reached_second, reached_kept}
 use Rattle.folder_runs.proofs.ToldLaws.{told_lacks, told_so}
 use Rattle.folder_runs.proofs.Opened.{handed_first, kept_opened, served_opened, fits_opened, low_opened}
@@ -129,13 +130,31 @@ goes_on old mid status left left_now written written_now one there stands served
 
 -- ---- ledgers
 
-pub leaves_over : (written mid written_now : Option (List ℕ)) (old : Image) (between : History) (cut new : Image) (left : Files) (device : Option Device) → Stands between.present device → AreLeft between.present left → cut ≡ opened left
-    → LeavesFitting written mid old between.present → LeavesFitting mid written_now cut new → LeavesFitting written written_now old new
-leaves_over written mid written_now old between cut new left device stands are is a b = record {
-  put = a.put ++ b.put;
-  got = Got-then written a.put mid b.put written_now a.got b.got;
-  fits = λ text f. subst (λ (t : List ℕ). LeavesOnly (FitsImage t) new) (append_assoc text a.put b.put)
-      (b.fits (text ++ a.put) (subst (FitsImage (text ++ a.put)) (sym is) (fits_opened (text ++ a.put) between.present left device are stands (a.fits text f between.present (may-leave-now between)))));
+-- where the power is lost at the exit of a run, the image of some moment is what is opened then: it stands for a device, and with what was put the ledgers that fitted the
+-- image at the start fit it
+record FoundFitting (old between : History) (put : List ℕ) (left : Files) : Type 0 where
+  at : ℕ
+  from : moment old ≤ at
+  within : at ≤ moment between
+  are : AreLeft (image_at between at) left
+  fits : (text : List ℕ) → FitsImage text old.present → FitsImage (text ++ put) (image_at between at)
+
+found_fitting : (written mid : Option (List ℕ)) (old between : History) (left : Files) → Extends old between → AreLeftAtExit (IsSome written) old between left → (a : LeavesFitting written mid old.present old between) → FoundFitting old between a.put left
+found_fitting written mid old between left extends (inl are) a =
+    let last : image_at between (moment between) ≡ between.present = image_at-now between (moment between) (omega arith) in
+    record {
+      at = moment between;
+      from = extends.later;
+      within = omega arith;
+      are = subst (λ (image : Image). AreLeft image left) (sym last) are;
+      fits = λ text f. subst (FitsImage (text ++ a.put)) (sym last) ((a.fits text f).now between.present (may-leave-now between));
+    }
+found_fitting written mid old between left extends (inr (told, at)) a = record {
+  at = at.at;
+  from = at.from;
+  within = at.to;
+  are = at.are;
+  fits = λ text f. (a.fits text f).each told at.at at.from at.to at.all (image_at between at.at) (may_leave_itself between at.at);
 }
 
 -- ---- what is disclosed
@@ -331,13 +350,19 @@ discloses_runs tells tells' drawn between drawn_now at left old mid cut new stat
     }
 
 -- the ledger of both runs
-pub fits_over : (tells' : Type 0) (written mid_written written_now : Option (List ℕ)) (old mid : World) (cut new : Image) (status : ℕ) (given given_now put put_now : Option (List ℕ)) (left : Files) (there : Option Device)
+pub fits_over : (tells' : Type 0) (written mid_written written_now : Option (List ℕ)) (old mid : World) (cut new : History) (status : ℕ) (given given_now put put_now : Option (List ℕ)) (left : Files) (there : Option Device)
     → tells' → (one : AnswersScript (Unit {0}) old mid status given given_now put put_now) → StandsFor old.history.present there → IsServedImage old.history.present
-    → AreLeft mid.history.present left → cut ≡ opened left → LeavesFitting written mid_written old.history.present mid.history.present
-    → (tells' → (there : Option Device) → StandsFor cut there → IsServedImage cut → LeavesFitting mid_written written_now cut new)
-    → LeavesFitting written written_now old.history.present new
+    → AreLeftAtExit (IsSome written) old.history mid.history left → cut.present ≡ opened left → LeavesFitting written mid_written old.history.present old.history mid.history
+    → (tells' → (there : Option Device) → StandsFor cut.present there → IsServedImage cut.present → LeavesFitting mid_written written_now cut.present cut new)
+    → LeavesFitting written written_now old.history.present cut new
 fits_over tells' written mid_written written_now old mid cut new status given given_now put put_now left there told' one stands served are is first second =
-    let exits = (one.answered tt there stands served).exits in
-    let found : StandsFor cut exits.there = subst (λ (x : Image). Stands x exits.there) (sym is) (stands_opened mid.history.present left are exits.there exits.stands) in
-    let can : IsServedImage cut = subst IsServedImage (sym is) (served_opened mid.history.present left exits.there are exits.stands) in
-    leaves_over written mid_written written_now old.history.present mid.history cut new left exits.there exits.stands are is first (second told' exits.there found can)
+    let passes = (one.answered tt there stands served).passes in
+    let found = found_fitting written mid_written old.history mid.history left passes.extends are first in
+    let image = image_at mid.history found.at in
+    let mark = passes.each found.at found.from found.within in
+    let stood : Stands image mark.0 = mark.2 image (may_leave_itself mid.history found.at) in
+    let found_there : StandsFor cut.present mark.0 = subst (λ (x : Image). Stands x mark.0) (sym is) (stands_opened image left found.are mark.0 stood) in
+    let can : IsServedImage cut.present = subst IsServedImage (sym is) (served_opened image left mark.0 found.are stood) in
+    leaves_over written mid_written written_now old.history.present cut.present cut new first.put first.got
+    (λ text f. subst (FitsImage (text ++ first.put)) (sym is) (fits_opened (text ++ first.put) image left mark.0 found.are stood (found.fits text f)))
+    (second told' mark.0 found_there can)

@@ -1,5 +1,5 @@
 -- A run over the files that a loss of power left of another one.
-use Rattle.std.specs.Prelude.{◌≡◌, ◌≤◌, ◌<◌, ◌↔◌, ◌∷◌, [], ◌++◌, ◌+◌, ℕ, min, List, Option, All, Contains, length}
+use Rattle.std.specs.Prelude.{◌≡◌, ◌≤◌, ◌<◌, ◌↔◌, ◌⊎◌, ◌∷◌, [], ◌++◌, ◌+◌, ℕ, min, List, Option, All, Contains, length}
 use Rattle.sdbt_base.specs.Arrays.{State, Device, closed}
 use Rattle.sdbt_base.specs.Keys.{bare}
 use Rattle.platform.specs.Image.{Image}
@@ -18,7 +18,7 @@ use Rattle.device_cli.specs.Represents.{StandsFor}
 use Rattle.device_cli.specs.Ran.{AnswersScript}
 use Rattle.two_runs.specs.TwoRuns.{GoesOnFrom, HasCause}
 use Rattle.folder_platform.specs.Files.{Files}
-use Rattle.folder_platform.specs.Loss.{AreLeft, opened}
+use Rattle.folder_platform.specs.Loss.{AreLeft, IsLeftAt, opened}
 use Rattle.folder_runs.specs.Chains.{ReachedOver, ReachedFirst, PremisesOver}
 
 -- ---- answers
@@ -57,6 +57,13 @@ pub record HaveCausesOver (first second : ℕ) (before : Counts) (platform input
   pub between : Counts
   pub one : HasCause first before (record between { platform = platform; input = input })
   pub two : HasCause second (record between { platform = restarted; input = other }) now
+
+-- ---- ledgers
+
+-- the files are what is left where the power is lost at the exit of a run: by the image of then, or, where that is told, by the image of a moment since when no page was
+-- handed over, whose root record is found
+abbrev pub AreLeftAtExit : Type 0 → History → History → Files → Type 0
+AreLeftAtExit tells old new left = AreLeft new.present left ⊎ (tells × IsLeftAt old new new.present.recorded left)
 
 -- ---- what pages disclose
 

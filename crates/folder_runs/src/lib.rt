@@ -1,7 +1,7 @@
 //! Two runs over folders, or over a folder and a cell in place: the second one opens what a loss of power left of the first.
 #![tactic(auto)]
 
-ghost use Rattle.std.specs.Prelude.{◌≡◌, ◌++◌, ℕ, List, Option, None};
+ghost use Rattle.std.specs.Prelude.{◌≡◌, ◌++◌, ℕ, List, Option, None, IsSome};
 ghost use Rattle.sdbt_base.specs.Arrays.{Device};
 ghost use Rattle.device_terms.specs.Served.{IsServedImage};
 ghost use Rattle.device_course.specs.Fitting.{LeavesFitting};
@@ -12,8 +12,8 @@ ghost use Rattle.folder_platform.specs.Files.{Files};
 ghost use Rattle.folder_platform.specs.Events.{Event};
 ghost use Rattle.folder_platform.specs.Model.{replay};
 ghost use Rattle.folder_platform.specs.Sequences.{opening, AreOpened};
-ghost use Rattle.folder_platform.specs.Loss.{MayHold, AreLeft, IsLeftAt, opened};
-ghost use Rattle.folder_runs.specs.Restarts.{RunsOver, IsOpenedAfter, DisclosesRuns, HaveCausesOver};
+ghost use Rattle.folder_platform.specs.Loss.{MayHold, IsLeftAt, opened};
+ghost use Rattle.folder_runs.specs.Restarts.{RunsOver, AreLeftAtExit, IsOpenedAfter, DisclosesRuns, HaveCausesOver};
 
 use device_cli::run_main;
 use folder_platform::{CellCalls, FolderPlatform};
@@ -53,14 +53,14 @@ pub fn run_twice<C: CellCalls + Drop, D: CellCalls + Drop, T: Tape, I: Source, O
         → DisclosesRuns (T.drawn tape.old) (T.drawn tape.new) at
         (⟦<FolderPlatform<C> as Platform>⟧.history platform.old) (⟦<FolderPlatform<C> as Platform>⟧.history platform.new)
         (⟦<FolderPlatform<D> as Platform>⟧.history restarted.old) (⟦<FolderPlatform<D> as Platform>⟧.history restarted.new) }
-    // Where the power is lost at the exit of the first one, and its last root record is found, a ledger that the checker accepted at the start is accepted,
-    // with the entries of both, for all that is left at the end.
+    // Where the power is lost at the exit of the first one, whichever root record is found, a ledger that tells what it got, and that the checker accepted at the
+    // start, is accepted, with the entries of both, for all that is left at the end of the second, whichever root record is found there.
     ensures fits { ⟦<FolderPlatform<C> as Platform>⟧.tells → ⟦<FolderPlatform<D> as Platform>⟧.tells → (there : Option Device)
         → StandsFor (⟦<FolderPlatform<C> as Platform>⟧.history platform.old).present there → IsServedImage (⟦<FolderPlatform<C> as Platform>⟧.history platform.old).present
-        → (left : Files) → AreLeft (⟦<FolderPlatform<C> as Platform>⟧.history platform.new).present left
+        → (left : Files) → AreLeftAtExit (IsSome (L.written ledger.old)) (⟦<FolderPlatform<C> as Platform>⟧.history platform.old) (⟦<FolderPlatform<C> as Platform>⟧.history platform.new) left
         → (⟦<FolderPlatform<D> as Platform>⟧.history restarted.old).present ≡ opened left
-        → LeavesFitting (L.written ledger.old) (L.written ledger.new)
-        (⟦<FolderPlatform<C> as Platform>⟧.history platform.old).present (⟦<FolderPlatform<D> as Platform>⟧.history restarted.new).present }
+        → LeavesFitting (L.written ledger.old) (L.written ledger.new) (⟦<FolderPlatform<C> as Platform>⟧.history platform.old).present
+        (⟦<FolderPlatform<D> as Platform>⟧.history restarted.old) (⟦<FolderPlatform<D> as Platform>⟧.history restarted.new) }
     // Each status that names an object comes only where the count of faults of that object rose in that run.
     ensures causes { HaveCausesOver result.0 result.1
         (counts (⟦<FolderPlatform<C> as Platform>⟧.faults platform.old) (T.faults tape.old) (I.faults first.old) (O.faults output.old) (L.faults ledger.old))

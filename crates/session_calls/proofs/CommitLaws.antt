@@ -1,5 +1,5 @@
 -- What a commit says, by what the session's commit says; and which devices it makes.
-use Rattle.std.proofs.Common.{◌≡◌, ◌+◌, ◌-◌, ◌<◌, ◌≤◌, ℕ, [], ◌∷◌, Bool, true, false, None, Some, Err, inl, inr, refl, sym, ◌∙◌, subst, ap, arith}
+use Rattle.std.proofs.Common.{◌≡◌, ◌+◌, ◌-◌, ◌<◌, ◌≤◌, ℕ, List, [], ◌∷◌, Bool, Option, length, true, false, None, Some, Err, inl, inr, refl, sym, ◌∙◌, subst, ap, arith}
 use Rattle.std.specs.Prelude.{◌⊎◌}
 use Rattle.std.proofs.lemmas.Bool.{cases_Bool, cases_lt}
 use Rattle.sdbt_base.specs.Arrays.{Blocks, Device, Session as OpenSession, State, closed, committed, committed_if, mounted}
@@ -10,10 +10,13 @@ use Rattle.platform.specs.History.{During, History, Turns}
 use Rattle.platform.proofs.Moments.{During-now, LeavesOnly-now, Turns-not}
 use Rattle.page_store.specs.Stands.{Stands}
 use Rattle.page_store.proofs.StandsLaws.{stands_during}
+use Rattle.device_terms.specs.Certifying.{PutsSynced}
 use Rattle.device_terms.specs.Served.{IsServedImage}
 use Rattle.device_course.specs.Course.{Made}
 use Rattle.device_course.specs.Marks.{Leaves}
 use Rattle.device_course.specs.States.{IsAt}
+use Rattle.device_course.specs.Fitting.{PutsBehindPages}
+use Rattle.device_course.proofs.FitsLaws.{behind_added}
 use Rattle.device_course.proofs.MadeLaws.{made_none, made_one, made_same, made_stopped, shut, stayed}
 use Rattle.device_session.specs.Holds.{Holds}
 use Rattle.device_session.specs.Open.{IsOpen, is_touched, needed_by, number_of}
@@ -24,7 +27,7 @@ use Rattle.device_session.specs.declared.refusals.CommitFault.{CommitFault}
 use Rattle.device_session.specs.declared.refusals.CommitFault.TheVariants as faults
 use Rattle.device_session.specs.declared.refusals.CommitReply.{CommitReply}
 use Rattle.device_session.specs.declared.refusals.CommitReply.TheVariants as replies
-use Rattle.device_session.proofs.CountLaws.{needs_none}
+use Rattle.device_session.proofs.CountLaws.{needs_none, needs_some}
 use Rattle.sdbt_base.specs.Counts.{Counts}
 use Rattle.session_calls.specs.Blame.{HasCause}
 use Rattle.session_calls.specs.Commits.{AnswersReply, CommitLeads, HasNumber, LeavesLedger, LeftAt, ReplyLeads, stop_of_fault}
@@ -181,3 +184,12 @@ stop_made old new session device array stop at served led = cases stop led
     cases stops.Memory during = inl (none during)
     cases stops.BadRoot led = absurd led
     cases (stops.BadRecord addr) led = absurd led
+
+-- the ledger gets something only behind pages: where something was changed a commit needs some, and else the ledger is as it was
+pub commit_behind : {S W : Type 0} (P : PlatformGhosts S) (written : W → Option (List ℕ)) (platform platform_now : S) (ledger ledger_now : W) (session : Session) → (P.tells → (there : S) → length (P.history there).present.recorded ≡ P.head there)
+    → IsOpen session (P.head platform) → (is_touched session ≡ false → ledger_now ≡ ledger) → PutsSynced P (needed_by session) platform platform_now ledger ledger_now
+    → P.tells → PutsBehindPages (written ledger) (written ledger_now) (P.history platform) (P.history platform_now)
+commit_behind P written platform platform_now ledger ledger_now session counts there_open idle synced = elim (cases_Bool (is_touched session)) [
+  | inl touched ↦ behind_added P written (needed_by session) platform platform_now ledger ledger_now counts (needs_some session (P.head platform) there_open touched) synced
+  | inr untouched ↦ behind_added P written 1 platform platform_now ledger ledger_now counts (omega arith) (inl (idle untouched))
+]

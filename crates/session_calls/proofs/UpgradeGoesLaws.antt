@@ -1,5 +1,5 @@
 -- What an upgrade does to a run, by what the device's upgrade does: whom it blames, what it adds and puts, and what it keeps.
-use Rattle.std.proofs.Common.{◌≡◌, ◌+◌, ◌≤◌, ℕ, List, Option, Result, Ok, Err, inl, inr, arith}
+use Rattle.std.proofs.Common.{◌≡◌, ◌+◌, ◌≤◌, ℕ, List, Option, Result, Ok, Err, inl, inr, length, arith}
 use Rattle.std.specs.Prelude.{◌⊎◌, IfOk, IfErr, IsErrOf, IsOk, OnOk}
 use Rattle.sdbt_base.specs.Counts.{Counts, counts}
 use Rattle.sdbt_base.specs.declared.sinks.Sink.{Ghosts as SinkGhosts}
@@ -14,6 +14,7 @@ use Rattle.device_core.specs.declared.refusals.UpgradeRefusal.{UpgradeRefusal}
 use Rattle.device_core.specs.declared.refusals.UpgradeRefusal.TheVariants as upgrade
 use Rattle.device_course.specs.Certified.{Certified}
 use Rattle.device_course.proofs.CertifiedLaws.{certified_unput, certified_upgrade}
+use Rattle.device_course.proofs.FitsLaws.{behind_upgrade}
 use Rattle.device_course.proofs.KeysLaws.{on_upgrade}
 use Rattle.session_calls.specs.Blame.{HasCause}
 use Rattle.session_calls.specs.Upgrades.{AddsNeeded, PutsFor, UpgradeGoes, answer_of_refusal}
@@ -105,9 +106,9 @@ pub refused_goes : {S R W : Type 0} (P : PlatformGhosts S) (T : TapeGhosts R) (L
     → Refuses refusal upgrade.PlatformFault ⊎ (Refuses refusal upgrade.LedgerFault ⊎ (L.written ledger_now ≡ L.written ledger))
     → Discloses P.tells (T.drawn tape) (T.drawn tape_now) (P.history platform) (P.history platform_now) (λ keys. IsSound (P.history platform).present) Then
     → CertifiesUpgrade P.tells (L.written ledger) (L.written ledger_now) (P.history platform) (P.history platform_now) (IsOk {T = ℕ} {E = UpgradeRefusal} (Err refusal))
-    → PutsUpgrade P platform platform_now ledger ledger_now → Grows P T L platform platform_now tape tape_now ledger ledger_now
+    → (P.tells → (there : S) → length (P.history there).present.recorded ≡ P.head there) → PutsUpgrade P platform platform_now ledger ledger_now → Grows P T L platform platform_now tape tape_now ledger ledger_now
     → UpgradeGoes P T L platform platform_now tape tape_now ledger ledger_now (answer_of_refusal refusal)
-refused_goes P T L platform platform_now tape tape_now ledger ledger_now refusal Then cause unput discloses certifies synced grows =
+refused_goes P T L platform platform_now tape tape_now ledger ledger_now refusal Then cause unput discloses certifies counted synced grows =
     let old : History = P.history platform in
     let new : History = P.history platform_now in
     let before : Counts = counts (P.faults platform) (T.faults tape) 0 0 (L.faults ledger) in
@@ -118,7 +119,7 @@ refused_goes P T L platform platform_now tape tape_now ledger ledger_now refusal
       capacity = grows.1;
       rises = grows.0;
       adds = refusal_adds P T platform platform_now tape tape_now before now refusal cause;
-      keeps = on_upgrade P.tells (T.drawn tape) (T.drawn tape_now) (L.written ledger) (L.written ledger_now) old new _ (IsOk (answer_of_refusal refusal)) Then (λ keys. IfOk (answer_of_refusal refusal) (λ reply. IsSound new.present)) discloses certifies
+      keeps = on_upgrade P.tells (T.drawn tape) (T.drawn tape_now) (L.written ledger) (L.written ledger_now) old new _ (IsOk (answer_of_refusal refusal)) Then (λ keys. IfOk (answer_of_refusal refusal) (λ reply. IsSound new.present)) discloses certifies (behind_upgrade P L.written platform platform_now ledger ledger_now counted synced)
           (refusal_certified P T platform platform_now tape tape_now before now (L.written ledger) (L.written ledger_now) refusal cause puts
           (certified_upgrade {X = ℕ} {Y = UpgradeRefusal} P.tells (L.written ledger) (L.written ledger_now) old new (Err refusal) discloses.turns certifies))
           (λ keys sound. if_done (answer_of_refusal refusal) (IsSound new.present) sound);
@@ -136,16 +137,16 @@ pub upgraded_goes : {S R W : Type 0} (P : PlatformGhosts S) (T : TapeGhosts R) (
     → counts (P.faults platform_now) (T.faults tape_now) 0 0 (L.faults ledger_now) ≡ counts (P.faults platform) (T.faults tape) 0 0 (L.faults ledger)
     → Discloses P.tells (T.drawn tape) (T.drawn tape_now) (P.history platform) (P.history platform_now) (λ keys. IsSound (P.history platform).present) Then
     → CertifiesUpgrade P.tells (L.written ledger) (L.written ledger_now) (P.history platform) (P.history platform_now) (IsOk {T = ℕ} {E = UpgradeRefusal} (Ok number))
-    → PutsUpgrade P platform platform_now ledger ledger_now → Grows P T L platform platform_now tape tape_now ledger ledger_now
+    → (P.tells → (there : S) → length (P.history there).present.recorded ≡ P.head there) → PutsUpgrade P platform platform_now ledger ledger_now → Grows P T L platform platform_now tape tape_now ledger ledger_now
     → UpgradeGoes P T L platform platform_now tape tape_now ledger ledger_now (Ok (replies.Upgraded number))
-upgraded_goes P T L platform platform_now tape tape_now ledger ledger_now number root Then begins adds quiet discloses certifies synced grows =
+upgraded_goes P T L platform platform_now tape tape_now ledger ledger_now number root Then begins adds quiet discloses certifies counted synced grows =
     let old : History = P.history platform in
     let new : History = P.history platform_now in
     record {
       capacity = grows.1;
       rises = grows.0;
       adds = inr (root, begins, omega (arith, adds));
-      keeps = on_upgrade P.tells (T.drawn tape) (T.drawn tape_now) (L.written ledger) (L.written ledger_now) old new _ _ Then (λ keys. IsSound new.present) discloses certifies
+      keeps = on_upgrade P.tells (T.drawn tape) (T.drawn tape_now) (L.written ledger) (L.written ledger_now) old new _ _ Then (λ keys. IsSound new.present) discloses certifies (behind_upgrade P L.written platform platform_now ledger ledger_now counted synced)
           (certified_upgrade {X = ℕ} {Y = UpgradeRefusal} P.tells (L.written ledger) (L.written ledger_now) old new (Ok number) discloses.turns certifies)
           (λ keys sound. sound);
       blame = record {

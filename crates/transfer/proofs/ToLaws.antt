@@ -15,6 +15,7 @@ use Rattle.device_terms.specs.Effects.{Discloses}
 use Rattle.device_terms.specs.Served.{IsServedImage}
 use Rattle.device_terms.proofs.MomentLaws.{still}
 use Rattle.device_course.specs.Course.{Made, Promised}
+use Rattle.device_course.specs.Fitting.{PutsBehindPages}
 use Rattle.device_course.specs.Keys.{KeepsOn}
 use Rattle.device_course.specs.Marks.{Leaves, last_mark}
 use Rattle.device_course.specs.States.{IsAt, IsLater, IsListed, Outside}
@@ -131,12 +132,12 @@ pub record Formatted (tells : Type 0) (blocks order : ℕ) (old new : Outside) :
 -- what a format keeps, whatever its answer
 pub format_keeps : {X Y : Type 0} (tells : Type 0) (drawn drawn_now : Option (List (List ℕ))) (written written_now : Option (List ℕ)) (old new : History) (base : ℕ) (result : Result X Y) (Going : Type 0) (Done : List (List ℕ) → Type 0)
     → Discloses tells drawn drawn_now old new (λ keys. IsSound old.present) (λ keys. ⊤) → (tells → old.present.cell ≢ None → CellStays old new) → (tells → IsOk result → old.present.cell ≡ None)
-    → Certifies tells written written_now old new base 0 (IsOfFormat old.present new.present) (IsOk result) → (Going → IsOk result) → (tells → (keys : List (List ℕ)) → Done keys)
+    → Certifies tells written written_now old new base 0 (IsOfFormat old.present new.present) (IsOk result) → (tells → PutsBehindPages written written_now old new) → (Going → IsOk result) → (tells → (keys : List (List ℕ)) → Done keys)
     → KeepsOn tells drawn drawn_now written written_now None old new Going Done
-format_keeps tells drawn drawn_now written written_now old new base result Going Done discloses full empty certifies going done =
+format_keeps tells drawn drawn_now written written_now old new base result Going Done discloses full empty certifies behind going done =
     on_call tells drawn drawn_now written written_now None old new Going (λ keys. IsSound old.present) (λ keys. ⊤) Done discloses.keys (λ told keys h. h) (λ told keys h. discloses.forgets told keys h) (λ told keys more h then'. done told (keys ++ more)) discloses.serves
     (certified_going tells written written_now old new (IsOk result) Going going (certified_format tells written written_now old new base (IsOfFormat old.present new.present) result discloses.turns full empty certifies))
-    (fitting_formatted tells written written_now old new None base (IsOk result) (λ told sound. discloses.forgets told [] sound) certifies)
+    (fitting_formatted tells written written_now old new None base (IsOk result) (λ told sound. discloses.forgets told [] sound) certifies behind)
 
 -- where the cell is empty there is no device
 none_there : (image : Image) (there : Option Device) → image.cell ≡ None → Stands image there → there ≡ None
@@ -152,13 +153,13 @@ formatted_made blocks order old new there empty stands stands_now served turns =
 -- by the clauses of a format that was done
 pub formatted_of : {X : Type 0} (Y : Type 0) (tells : Type 0) (blocks order : ℕ) (old new : Outside) (base : ℕ) (x : X) → new.capacity ≡ old.capacity → old.head ≤ new.head
     → Discloses tells old.drawn new.drawn old.history new.history (λ keys. IsSound old.history.present) (λ keys. ⊤) → (tells → old.history.present.cell ≢ None → CellStays old.history new.history) → (tells → old.history.present.cell ≡ None)
-    → Certifies tells old.written new.written old.history new.history base 0 (IsOfFormat old.history.present new.history.present) (IsOk {T = X} {E = Y} (Ok x))
+    → Certifies tells old.written new.written old.history new.history base 0 (IsOfFormat old.history.present new.history.present) (IsOk {T = X} {E = Y} (Ok x)) → (tells → PutsBehindPages old.written new.written old.history new.history)
     → (tells → Stands new.history.present (Some (new_device blocks order))) → (tells → IsServedImage new.history.present)
     → (tells → (there : Option Device) → Stands old.history.present there → Turns old.history new.history (Leaves there) (Leaves (Some (new_device blocks order)))) → Formatted tells blocks order old new
-formatted_of {X = X} Y tells blocks order old new base x capacity rises disclosed full empty certifies stands_now served_now turns = record {
+formatted_of {X = X} Y tells blocks order old new base x capacity rises disclosed full empty certifies behind stands_now served_now turns = record {
   capacity = capacity;
   rises = rises;
-  keeps = format_keeps {X = X} {Y = Y} tells old.drawn new.drawn old.written new.written old.history new.history base (Ok x) (Unit {0}) (IsListed None new.history.present) disclosed full (λ told ok. empty told) certifies (λ going. refl)
+  keeps = format_keeps {X = X} {Y = Y} tells old.drawn new.drawn old.written new.written old.history new.history base (Ok x) (Unit {0}) (IsListed None new.history.present) disclosed full (λ told ok. empty told) certifies behind (λ going. refl)
       (λ told keys. (Some (new_device blocks order), stands_now told));
   made = λ told there stands served. formatted_made blocks order old.history new.history there (empty told) stands (stands_now told) (served_now told) (turns told there stands);
 }

@@ -43,7 +43,7 @@ pub fn run_twice<T: Tape, I: Source, O: Sink, L: Sink>(
         (O.written output.old) (O.written output.new) }
     // A ledger that the checker accepted at the start is accepted, with the entries of both runs, for all that is left at the end.
     ensures fits { (there : Option Device) → StandsFor (mem_history platform.old).present there → IsServedImage (mem_history platform.old).present
-        → LeavesFitting (L.written ledger.old) (L.written ledger.new) (mem_history platform.old).present (mem_history platform.new).present }
+        → LeavesFitting (L.written ledger.old) (L.written ledger.new) (mem_history platform.old).present (mem_history platform.new) (mem_history platform.new) }
     // Each status that names an object comes only where the count of faults of that object rose in that run, and that of no other; at 0 none rose.
     ensures causes { HaveCauses result.0 result.1
         (counts (faults_of platform.old) (T.faults tape.old) (I.faults first.old) (O.faults output.old) (L.faults ledger.old))

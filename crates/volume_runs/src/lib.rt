@@ -38,7 +38,7 @@ pub fn run_volumes_twice<T: Tape, I: Source, O: Sink, L: Sink>(
         (in_memory T.Tape I.Source O.Sink L.Sink platform.new tape.new second.new output.new ledger.new) }
     // A ledger that the checker accepted at the start is accepted, with the entries of both runs, for all that is left at the end.
     ensures fits { (there : Device) → Stands (mem_history platform.old).present (Some there) → IsServedImage (mem_history platform.old).present
-        → LeavesFitting (L.written ledger.old) (L.written ledger.new) (mem_history platform.old).present (mem_history platform.new).present }
+        → LeavesFitting (L.written ledger.old) (L.written ledger.new) (mem_history platform.old).present (mem_history platform.new) (mem_history platform.new) }
 {
     let status = run_volumes(alloc, &[], platform, tape, first, output, ledger);
     lose_power(platform, torn);

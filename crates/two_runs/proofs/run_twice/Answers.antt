@@ -3,7 +3,7 @@ use Rattle.platform.specs.Mem.{mem_history, image_of_now, capacity_of, reads_of}
 use Rattle.platform.proofs.Moments.{During-now}
 use Rattle.device_terms.specs.Served.{IsServedImage}
 use Rattle.device_cli.specs.World.{World, world}
-use Rattle.device_course.proofs.FitsLaws.{leaves_then}
+use Rattle.device_course.proofs.FitsLaws.{leaves_last, leaves_then}
 use Rattle.two_runs.proofs.LossLaws.{goes_on, anywhere, discloses_twice, served_left}
 use Rattle.two_runs.proofs.run_twice.Goals as goal
 
@@ -39,7 +39,8 @@ returns-clause-fits g c there stands served =
     let left = served_left (image_of_now c.run_main-status.new.platform) (image_of_now c.lose_power.new.platform) c.lose_power.ensures.left.may
     (During-now (mem_history c.args.platform.now) (mem_history c.run_main-status.new.platform) IsServedImage (c.run_main-status.ensures.stays.served tt served)) in
     let next = goes_on old mid cut new _ _ _ _ _ _ _ _ _ (c.run_main-status.ensures.serves tt).answers c.lose_power.ensures.left.may (c.run_main-other.ensures.serves tt).answers there stands served left in
-    leaves_then (g.L.Sink.written c.args.ledger.now) (g.L.Sink.written c.run_main-status.new.ledger) (g.L.Sink.written c.run_main-other.new.ledger)
-    old.history.present mid.history.present cut.history.present new.history.present
+    leaves_last (g.L.Sink.written c.args.ledger.now) (g.L.Sink.written c.run_main-other.new.ledger) old.history.present cut.history new.history
+    (leaves_then (g.L.Sink.written c.args.ledger.now) (g.L.Sink.written c.run_main-status.new.ledger) (g.L.Sink.written c.run_main-other.new.ledger)
+    old.history mid.history cut.history new.history old.history.present
     (c.run_main-status.ensures.ledger.fits tt there stands served) c.lose_power.ensures.left.may
-    (c.run_main-other.ensures.ledger.fits tt next.goes.between next.goes.stands left)
+    (c.run_main-other.ensures.ledger.fits tt next.goes.between next.goes.stands left))

@@ -4,7 +4,7 @@ use Rattle.platform.proofs.Moments.{During-now}
 use Rattle.page_store.proofs.KeepingLaws.{drew_then}
 use Rattle.page_store.proofs.StandsLaws.{stands_left}
 use Rattle.device_terms.specs.Served.{IsServedImage}
-use Rattle.device_course.proofs.FitsLaws.{leaves_then}
+use Rattle.device_course.proofs.FitsLaws.{leaves_last, leaves_then}
 use Rattle.device_course.specs.Held.{Held}
 use Rattle.volumes.specs.Starting.{IsStart}
 use Rattle.volume_runs.specs.Runs.{IsFreeOn, in_memory}
@@ -70,7 +70,8 @@ returns-clause-fits g c there stands served =
     let ended = ended_with old.outside mid.outside ran.halted old.left mid.left old.written ran.written_then ran.serves (fresh_on old.outside there) (start_of old.outside there stands served) in
     let left = served_left (image_of_now one.platform) (image_of_now c.lose_power.new.platform) lost
     (During-now (mem_history c.args.platform.now) (mem_history one.platform) IsServedImage (c.run_volumes-status.ensures.stays.served tt served)) in
-    leaves_then (g.L.Sink.written c.args.ledger.now) (g.L.Sink.written one.ledger) (g.L.Sink.written c.run_volumes-other.new.ledger)
-    (mem_history c.args.platform.now).present (mem_history one.platform).present (mem_history c.lose_power.new.platform).present (mem_history c.run_volumes-other.new.platform).present
+    leaves_last (g.L.Sink.written c.args.ledger.now) (g.L.Sink.written c.run_volumes-other.new.ledger) (mem_history c.args.platform.now).present (mem_history c.lose_power.new.platform) (mem_history c.run_volumes-other.new.platform)
+    (leaves_then (g.L.Sink.written c.args.ledger.now) (g.L.Sink.written one.ledger) (g.L.Sink.written c.run_volumes-other.new.ledger)
+    (mem_history c.args.platform.now) (mem_history one.platform) (mem_history c.lose_power.new.platform) (mem_history c.run_volumes-other.new.platform) (mem_history c.args.platform.now).present
     (c.run_volumes-status.ensures.ledger.fits tt (Some there) stands served) lost
-    (c.run_volumes-other.ensures.ledger.fits tt (Some ended.0) (stands_left (image_of_now one.platform) (image_of_now c.lose_power.new.platform) (Some ended.0) lost ended.1) left)
+    (c.run_volumes-other.ensures.ledger.fits tt (Some ended.0) (stands_left (image_of_now one.platform) (image_of_now c.lose_power.new.platform) (Some ended.0) lost ended.1) left))

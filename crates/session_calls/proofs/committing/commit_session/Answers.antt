@@ -10,7 +10,7 @@ use Rattle.sdbt_base.specs.Counts.{Counts, counts}
 use Rattle.session_calls.specs.Blame.{HasCause}
 use Rattle.session_calls.specs.Commits.{CommitLeads, LeavesLedger, LeftAt}
 use Rattle.session_calls.specs.declared.stops.DeviceStop.{DeviceStop}
-use Rattle.session_calls.proofs.CommitLaws.{fault_blamed, fault_leads, fault_left, fault_unput, reply_answers, reply_leads}
+use Rattle.session_calls.proofs.CommitLaws.{commit_behind, fault_blamed, fault_leads, fault_left, fault_unput, reply_answers, reply_leads}
 use Rattle.session_calls.proofs.committing.commit_session.Goals as goal
 
 pub returns-in-Ok-clause-goes : goal.returns-in-Ok-clause-goes
@@ -29,7 +29,8 @@ returns-in-Ok-clause-goes g c =
       capacity = commits.grows.capacity;
       rises = commits.grows.rises;
       adds = commits.grows.at_most;
-      keeps = on_commit {X = CommitReply} {Y = CommitFault} _ _ _ _ _ (Some c.args.session) c.args.session _ _ _ (Ok c.in-Ok.reply) _ _ _ refl c.requires.open (λ told. (c.requires.mounted told).cell) commits.discloses commits.certifies (λ going. going) (λ keys done. done);
+      keeps = on_commit {X = CommitReply} {Y = CommitFault} _ _ _ _ _ (Some c.args.session) c.args.session _ _ _ (Ok c.in-Ok.reply) _ _ _ refl c.requires.open (λ told. (c.requires.mounted told).cell) commits.discloses commits.certifies
+          (commit_behind g.P.Platform g.L.Sink.written _ _ _ _ c.args.session g.met.P.Platform.counts_pages c.requires.open (λ e. (c.in-Ok.ensures.idle e).3) commits.synced) (λ going. going) (λ keys done. done);
       blame = record {
         fell = record { platform = commits.grows.platform_faults; tape = commits.grows.tape_faults; input = omega arith; output = omega arith; ledger = commits.grows.ledger_faults };
         quiet = commits.quiet;
@@ -48,7 +49,8 @@ returns-in-Err-clause-goes g c =
       capacity = commits.grows.capacity;
       rises = commits.grows.rises;
       adds = commits.grows.at_most;
-      keeps = on_commit {X = CommitReply} {Y = CommitFault} _ _ _ _ _ (Some c.args.session) c.args.session _ _ _ (Err c.in-Err.fault) _ _ _ refl c.requires.open (λ told. (c.requires.mounted told).cell) commits.discloses commits.certifies (λ going. going) (λ keys done. done);
+      keeps = on_commit {X = CommitReply} {Y = CommitFault} _ _ _ _ _ (Some c.args.session) c.args.session _ _ _ (Err c.in-Err.fault) _ _ _ refl c.requires.open (λ told. (c.requires.mounted told).cell) commits.discloses commits.certifies
+          (commit_behind g.P.Platform g.L.Sink.written _ _ _ _ c.args.session g.met.P.Platform.counts_pages c.requires.open (λ e. (c.in-Err.ensures.idle e).3) commits.synced) (λ going. going) (λ keys done. done);
       blame = record {
         fell = record { platform = commits.grows.platform_faults; tape = commits.grows.tape_faults; input = omega arith; output = omega arith; ledger = commits.grows.ledger_faults };
         quiet = tt;

@@ -22,7 +22,7 @@ use Rattle.platform.specs.declared.platforms.Platform.{Ghosts as PlatformGhosts}
 use Rattle.device_core.specs.Publishing.{IsFormatCause}
 use Rattle.device_core.specs.declared.refusals.FormatRefusal.{FormatRefusal}
 use Rattle.device_course.proofs.CertifiedLaws.{certified_going, certified_unput, certified_format}
-use Rattle.device_course.proofs.FitsLaws.{fitting_formatted}
+use Rattle.device_course.proofs.FitsLaws.{behind_added, fitting_formatted}
 use Rattle.device_course.proofs.KeysLaws.{on_look, on_call, sound_of, listed_image, listed_keys, format_listed}
 use Rattle.device_cli.proofs.CellLaws.{ready_later}
 use Rattle.device_cli.proofs.Choices.{on_ok}
@@ -125,25 +125,25 @@ returns-then-not-is_in_limits-clause-answered g c told entry rep =
     (c.refuse_format.ensures.replies told) c.refuse_format.ensures.cause.0 (c.refuse_format.ensures.image told) (c.refuse_format.ensures.time told) past refl rep
 
 pub returns-in-Ok-clause-keeps : goal.returns-in-Ok-clause-keeps
-returns-in-Ok-clause-keeps g c = on_call _ _ _ _ _ c.args.self.now.session _ _ _ _ _ _ c.format.ensures.discloses.keys (λ told keys h. sound_of _ _ keys h) (λ told keys h. c.format.ensures.discloses.forgets told keys (sound_of _ _ keys h)) (λ told keys more h done. format_listed _ _ _ keys _ _ (c.in-Ok.ensures.cause.0 told) (c.in-Ok.ensures.made told).0 h) c.format.ensures.discloses.serves (certified_format {X = Unit {0}} {Y = FormatRefusal} _ _ _ _ _ _ _ (Ok (tt {0})) c.format.ensures.discloses.turns (λ told full. (c.format.ensures.kept told (inl full)).1) (λ told ok. c.in-Ok.ensures.cause.0 told) c.in-Ok.ensures.certifies) (fitting_formatted _ _ _ _ _ c.args.self.now.session _ _ (λ told sound. c.format.ensures.discloses.forgets told [] sound) c.format.ensures.certifies)
+returns-in-Ok-clause-keeps g c = on_call _ _ _ _ _ c.args.self.now.session _ _ _ _ _ _ c.format.ensures.discloses.keys (λ told keys h. sound_of _ _ keys h) (λ told keys h. c.format.ensures.discloses.forgets told keys (sound_of _ _ keys h)) (λ told keys more h done. format_listed _ _ _ keys _ _ (c.in-Ok.ensures.cause.0 told) (c.in-Ok.ensures.made told).0 h) c.format.ensures.discloses.serves (certified_format {X = Unit {0}} {Y = FormatRefusal} _ _ _ _ _ _ _ (Ok (tt {0})) c.format.ensures.discloses.turns (λ told full. (c.format.ensures.kept told (inl full)).1) (λ told ok. c.in-Ok.ensures.cause.0 told) c.in-Ok.ensures.certifies) (fitting_formatted _ _ _ _ _ c.args.self.now.session _ _ (λ told sound. c.format.ensures.discloses.forgets told [] sound) c.format.ensures.certifies (behind_added g.P.Platform g.L.Sink.written 1 _ _ _ _ g.met.P.Platform.counts_pages (omega arith) c.format.ensures.synced))
 
 pub returns-in-Err-NotEmpty-clause-keeps : goal.returns-in-Err-NotEmpty-clause-keeps
-returns-in-Err-NotEmpty-clause-keeps g c = on_call _ _ _ _ _ c.args.self.now.session _ _ _ _ _ _ c.format.ensures.discloses.keys (λ told keys h. sound_of _ _ keys h) (λ told keys h. c.format.ensures.discloses.forgets told keys (sound_of _ _ keys h)) (λ told keys more h done. listed_keys _ _ _ keys more ((rw c.in-Err-NotEmpty.field-0-is at c.in-Err-NotEmpty.ensures.cause).1.0.image told) h) c.format.ensures.discloses.serves (certified_unput _ _ _ _ _ _ (third (λ is. absurd cc) (λ is. absurd cc) (rw c.in-Err-NotEmpty.field-0-is at c.in-Err-NotEmpty.ensures.undrawn)).1 (λ told. (rw c.in-Err-NotEmpty.field-0-is at c.in-Err-NotEmpty.ensures.cause).1.1 told)) (fitting_formatted _ _ _ _ _ c.args.self.now.session _ _ (λ told sound. c.format.ensures.discloses.forgets told [] sound) c.format.ensures.certifies)
+returns-in-Err-NotEmpty-clause-keeps g c = on_call _ _ _ _ _ c.args.self.now.session _ _ _ _ _ _ c.format.ensures.discloses.keys (λ told keys h. sound_of _ _ keys h) (λ told keys h. c.format.ensures.discloses.forgets told keys (sound_of _ _ keys h)) (λ told keys more h done. listed_keys _ _ _ keys more ((rw c.in-Err-NotEmpty.field-0-is at c.in-Err-NotEmpty.ensures.cause).1.0.image told) h) c.format.ensures.discloses.serves (certified_unput _ _ _ _ _ _ (third (λ is. absurd cc) (λ is. absurd cc) (rw c.in-Err-NotEmpty.field-0-is at c.in-Err-NotEmpty.ensures.undrawn)).1 (λ told. (rw c.in-Err-NotEmpty.field-0-is at c.in-Err-NotEmpty.ensures.cause).1.1 told)) (fitting_formatted _ _ _ _ _ c.args.self.now.session _ _ (λ told sound. c.format.ensures.discloses.forgets told [] sound) c.format.ensures.certifies (behind_added g.P.Platform g.L.Sink.written 1 _ _ _ _ g.met.P.Platform.counts_pages (omega arith) c.format.ensures.synced))
 
 pub returns-in-Err-Full-clause-keeps : goal.returns-in-Err-Full-clause-keeps
-returns-in-Err-Full-clause-keeps g c = on_call _ _ _ _ _ c.args.self.now.session _ _ _ _ _ _ c.format.ensures.discloses.keys (λ told keys h. sound_of _ _ keys h) (λ told keys h. c.format.ensures.discloses.forgets told keys (sound_of _ _ keys h)) (λ told keys more h done. listed_keys _ _ _ keys more ((rw c.in-Err-Full.field-0-is at c.in-Err-Full.ensures.cause).2.0.image told) h) c.format.ensures.discloses.serves (certified_unput _ _ _ _ _ _ (third (λ is. absurd cc) (λ is. absurd cc) (rw c.in-Err-Full.field-0-is at c.in-Err-Full.ensures.undrawn)).1 (λ told. (rw c.in-Err-Full.field-0-is at c.in-Err-Full.ensures.cause).2.1 told)) (fitting_formatted _ _ _ _ _ c.args.self.now.session _ _ (λ told sound. c.format.ensures.discloses.forgets told [] sound) c.format.ensures.certifies)
+returns-in-Err-Full-clause-keeps g c = on_call _ _ _ _ _ c.args.self.now.session _ _ _ _ _ _ c.format.ensures.discloses.keys (λ told keys h. sound_of _ _ keys h) (λ told keys h. c.format.ensures.discloses.forgets told keys (sound_of _ _ keys h)) (λ told keys more h done. listed_keys _ _ _ keys more ((rw c.in-Err-Full.field-0-is at c.in-Err-Full.ensures.cause).2.0.image told) h) c.format.ensures.discloses.serves (certified_unput _ _ _ _ _ _ (third (λ is. absurd cc) (λ is. absurd cc) (rw c.in-Err-Full.field-0-is at c.in-Err-Full.ensures.undrawn)).1 (λ told. (rw c.in-Err-Full.field-0-is at c.in-Err-Full.ensures.cause).2.1 told)) (fitting_formatted _ _ _ _ _ c.args.self.now.session _ _ (λ told sound. c.format.ensures.discloses.forgets told [] sound) c.format.ensures.certifies (behind_added g.P.Platform g.L.Sink.written 1 _ _ _ _ g.met.P.Platform.counts_pages (omega arith) c.format.ensures.synced))
 
 pub returns-in-Err-Memory-clause-keeps : goal.returns-in-Err-Memory-clause-keeps
-returns-in-Err-Memory-clause-keeps g c = on_call _ _ _ _ _ c.args.self.now.session _ _ _ _ _ _ c.format.ensures.discloses.keys (λ told keys h. sound_of _ _ keys h) (λ told keys h. c.format.ensures.discloses.forgets told keys (sound_of _ _ keys h)) (λ told keys more h done. tt) c.format.ensures.discloses.serves (certified_going _ _ _ _ _ _ _ (λ never. absurd cc) (certified_format _ _ _ _ _ _ _ c.format.result c.format.ensures.discloses.turns (λ told full. (c.format.ensures.kept told (inl full)).1) (empty_where_made g.P.Platform g.T.Tape _ _ _ _ _ _ c.format.result c.format.ensures.cause) c.format.ensures.certifies)) (fitting_formatted _ _ _ _ _ c.args.self.now.session _ _ (λ told sound. c.format.ensures.discloses.forgets told [] sound) c.format.ensures.certifies)
+returns-in-Err-Memory-clause-keeps g c = on_call _ _ _ _ _ c.args.self.now.session _ _ _ _ _ _ c.format.ensures.discloses.keys (λ told keys h. sound_of _ _ keys h) (λ told keys h. c.format.ensures.discloses.forgets told keys (sound_of _ _ keys h)) (λ told keys more h done. tt) c.format.ensures.discloses.serves (certified_going _ _ _ _ _ _ _ (λ never. absurd cc) (certified_format _ _ _ _ _ _ _ c.format.result c.format.ensures.discloses.turns (λ told full. (c.format.ensures.kept told (inl full)).1) (empty_where_made g.P.Platform g.T.Tape _ _ _ _ _ _ c.format.result c.format.ensures.cause) c.format.ensures.certifies)) (fitting_formatted _ _ _ _ _ c.args.self.now.session _ _ (λ told sound. c.format.ensures.discloses.forgets told [] sound) c.format.ensures.certifies (behind_added g.P.Platform g.L.Sink.written 1 _ _ _ _ g.met.P.Platform.counts_pages (omega arith) c.format.ensures.synced))
 
 pub returns-in-Err-TapeFault-clause-keeps : goal.returns-in-Err-TapeFault-clause-keeps
-returns-in-Err-TapeFault-clause-keeps g c = on_call _ _ _ _ _ c.args.self.now.session _ _ _ _ _ _ c.format.ensures.discloses.keys (λ told keys h. sound_of _ _ keys h) (λ told keys h. c.format.ensures.discloses.forgets told keys (sound_of _ _ keys h)) (λ told keys more h done. tt) c.format.ensures.discloses.serves (certified_going _ _ _ _ _ _ _ (λ never. absurd cc) (certified_format _ _ _ _ _ _ _ c.format.result c.format.ensures.discloses.turns (λ told full. (c.format.ensures.kept told (inl full)).1) (empty_where_made g.P.Platform g.T.Tape _ _ _ _ _ _ c.format.result c.format.ensures.cause) c.format.ensures.certifies)) (fitting_formatted _ _ _ _ _ c.args.self.now.session _ _ (λ told sound. c.format.ensures.discloses.forgets told [] sound) c.format.ensures.certifies)
+returns-in-Err-TapeFault-clause-keeps g c = on_call _ _ _ _ _ c.args.self.now.session _ _ _ _ _ _ c.format.ensures.discloses.keys (λ told keys h. sound_of _ _ keys h) (λ told keys h. c.format.ensures.discloses.forgets told keys (sound_of _ _ keys h)) (λ told keys more h done. tt) c.format.ensures.discloses.serves (certified_going _ _ _ _ _ _ _ (λ never. absurd cc) (certified_format _ _ _ _ _ _ _ c.format.result c.format.ensures.discloses.turns (λ told full. (c.format.ensures.kept told (inl full)).1) (empty_where_made g.P.Platform g.T.Tape _ _ _ _ _ _ c.format.result c.format.ensures.cause) c.format.ensures.certifies)) (fitting_formatted _ _ _ _ _ c.args.self.now.session _ _ (λ told sound. c.format.ensures.discloses.forgets told [] sound) c.format.ensures.certifies (behind_added g.P.Platform g.L.Sink.written 1 _ _ _ _ g.met.P.Platform.counts_pages (omega arith) c.format.ensures.synced))
 
 pub returns-in-Err-LedgerFault-clause-keeps : goal.returns-in-Err-LedgerFault-clause-keeps
-returns-in-Err-LedgerFault-clause-keeps g c = on_call _ _ _ _ _ c.args.self.now.session _ _ _ _ _ _ c.format.ensures.discloses.keys (λ told keys h. sound_of _ _ keys h) (λ told keys h. c.format.ensures.discloses.forgets told keys (sound_of _ _ keys h)) (λ told keys more h done. tt) c.format.ensures.discloses.serves (certified_going _ _ _ _ _ _ _ (λ never. absurd cc) (certified_format _ _ _ _ _ _ _ c.format.result c.format.ensures.discloses.turns (λ told full. (c.format.ensures.kept told (inl full)).1) (empty_where_made g.P.Platform g.T.Tape _ _ _ _ _ _ c.format.result c.format.ensures.cause) c.format.ensures.certifies)) (fitting_formatted _ _ _ _ _ c.args.self.now.session _ _ (λ told sound. c.format.ensures.discloses.forgets told [] sound) c.format.ensures.certifies)
+returns-in-Err-LedgerFault-clause-keeps g c = on_call _ _ _ _ _ c.args.self.now.session _ _ _ _ _ _ c.format.ensures.discloses.keys (λ told keys h. sound_of _ _ keys h) (λ told keys h. c.format.ensures.discloses.forgets told keys (sound_of _ _ keys h)) (λ told keys more h done. tt) c.format.ensures.discloses.serves (certified_going _ _ _ _ _ _ _ (λ never. absurd cc) (certified_format _ _ _ _ _ _ _ c.format.result c.format.ensures.discloses.turns (λ told full. (c.format.ensures.kept told (inl full)).1) (empty_where_made g.P.Platform g.T.Tape _ _ _ _ _ _ c.format.result c.format.ensures.cause) c.format.ensures.certifies)) (fitting_formatted _ _ _ _ _ c.args.self.now.session _ _ (λ told sound. c.format.ensures.discloses.forgets told [] sound) c.format.ensures.certifies (behind_added g.P.Platform g.L.Sink.written 1 _ _ _ _ g.met.P.Platform.counts_pages (omega arith) c.format.ensures.synced))
 
 pub returns-in-Err-PlatformFault-clause-keeps : goal.returns-in-Err-PlatformFault-clause-keeps
-returns-in-Err-PlatformFault-clause-keeps g c = on_call _ _ _ _ _ c.args.self.now.session _ _ _ _ _ _ c.format.ensures.discloses.keys (λ told keys h. sound_of _ _ keys h) (λ told keys h. c.format.ensures.discloses.forgets told keys (sound_of _ _ keys h)) (λ told keys more h done. tt) c.format.ensures.discloses.serves (certified_going _ _ _ _ _ _ _ (λ never. absurd cc) (certified_format _ _ _ _ _ _ _ c.format.result c.format.ensures.discloses.turns (λ told full. (c.format.ensures.kept told (inl full)).1) (empty_where_made g.P.Platform g.T.Tape _ _ _ _ _ _ c.format.result c.format.ensures.cause) c.format.ensures.certifies)) (fitting_formatted _ _ _ _ _ c.args.self.now.session _ _ (λ told sound. c.format.ensures.discloses.forgets told [] sound) c.format.ensures.certifies)
+returns-in-Err-PlatformFault-clause-keeps g c = on_call _ _ _ _ _ c.args.self.now.session _ _ _ _ _ _ c.format.ensures.discloses.keys (λ told keys h. sound_of _ _ keys h) (λ told keys h. c.format.ensures.discloses.forgets told keys (sound_of _ _ keys h)) (λ told keys more h done. tt) c.format.ensures.discloses.serves (certified_going _ _ _ _ _ _ _ (λ never. absurd cc) (certified_format _ _ _ _ _ _ _ c.format.result c.format.ensures.discloses.turns (λ told full. (c.format.ensures.kept told (inl full)).1) (empty_where_made g.P.Platform g.T.Tape _ _ _ _ _ _ c.format.result c.format.ensures.cause) c.format.ensures.certifies)) (fitting_formatted _ _ _ _ _ c.args.self.now.session _ _ (λ told sound. c.format.ensures.discloses.forgets told [] sound) c.format.ensures.certifies (behind_added g.P.Platform g.L.Sink.written 1 _ _ _ _ g.met.P.Platform.counts_pages (omega arith) c.format.ensures.synced))
 
 pub returns-then-not-is_in_limits-clause-keeps : goal.returns-then-not-is_in_limits-clause-keeps
 returns-then-not-is_in_limits-clause-keeps g c = on_look _ _ _ c.args.self.now.session _ _ _ _ c.refuse_format.ensures.image c.refuse_format.ensures.time (λ told keys kept h. on_ok c.refuse_format.result _ (listed_image _ _ _ keys (c.refuse_format.ensures.image told) h))
