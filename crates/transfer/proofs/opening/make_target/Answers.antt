@@ -24,7 +24,7 @@ returns-in-Ok-Some-clause-target g c = record {
   opened = let format = c.format.ensures in
       opens_formatted _ _ _ _ _ _ c.in-Ok-Some.session
       (formatted_of {X = Unit {0}} FormatRefusal _ c.args.blocks c.args.order _ _ _ tt format.grows.0.capacity format.grows.0.rises format.discloses (λ told full. (format.kept told (inl full)).1) c.requires.empty c.in-Ok.ensures.certifies
-      (behind_added g.Q.Platform g.L.Sink.written 1 _ _ _ _ g.met.Q.Platform.counts_pages (omega arith) format.synced) (λ told. (c.in-Ok.ensures.made told).0) (λ told. (c.in-Ok.ensures.made told).1) format.time)
+      (behind_added g.Q.Platform g.L.Sink.written 1 c.args.to.now c.format.new.platform c.args.ledger.now c.format.new.ledger g.met.Q.Platform.counts_pages (omega arith) format.synced) (λ told. (c.in-Ok.ensures.made told).0) (λ told. (c.in-Ok.ensures.made told).1) format.time)
       (opens_found g.Q.Platform _ _ c.format.new.platform c.mount_session.new.platform _ _ c.in-Ok-Some.session c.mount_session.result (c.in-Ok-Some.is ∙ ap Ok c.in-Ok-Some.field-0-is) refl refl refl refl refl refl c.mount_session.ensures.looks
       c.mount_session.ensures.finds (c.mount_session.ensures.keeps _ _) c.mount_session.ensures.leads);
   stopped = tt;
@@ -58,7 +58,7 @@ returns-in-Ok-None-clause-target g c = record {
       let looks = c.mount_session.ensures.looks in
       spans_formatted _ _ _ _ _ _ _
       (formatted_of {X = Unit {0}} FormatRefusal _ c.args.blocks c.args.order _ _ _ tt format.grows.0.capacity format.grows.0.rises format.discloses (λ told full. (format.kept told (inl full)).1) c.requires.empty c.in-Ok.ensures.certifies
-      (behind_added g.Q.Platform g.L.Sink.written 1 _ _ _ _ g.met.Q.Platform.counts_pages (omega arith) format.synced) (λ told. (c.in-Ok.ensures.made told).0) (λ told. (c.in-Ok.ensures.made told).1) format.time)
+      (behind_added g.Q.Platform g.L.Sink.written 1 c.args.to.now c.format.new.platform c.args.ledger.now c.format.new.ledger g.met.Q.Platform.counts_pages (omega arith) format.synced) (λ told. (c.in-Ok.ensures.made told).0) (λ told. (c.in-Ok.ensures.made told).1) format.time)
       (spans_look g.Q.Platform _ _ _ refl refl looks.head looks.capacity (g.met.Q.Platform.has_room c.mount_session.new.platform) looks.image looks.time);
   is_new = tt;
   none = λ told there stands served. let made = (formatted_made c.args.blocks c.args.order (g.Q.Platform.history c.args.to.now) (g.Q.Platform.history c.format.new.platform) there (c.requires.empty told) stands (c.in-Ok.ensures.made told).0 (c.in-Ok.ensures.made told).1 (c.format.ensures.time told there stands)).1 in
@@ -85,7 +85,7 @@ returns-in-Err-mount_session-clause-target g c = record {
       let looks = c.mount_session.ensures.looks in
       spans_formatted _ _ _ _ _ _ _
       (formatted_of {X = Unit {0}} FormatRefusal _ c.args.blocks c.args.order _ _ _ tt format.grows.0.capacity format.grows.0.rises format.discloses (λ told full. (format.kept told (inl full)).1) c.requires.empty c.in-Ok.ensures.certifies
-      (behind_added g.Q.Platform g.L.Sink.written 1 _ _ _ _ g.met.Q.Platform.counts_pages (omega arith) format.synced) (λ told. (c.in-Ok.ensures.made told).0) (λ told. (c.in-Ok.ensures.made told).1) format.time)
+      (behind_added g.Q.Platform g.L.Sink.written 1 c.args.to.now c.format.new.platform c.args.ledger.now c.format.new.ledger g.met.Q.Platform.counts_pages (omega arith) format.synced) (λ told. (c.in-Ok.ensures.made told).0) (λ told. (c.in-Ok.ensures.made told).1) format.time)
       (spans_look g.Q.Platform _ _ _ refl refl looks.head looks.capacity (g.met.Q.Platform.has_room c.mount_session.new.platform) looks.image looks.time);
   is_new = tt;
   none = λ told there stands served. formatted_stopped g.Q.Platform _ _ _ c.args.blocks c.args.order _ c.in-Err-mount_session.stop there
@@ -112,7 +112,7 @@ returns-in-Err-clause-target g c = record {
   stopped = let format = c.format.ensures in
       spans_unformatted _ c.args.blocks c.args.order _ _ (record { capacity = format.grows.0.capacity; rises = format.grows.0.rises; within = g.met.Q.Platform.has_room c.format.new.platform })
       (format_keeps {X = Unit {0}} {Y = FormatRefusal} _ _ _ _ _ _ _ _ (Err c.in-Err.refusal) _ _ format.discloses (λ told full. (format.kept told (inl full)).1) (λ told ok. absurd cc) c.in-Err.ensures.certifies
-      (behind_added g.Q.Platform g.L.Sink.written 1 _ _ _ _ g.met.Q.Platform.counts_pages (omega arith) format.synced) (λ never. absurd never) (λ told keys. tt))
+      (behind_added g.Q.Platform g.L.Sink.written 1 c.args.to.now c.format.new.platform c.args.ledger.now c.format.new.ledger g.met.Q.Platform.counts_pages (omega arith) format.synced) (λ never. absurd never) (λ told keys. tt))
       format.time;
   is_new = tt;
   none = λ told there stands served. rw c.halt_of.ensures (unformatted g.Q.Platform g.T.Tape _ _ _ _ _ _ c.in-Err.refusal c.args.blocks c.args.order there c.in-Err.ensures.cause told (c.requires.empty told) stands
