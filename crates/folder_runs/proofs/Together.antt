@@ -1,5 +1,5 @@
 -- Two runs together, of which the second opened what is left at one moment of the first.
-use Rattle.std.proofs.Common.{◌≡◌, ◌↔◌, ℕ, ◌<◌, ◌≤◌, min, List, [], ◌∷◌, ◌++◌, Option, Some, None, inl, inr, length, refl, sym, ◌∙◌, ap, subst, arith, append_assoc}
+use Rattle.std.proofs.Common.{◌≡◌, ◌↔◌, ℕ, ◌<◌, ◌≤◌, min, List, [], ◌∷◌, ◌++◌, Option, Some, None, inl, inr, length, refl, sym, ◌∙◌, ap, subst, arith}
 use Rattle.std.specs.Prelude.{All, Contains, IsSome}
 use Rattle.std.proofs.lemmas.List.{take_all}
 use Rattle.std.proofs.lemmas.Option.{none-some}
@@ -8,7 +8,6 @@ use Rattle.sdbt_base.specs.Keys.{bare}
 use Rattle.platform.specs.Image.{Image, LeavesOnly}
 use Rattle.platform.specs.History.{History, Extends, During, image_at, moment}
 use Rattle.platform.proofs.Moments.{image_at-now, earlier-now, may-leave-now, During-now, Extends-earlier}
-use Rattle.sdbt_base.proofs.ToldLaws.{Got-then}
 use Rattle.root_codec.specs.declared.root.Root.{Root}
 use Rattle.root_codec.specs.RootRecord.{root_bytes}
 use Rattle.key_graph.specs.Chains.{Link, link, Reached, KeyPremises}
