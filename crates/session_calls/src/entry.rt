@@ -1,5 +1,5 @@
 //! What is looked at before anything is served.
-ghost use Rattle.std.specs.Prelude.{◌≡◌, ◌⊎◌, IfErr, IfOk, OnOk, IsErrOf};
+ghost use Rattle.std.specs.Prelude.{◌≡◌, ◌≤◌, ◌⊎◌, IfErr, IfOk, OnOk, IsErrOf};
 ghost use Rattle.sdbt_base.specs.Faults.{TellsOf};
 ghost use Rattle.platform.specs.History.{Steps};
 ghost use Rattle.device_terms.specs.Served.{IsServedImage};
@@ -22,6 +22,7 @@ pub fn check_cell<P: Platform>(platform: &mut P) -> Result<Option<Root>, DeviceS
     ensures head { P.head platform.new ≡ P.head platform.old }
     ensures capacity { P.capacity platform.new ≡ P.capacity platform.old }
     ensures reads { P.tells → P.reads platform.new ≡ P.reads platform.old }
+    ensures count { P.faults platform.old ≤ P.faults platform.new }
 {
     match current(platform) {
         Ok(found) => Ok(found),
