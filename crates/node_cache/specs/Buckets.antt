@@ -1,5 +1,5 @@
 -- The buckets of a cache: which slots may have a node of an address.
-use Rattle.std.specs.Prelude.{◌≡◌, ◌%◌, ◌<◌, ℕ, List, Option, None, Some, length, slice_get}
+use Rattle.std.specs.Prelude.{◌≡◌, ◌%◌, ◌*◌, ℕ, List, Option, None, Some, length, max, slice_get}
 use Rattle.node_cache.specs.declared.slots.CachedNode.{CachedNode}
 use Rattle.node_cache.specs.Slots.{IsTied}
 use Rattle.node_cache.specs.declared.buckets.Bucket.{Bucket}
@@ -16,8 +16,10 @@ MayHave (Some Many) slot = Unit {0}
 abbrev pub Covers : List Bucket → List (Option ℕ) → Type 0
 Covers buckets addrs = (slot addr : ℕ) → slice_get addrs slot ≡ Some (Some addr) → MayHave (slice_get buckets (addr % length buckets)) slot
 
--- numbered slots in the order of their use, the addresses of the nodes in them, and buckets that rule out none of these
-pub record IsCachedBy (slots : List (ℕ × Option CachedNode)) (addrs : List (Option ℕ)) (buckets : List Bucket) : Type 0 where
+-- numbered slots in the order of their use, of which there is room for so many, the addresses of the nodes in them, and buckets that rule out none of these.
+-- No more room was taken than these need: for each slot, for one at least, and for four buckets a slot
+pub record IsCachedBy (slots : List (ℕ × Option CachedNode)) (room : ℕ) (addrs : List (Option ℕ)) (buckets : List Bucket) : Type 0 where
   pub tied : IsTied slots addrs
   pub covers : Covers buckets addrs
-  pub some : 0 < length addrs → 0 < length buckets
+  pub room_is : room ≡ max 1 (length addrs)
+  pub four_each : length buckets ≡ 4 * length addrs

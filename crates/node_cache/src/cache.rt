@@ -1,4 +1,4 @@
-ghost use Rattle.std.specs.Prelude.{◌≡◌, ◌↔◌, ◌<◌, ◌≤◌, List, [], ◌∷◌, None, Some, IfOk, IfSome, IfNone, IsSome, IsTrue, length, map, nat_eq, slice_get};
+ghost use Rattle.std.specs.Prelude.{◌≡◌, ◌↔◌, ◌<◌, ◌≤◌, List, [], ◌∷◌, None, Some, IfOk, IfSome, IfNone, IsSome, IsTrue, length, map, max, nat_eq, slice_get};
 ghost use Rattle.std.specs.Borrow.{sem};
 ghost use Rattle.std.specs.Option.{option_copied};
 ghost use Rattle.std.specs.List.{IsDistinct};
@@ -50,7 +50,7 @@ impl Model for NodeCache {
 
     ghost view = { λ c. record { capacity = length c.addrs.items; nodes = nodes_in c.slots.entries } };
 
-    ghost invariant = { λ c. IsCachedBy c.slots.entries c.addrs.items c.buckets.items };
+    ghost invariant = { λ c. IsCachedBy c.slots.entries c.slots.cap c.addrs.items c.buckets.items };
 }
 
 impl NodeCache {
@@ -213,7 +213,7 @@ impl NodeCache {
 
 /// How many slots the map is to have room for: one at least, which stays unused at a capacity of 0.
 fn room_for(capacity: usize) -> NonZeroUsize
-    ensures { capacity ≤ non_zero_usize_get result }
+    ensures { non_zero_usize_get result ≡ max 1 capacity }
 {
     NonZeroUsize::new(capacity).unwrap_or(NonZeroUsize::MIN)
 }

@@ -30,7 +30,7 @@ pub struct Slot {
 }
 
 impl Model for Slot {
-    ghost use Rattle.std.specs.Prelude.{◌≡◌, ◌≤◌, None, Option, IfSome, cond, false, slice_get, vec_capacity};
+    ghost use Rattle.std.specs.Prelude.{◌≡◌, None, Option, IfSome, cond, false, slice_get, vec_capacity};
     ghost use Rattle.node_cache.specs.declared.slots.CachedNode.{CachedNode};
     ghost use Rattle.node_cache.specs.Slots.{IsWipedOut};
 
@@ -38,8 +38,8 @@ impl Model for Slot {
 
     ghost view = { λ s. cond s.is_full (slice_get s.room.items 0) None };
 
-    // In a slot in which no node stands nothing is left of one.
-    ghost invariant = { λ s. (1 ≤ vec_capacity s.room) × (s.is_full ≡ false → IfSome (slice_get s.room.items 0) IsWipedOut) };
+    // There is room for one node, and in a slot in which none stands nothing is left of one.
+    ghost invariant = { λ s. (vec_capacity s.room ≡ 1) × (s.is_full ≡ false → IfSome (slice_get s.room.items 0) IsWipedOut) };
 }
 
 impl CachedNode {
@@ -115,9 +115,8 @@ impl Slot {
         ensures { self.new ≡ Some (cached_node addr key.now (node_of level version entries.now)) }
     {
         if self.room.is_empty() {
-            let _room = self
-                .room
-                .push(CachedNode::of(addr, key, level, version, entries));
+            self.room
+                .push_reserved(CachedNode::of(addr, key, level, version, entries));
         } else {
             self.room[0].copy(addr, key, level, version, entries);
         }

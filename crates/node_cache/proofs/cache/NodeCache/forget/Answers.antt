@@ -1,4 +1,4 @@
-use Rattle.std.proofs.Common.{arith}
+use Rattle.std.proofs.Common.{arith, max, sym}
 use Rattle.std.proofs.lemmas.List.{length-set}
 use Rattle.std.proofs.lemmas.Option.{slice_get_within}
 use Rattle.node_cache.proofs.BucketLaws.{covers_without}
@@ -19,7 +19,8 @@ invariant_of-self c =
     record {
       tied = tied_after_forget es c.demote.new.self.entries addrs n c.args.addr c.self.invariant.tied listed after (subst (λ l. IsDistinct nat_eq (keys_of l)) filled c.empty.ensures.distinct);
       covers = covers_without c.self.inside.buckets.items addrs n (slice_get_within addrs n (Some c.args.addr) listed) c.self.invariant.covers;
-      some = λ some. c.self.invariant.some (omega (arith, some, length-set addrs n None));
+      room_is = ap (λ m. m.cap) c.demote.ensures.entries ∙ ap (λ m. m.cap) c.empty.ensures.written ∙ c.self.invariant.room_is ∙ ap (max 1) (sym (length-set addrs n None));
+      four_each = omega (arith, c.self.invariant.four_each, length-set addrs n None);
     }
 
 pub returns-in-Some : goal.returns-in-Some

@@ -1,5 +1,5 @@
 use Rattle.node_cache.proofs.BucketLaws.{covers_blank}
-use Rattle.std.proofs.Common.{◌≡◌, arith, length}
+use Rattle.std.proofs.Common.{◌≡◌, ◌∙◌, ap, arith, length, max, sym}
 use Rattle.node_cache.specs.Cached.{cached}
 use Rattle.node_cache.proofs.SlotLaws.{filled_more, filled_tied, filled_kept}
 use Rattle.node_cache.proofs.cache.NodeCache.new.Goals as goal
@@ -12,10 +12,12 @@ loop-number-preserved c =
 pub invariant_of-result : goal.invariant_of-result
 invariant_of-result c =
     let filled = c.loop-number.invariant.0 in
+    let size : length c.loop-number.addrs.items ≡ c.args.capacity = omega (arith, filled.as_many, c.loop-number-test.false, c.loop-number.auto.number-end) in
     record {
       tied = filled_tied c.loop-number.slots.entries c.loop-number.addrs.items c.loop-number.number filled;
       covers = covers_blank c.in_ok-buckets.buckets.items c.loop-number.addrs.items (λ slot within. filled.nones slot (omega (arith, within, filled.as_many)));
-      some = λ some. omega (arith, some, c.in_ok-buckets.ensures.len, c.in_ok-buckets.buckets.ok.0, filled.as_many, c.loop-number.auto.number-end);
+      room_is = c.loop-number.invariant.1 ∙ ap (max 1) (sym size);
+      four_each = omega (arith, size, c.in_ok-buckets.ensures.len, c.in_ok-buckets.buckets.ok.0);
     }
 
 pub returns : goal.returns

@@ -1,6 +1,6 @@
-use Rattle.std.proofs.Common.{◌≤◌}
+use Rattle.std.proofs.Common.{◌≡◌, max}
 use Rattle.node_cache.proofs.SlotLaws.{IsFilled}
 use Rattle.node_cache.proofs.cache.NodeCache.new.Given as goal
 
 abbrev pub invariant-loop-number : goal.invariant-loop-number
-invariant-loop-number l = IsFilled l.slots.entries l.addrs.items l.number × (l.capacity ≤ l.slots.cap)
+invariant-loop-number l = IsFilled l.slots.entries l.addrs.items l.number × (l.slots.cap ≡ max 1 l.capacity)

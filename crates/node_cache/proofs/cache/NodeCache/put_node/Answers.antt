@@ -1,4 +1,4 @@
-use Rattle.std.proofs.Common.{Some, sym, length, ◌∙◌}
+use Rattle.std.proofs.Common.{Some, sym, length, max, ◌∙◌}
 use Rattle.std.proofs.Math.ListN.{set}
 use Rattle.std.proofs.lemmas.List.{length-set}
 use Rattle.node_cache.proofs.BucketLaws.{refilled}
@@ -18,7 +18,8 @@ invariant_of-self c =
     record {
       tied = tied_after_put c.self.inside.slots.entries c.fill.new.slots.entries c.self.inside.addrs.items c.slot_for-number.result (cached_node c.args.addr c.args.key.now (node_of c.args.level c.args.version c.args.entries.now)) c.self.invariant.tied slot (ap (λ m. m.entries) c.fill.ensures.written) c.fill.ensures.distinct;
       covers = subst (λ bs. Covers bs (set addrs n (Some c.args.addr))) (sym all) (subst (λ l. Covers c.note.new.buckets (set l n (Some c.args.addr))) c.deref-3.ensures.value c.note.ensures.covers);
-      some = λ some. (let old = c.self.invariant.some (omega (arith, some, length-set addrs n (Some c.args.addr))) in omega (arith, old, ap length all, c.note.ensures.count, ap length c.deref_mut.ensures.value));
+      room_is = ap (λ m. m.cap) c.fill.ensures.written ∙ c.self.invariant.room_is ∙ ap (max 1) (sym (length-set addrs n (Some c.args.addr)));
+      four_each = omega (arith, c.self.invariant.four_each, length-set addrs n (Some c.args.addr), ap length all, c.note.ensures.count, ap length c.deref_mut.ensures.value);
     }
 
 pub returns-clause-cached : goal.returns-clause-cached

@@ -1,4 +1,4 @@
-use Rattle.std.proofs.Common.{◌≡◌, Some, ap, refl, subst, slice_get}
+use Rattle.std.proofs.Common.{◌≡◌, Some, ap, refl, subst, slice_get, ◌∙◌}
 use Rattle.node_cache.specs.Slots.{IsUnlisted}
 use Rattle.node_cache.proofs.SlotLaws.{tied_after_use, uses_after, none_unlisted, none_under_key}
 use Rattle.node_cache.proofs.cache.NodeCache.use_again.Goals as goal
@@ -16,7 +16,8 @@ invariant_of-self c =
     record {
       tied = tied_after_use c.self.inside.slots.entries c.use_slot.new.slots.entries c.self.inside.addrs.items n c.args.addr c.args.key.now kept.0 c.self.invariant.tied listed kept.1 (ap (λ m. m.entries) c.use_slot.ensures.used) c.use_slot.ensures.distinct;
       covers = c.self.invariant.covers;
-      some = c.self.invariant.some;
+      room_is = ap (λ m. m.cap) c.use_slot.ensures.used ∙ c.self.invariant.room_is;
+      four_each = c.self.invariant.four_each;
     }
 
 pub returns-then-is_kept-clause-used : goal.returns-then-is_kept-clause-used
