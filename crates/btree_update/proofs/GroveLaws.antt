@@ -1,5 +1,5 @@
 -- What an update does to a grove, from what it does to its root.
-use Rattle.std.proofs.Common.{◌≡◌, ℕ, zero, suc, ◌-◌, ◌<◌, ◌≤◌, List, [], ◌∷◌, ◌++◌, sym, subst, arith, length, vec_capacity}
+use Rattle.std.proofs.Common.{◌≡◌, ℕ, zero, suc, ◌-◌, ◌<◌, ◌≤◌, List, [], ◌∷◌, ◌++◌, ◌∙◌, ap, append-nil, append_assoc, length-append, refl, sym, subst, arith, length, vec_capacity}
 use Rattle.std.specs.List.{AllByRecursion}
 use Rattle.std.specs.declared.vec.Vec.{Vec}
 use Rattle.std.specs.declared.alloc.Global.{Global}
@@ -22,6 +22,7 @@ use Rattle.btree_update.proofs.OpenLaws.{below_front, below_back, below_append}
 use Rattle.btree_update.specs.Roots.{IsRoot, IsRootBy, RootMaps}
 use Rattle.btree_update.specs.declared.groves.Grove.{Grove}
 use Rattle.btree_update.specs.Groves.{IsSound}
+use Rattle.btree_update.specs.Holding.{AddsSpares}
 
 -- where a search ends below a root
 pub spot_at : (order below block high low : ℕ) (twig : Twig) (spot : Spot) → IsTop order below high (made.Grown low twig) → block < high →
@@ -73,6 +74,27 @@ spares_push order spares spare le empty room h = record { many = omega arith; ea
     go : (xs : List (Vec Child Global)) → AllByRecursion (λ v. (v.items ≡ []) × (order < vec_capacity v)) xs → AllByRecursion (λ v. (v.items ≡ []) × (order < vec_capacity v)) (xs ++ spare ∷ [])
     go [] h = ((empty, omega (arith, le, room)), tt)
     go (x ∷ xs) h = (h.0, go xs h.1)
+
+-- none more
+pub spares_still : (count : ℕ) (spares : List (Vec Child Global)) → AddsSpares count spares spares
+spares_still count spares = record { more = []; is = sym (append-nil spares); few = omega arith; rooms = tt }
+
+-- some, and then some
+pub spares_then : (count : ℕ) (old mid new : List (Vec Child Global)) → AddsSpares count old mid → AddsSpares count mid new → AddsSpares count old new
+spares_then count old mid new a b = record {
+  more = a.more ++ b.more;
+  is = b.is ∙ ap (λ front. front ++ b.more) a.is ∙ append_assoc old a.more b.more;
+  few = omega (arith, a.few, b.few, ap length a.is, length-append old a.more, length-append a.more b.more);
+  rooms = both a.more a.rooms;
+}
+  where
+    both : (xs : List (Vec Child Global)) → AllByRecursion (λ v. (v.items ≡ []) × (vec_capacity v ≡ 65)) xs → AllByRecursion (λ v. (v.items ≡ []) × (vec_capacity v ≡ 65)) (xs ++ b.more)
+    both [] h = b.rooms
+    both (x ∷ xs) h = (h.0, both xs h.1)
+
+-- one more
+pub spares_one : (count : ℕ) (old : List (Vec Child Global)) (spare : Vec Child Global) → length old < count → spare.items ≡ [] → vec_capacity spare ≡ 65 → AddsSpares count old (old ++ spare ∷ [])
+spares_one count old spare lt empty room = record { more = spare ∷ []; is = refl; few = omega (arith, lt); rooms = ((empty, room), tt) }
 
 pub spares_many : (order count : ℕ) (spares : List (Vec Child Global)) → count ≤ length spares → HasSpares order 0 spares → HasSpares order count spares
 spares_many order count spares le h = record { many = le; each = h.each }

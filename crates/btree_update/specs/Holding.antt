@@ -1,5 +1,8 @@
 -- What is read for an update.
-use Rattle.std.specs.Prelude.{◌≡◌, ℕ, ◌+◌, ◌-◌, ◌<◌, ◌≤◌, List, Option, length, vec_capacity}
+use Rattle.std.specs.Prelude.{◌≡◌, ℕ, ◌+◌, ◌-◌, ◌<◌, ◌≤◌, List, [], ◌++◌, Option, length, max, vec_capacity}
+use Rattle.std.specs.List.{AllByRecursion}
+use Rattle.std.specs.declared.vec.Vec.{Vec}
+use Rattle.std.specs.declared.alloc.Global.{Global}
 use Rattle.sdbt_base.specs.Keys.{key_size, version_of}
 use Rattle.platform.specs.declared.platforms.Platform.{Ghosts}
 use Rattle.node_codec.specs.declared.body.Entry.{Entry}
@@ -22,7 +25,7 @@ pub record IsNodeFor (want : Want) (key : List ℕ) (twig : Twig) : Type 0 where
   pub wanted : IsNodeWanted want want.level entries
   pub level_is : level_of twig ≡ want.level
   pub children : children_of twig ≡ all_kept entries
-  pub room : 64 < vec_capacity (out-Twig twig).children
+  pub room : vec_capacity (out-Twig twig).children ≡ 65
 
 -- its children are what the page at the place says
 pub record IsNodeOf (pages : List (List ℕ)) (want : Want) (key : List ℕ) (twig : Twig) : Type 0 where
@@ -70,3 +73,10 @@ pub record HoldsFew {S : Type 0} (P : Ghosts S) (way beside : ℕ) (platform aft
   pub on_way : length held_now ≤ length held + way
   pub neighbours : length helpers_now ≤ length helpers + beside
   pub reads : P.tells → P.reads after + (length held + length helpers) ≤ P.reads platform + (length held_now + length helpers_now)
+
+-- so many lists in all at most, or as many as there were: those that are new stand behind the others, each with room for 65 children
+pub record AddsSpares (count : ℕ) (old new : List (Vec Child Global)) : Type 0 where
+  pub more : List (Vec Child Global)
+  pub is : new ≡ old ++ more
+  pub few : length more + length old ≤ max count (length old)
+  pub rooms : AllByRecursion (λ v. (v.items ≡ []) × (vec_capacity v ≡ 65)) more

@@ -23,7 +23,7 @@ ghost use Rattle.btree_update.specs.Among.{HaveNodes, CachesAmong};
 ghost use Rattle.btree_twigs.specs.declared.twigs.Child.{Child};
 ghost use Rattle.btree_update.specs.declared.refusals.ReadyRefusal.{ReadyRefusal};
 ghost use Rattle.btree_update.specs.Held.{Bound, bound, AreBelow};
-ghost use Rattle.btree_update.specs.Holding.{HoldsFew};
+ghost use Rattle.btree_update.specs.Holding.{HoldsFew, AddsSpares};
 ghost use Rattle.btree_update.specs.Finding.{GroveFinds, GroveStops, KeepsWay, UsesCache};
 ghost use Rattle.btree_update.specs.Groves.{KeepsTree, IsSound, IsReadFrom, IsReadBeside, IsReadBesideAt, HasLevels, RefusesWrong, MayRise, CanInsert, CanRemove, GroveMaps, places_of, grown_in, IsAddressOf, LetsGo, Goes};
 
@@ -177,9 +177,11 @@ impl Grove {
         requires sound { IsSound self.old }
         requires to { block < self.old.blocks }
         requires within { (size : ℕ) × AreBelow (bound (P.head platform.old) size) (places_of self.old) }
-        // What was held before is not held any more. A node is read for each that is held now, at most.
+        // What was held before is not held any more. A node is read for each that is held now, at most; and no more lists for new nodes are taken than the
+        // update may need.
         ensures can { IfOk result (λ mapped. CanInsert block self.new × (IsTrue mapped → CanRemove block self.new)
-            × HoldsFew P.Platform self.old.level (self.old.level - 1) platform.old platform.new [] self.new.held.items [] self.new.beside.items) }
+            × HoldsFew P.Platform self.old.level (self.old.level - 1) platform.old platform.new [] self.new.held.items [] self.new.beside.items
+            × AddsSpares (self.old.level + 1) self.old.spares.items self.new.spares.items) }
         ensures reads { P.tells → StandsOver (P.history platform.old).present.readable reader.old.cache →
             IfOk result (λ mapped. IsReadFrom (P.history platform.old).present.readable block self.new × (IsTrue mapped → IsReadBeside (P.history platform.old).present.readable block self.new)) }
         ensures mapped { P.tells → StandsOver (P.history platform.old).present.readable reader.old.cache →
@@ -375,6 +377,7 @@ fn let_go(head: u64, block: u64, old: Option<u64>, gone: &mut Vec<u64>, never: &
 fn make_spares(alloc: Global, level: u8, spares: &mut Vec<Vec<Child>>) -> Result<(), ReadyRefusal>
     ensures made { (order : ℕ) → order ≤ 64 → HasSpares order 0 spares.old.items → IfOk result (λ _. HasSpares order (level + 1) spares.new.items) }
     ensures kept { (order : ℕ) → order ≤ 64 → HasSpares order 0 spares.old.items → HasSpares order 0 spares.new.items }
+    ensures few { AddsSpares (level + 1) spares.old.items spares.new.items }
     ensures memory { (e : ReadyRefusal) → IsErrOf result e → e ≡ ReadyRefusal.Memory }
 {
     while spares.len() <= level as usize {
@@ -387,6 +390,7 @@ fn make_spares(alloc: Global, level: u8, spares: &mut Vec<Vec<Child>>) -> Result
 fn add_spare(alloc: Global, spares: &mut Vec<Vec<Child>>) -> Result<(), ReadyRefusal>
     ensures count { IfOk result (λ _. vec_len spares.new ≡ vec_len spares.old + 1) }
     ensures kept { (order : ℕ) → order ≤ 64 → HasSpares order 0 spares.old.items → HasSpares order 0 spares.new.items }
+    ensures few { (count : ℕ) → vec_len spares.old < count → AddsSpares count spares.old.items spares.new.items }
     ensures memory { (e : ReadyRefusal) → IsErrOf result e → e ≡ ReadyRefusal.Memory }
 {
     spares.push(Vec::with_capacity(alloc, 65)?)?;
@@ -403,7 +407,9 @@ fn make_room(
     ensures gone { IfOk result (λ _. vec_len gone.new + (nodes + beside) < vec_capacity gone.new) }
     ensures never { IfOk result (λ _. vec_len never.new < vec_capacity never.new) }
     ensures kept { (gone.new.items ≡ gone.old.items) × (never.new.items ≡ never.old.items) }
-    ensures memory { (e : ReadyRefusal) → IsErrOf result e → e ≡ ReadyRefusal.Memory }
+    // It comes only where there was no room for these.
+    ensures memory { (e : ReadyRefusal) → IsErrOf result e → (e ≡ ReadyRefusal.Memory)
+        × ((vec_capacity gone.old < vec_len gone.old + (nodes + beside + 1)) ⊎ (vec_capacity never.old < vec_len never.old + 1)) }
 {
     let Some(all) = nodes.checked_add(beside) else {
         return Err(ReadyRefusal::Memory);

@@ -68,7 +68,7 @@ pub(crate) fn read_node<P: Platform>(
 
 /// The node of a record in memory, with room for one child more than a node may have.
 fn in_memory(alloc: Global, node: &NodeBody) -> Result<Twig, ReadyRefusal>
-    ensures node { IfOk result (λ t. (level_of t ≡ node.now.level) × (children_of t ≡ all_kept node.now.entries.items) × (64 < vec_capacity (out-Twig t).children)) }
+    ensures node { IfOk result (λ t. (level_of t ≡ node.now.level) × (children_of t ≡ all_kept node.now.entries.items) × (vec_capacity (out-Twig t).children ≡ 65)) }
     ensures memory { (e : ReadyRefusal) → IsErrOf result e → e ≡ ReadyRefusal.Memory }
 {
     let mut children = Vec::with_capacity(alloc, 65)?;

@@ -79,6 +79,7 @@ returns-clause-can g c =
             never_room = c.in_ok-make_room.ensures.never;
           }),
       few,
+      c.make_spares.ensures.few,
     )
 
 pub returns-clause-reads : goal.returns-clause-reads
