@@ -13,6 +13,7 @@ pub mod CacheLaws
 pub mod AmongLaws
 pub mod HoldLaws
 pub mod RootHolds
+pub mod RootSpots
 pub mod WrongLaws
 pub mod BesideLaws
 pub mod HelpLaws

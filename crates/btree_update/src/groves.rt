@@ -1,4 +1,4 @@
-ghost use Rattle.std.specs.Prelude.{◌≡◌, ◌⊎◌, ◌<◌, ◌≤◌, ◌+◌, ◌-◌, ◌*◌, ℕ, List, [], suc, vec_len, vec_capacity, IfOk, IfSome, IsErrOf, IsTrue, Bool, Contains, length};
+ghost use Rattle.std.specs.Prelude.{◌≡◌, ◌↔◌, ◌⊎◌, ◌<◌, ◌≤◌, ◌+◌, ◌-◌, ◌*◌, ◌^◌, ℕ, List, [], None, suc, vec_len, vec_capacity, IfOk, IfSome, IsErrOf, IsTrue, Bool, Contains, length};
 ghost use Rattle.root_codec.specs.RootRecord.{FitsRoot};
 ghost use Rattle.node_codec.specs.declared.body.Entry.{Entry};
 ghost use Rattle.node_codec.specs.Record.{DataRecord};
@@ -18,24 +18,26 @@ ghost use Rattle.std.specs.declared.vec.Vec.{Vec};
 ghost use Rattle.std.specs.declared.alloc.Global.{Global};
 ghost use Rattle.btree_walk.specs.Looks.{Looks};
 ghost use Rattle.btree_walk.specs.Mapped.{IsMappedAs};
-ghost use Rattle.btree_walk.specs.Sights.{StandsOver};
+ghost use Rattle.btree_walk.specs.Sights.{CachedFits, StandsOver};
 ghost use Rattle.btree_update.specs.Among.{HaveNodes, CachesAmong};
 ghost use Rattle.btree_twigs.specs.declared.twigs.Child.{Child};
 ghost use Rattle.btree_update.specs.declared.refusals.ReadyRefusal.{ReadyRefusal};
 ghost use Rattle.btree_update.specs.Held.{Bound, bound, AreBelow};
 ghost use Rattle.btree_update.specs.Holding.{HoldsFew, AddsSpares};
-ghost use Rattle.btree_update.specs.Finding.{GroveFinds, GroveStops, KeepsWay, UsesCache};
+ghost use Rattle.btree_update.specs.Finding.{RootFinds, GroveFinds, GroveStops, KeepsWay, UsesCache};
 ghost use Rattle.btree_update.specs.Groves.{KeepsTree, IsSound, IsReadFrom, IsReadBeside, IsReadBesideAt, HasLevels, RefusesWrong, MayRise, CanInsert, CanRemove, GroveMaps, places_of, grown_in, IsAddressOf, LetsGo, Goes};
 
 use crate::counting::count;
 use crate::finding::find_root;
 use crate::helping::help_root;
 use crate::holding::{hold_way, least_of_root};
+use crate::lacking::lacks_root;
 use crate::opening::{note, open_root};
 use crate::refusals::ReadyRefusal;
 use crate::siblings::is_mapped;
 use btree_twigs::{Child, Spot, Twig, blank, find, level_of, put_top, take_top, wipe};
 use btree_walk::NodeReader;
+use node_cache::NodeCache;
 use node_codec::Entry;
 use page_store::FetchRefusal;
 use platform::Platform;
@@ -157,6 +159,27 @@ impl Grove {
         find_root(
             platform,
             reader,
+            self.order,
+            block,
+            &self.top,
+            self.level,
+            self.blocks,
+        )
+    }
+
+    /// Whether the nodes in memory, and below them the cache, already say that a block isn't mapped. It reads nothing and changes nothing, nor
+    /// the order in which nodes of the cache were used: where a node on the way is in neither, or does not fit, the answer is no.
+    pub fn lacks(&self, block: u64, cache: &NodeCache) -> bool
+        requires sound { IsSound self.now }
+        requires to { block < self.now.blocks }
+        requires within { (head size : ℕ) × (head ≤ 2 ^ 64) × AreBelow (bound head size) (places_of self.now) }
+        ensures finds { IsTrue result ↔ RootFinds (CachedFits cache.now.nodes) self.now.order block (self.now.level - 1) self.now.blocks self.now.top None }
+        // Over pages that say what the cache keeps, a look-up finds no entry of the block, and the tree maps it to nothing.
+        ensures found { (pages : List (List ℕ)) → StandsOver pages cache.now → IsTrue result → GroveFinds pages block self.now None }
+        ensures maps { (pages : List (List ℕ)) → StandsOver pages cache.now → IsTrue result → (mapped : List Mapped) → GroveMaps pages self.now mapped → LacksBlock block mapped }
+    {
+        lacks_root(
+            cache,
             self.order,
             block,
             &self.top,

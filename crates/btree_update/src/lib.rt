@@ -6,6 +6,7 @@ mod finding;
 mod groves;
 mod helping;
 mod holding;
+mod lacking;
 mod laws;
 mod opening;
 mod reading;

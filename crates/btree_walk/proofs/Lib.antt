@@ -16,3 +16,4 @@ pub mod ListLaws
 pub mod ApartLaws
 pub mod LevelLaws
 pub mod OrderLaws
+pub mod LackLaws

@@ -8,6 +8,7 @@ mod branches;
 mod entry_list;
 mod finding;
 mod gathering;
+mod lacking;
 mod laws;
 mod list_laws;
 mod listing;
@@ -19,6 +20,7 @@ mod walking;
 
 pub use entry_list::Entries;
 pub use finding::find;
+pub use lacking::lacks_cached;
 pub use laws::{
     balance, found_is_mapped, sees_the_pages, stands_over_more_pages, stopped_is_wrong,
 };

@@ -18,7 +18,8 @@ impl Session {
     ghost use Rattle.device_session.specs.Going.{GoesOn, Updates};
     ghost use Rattle.device_session.specs.Keys.{StaysListed};
 
-    /// Unmaps a block, which then reads as zeros. One that is not mapped stays so, and nothing is touched.
+    /// Unmaps a block, which then reads as zeros. One that is not mapped stays so, and nothing is touched: where the nodes in memory
+    /// and the cache say so, that is answered at once, and nothing is read or brought into memory.
     ///
     /// `Range` comes exactly where the device has no such block. `BadRecord` never comes on a sound device;
     /// on a forged one it names a node on the way to the block, or beside it, that does not fit, or the root
@@ -46,6 +47,9 @@ impl Session {
     {
         if block >= self.root.blocks {
             return Err(TrimRefusal::Range);
+        }
+        if self.grove.lacks(block, &self.reader.cache) {
+            return Ok(());
         }
         let is_mapped = match self.ready(platform, block) {
             Ok(is_mapped) => is_mapped,

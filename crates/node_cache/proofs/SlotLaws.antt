@@ -9,7 +9,7 @@ use Rattle.std.proofs.Math.ListN.{set}
 use Rattle.std.proofs.lemmas.Option.{slice_get_past, slice_get_within, slice_get-get_or, slice_get_cases}
 use Rattle.std.proofs.lemmas.List.Elements.{All-nil, All-cons, All-head, All-tail, All-append, All-weaker, All-contains}
 use Rattle.node_cache.specs.declared.slots.CachedNode.{CachedNode}
-use Rattle.node_cache.specs.Cached.{cached, cached_node, without, IsCached, Uses}
+use Rattle.node_cache.specs.Cached.{cached, cached_node, without, IsCached, IsOnlyCached, Uses}
 use Rattle.lru.specs.LruCache.{lru_cache, put_entries, promoted, demoted}
 use Rattle.lru.proofs.Splits.{Contains-head, Contains-tail, Contains-cons, Contains-nil}
 use Rattle.node_codec.specs.declared.body.NodeBody.{NodeBody}
@@ -503,6 +503,11 @@ module _ (es after : List (ℕ × Option CachedNode)) (addrs : List (Option ℕ)
       let here = subst (Contains (nodes_in es)) same (contains_at_slot s k es found) in
       let only = λ (other : NodeBody) (too : IsCached (nodes_in es) addr key other). ap (λ (j : CachedNode). j.node) (one_of_apart (nodes_in es) (cached_node addr key other) (cached_node addr key k.node) tied.apart too here refl) in
       (record { here = here; only = only }, ap (cached (length addrs)) kept)
+
+-- the node in the slot of an address is the one that is cached for it
+pub only_at_slot : (es : List (ℕ × Option CachedNode)) (addrs : List (Option ℕ)) (s addr : ℕ) (key : List ℕ) (k : CachedNode) → IsTied es addrs → slice_get addrs s ≡ Some (Some addr)
+    → lookup (nat_eq s) es ≡ Some (Some k) → k.key ≡ key → IsOnlyCached (nodes_in es) addr key k.node
+only_at_slot es addrs s addr key k tied listed found keyed = (uses_after es (promoted (nat_eq s) es) addrs s addr key k tied listed found keyed refl).0
 
 -- nothing is found where the address has no slot
 pub none_unlisted : (es : List (ℕ × Option CachedNode)) (addrs : List (Option ℕ)) (addr : ℕ) (key : List ℕ) → IsTied es addrs → IsUnlisted addrs addr → (node : NodeBody) → IsCached (nodes_in es) addr key node → ⊥

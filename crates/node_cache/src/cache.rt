@@ -124,6 +124,18 @@ impl NodeCache {
         }
     }
 
+    /// The node that is cached for an address under this key. It is not used by that: the order stays as it is.
+    /// `None` comes exactly where none is.
+    pub fn peek(&self, addr: u64, key: &Key) -> Option<&NodeBody>
+        ensures found { IfSome result (λ node. IsOnlyCached self.now.nodes addr key.now node.now) }
+        ensures none { IfNone result ((node : NodeBody) → ¬ (IsCached self.now.nodes addr key.now node)) }
+    {
+        let Some(number) = slot_of(&self.buckets, &self.addrs, addr) else {
+            return None;
+        };
+        node_under(&self.slots, number, key)
+    }
+
     /// Whether a node is cached for an address under this key, which then becomes the most recent one.
     fn use_again(&mut self, addr: u64, key: &Key) -> bool
         ensures used { IsTrue result → (node : NodeBody) × Uses self.old addr key.now (Some node) self.new }
@@ -295,6 +307,23 @@ fn has_key(slots: &LruCache<usize, Slot>, number: usize, key: &Key) -> bool
     match slot.node() {
         Some(kept) => kept.key == *key,
         None => false,
+    }
+}
+
+/// The node in a slot, if it is cached under this key.
+fn node_under<'a>(
+    slots: &'a LruCache<usize, Slot>,
+    number: usize,
+    key: &Key,
+) -> Option<&'a NodeBody>
+    ensures some { IfSome result (λ node. (kept : CachedNode) × (lookup (nat_eq number) slots.now.entries ≡ Some (Some kept)) × (kept.key ≡ key.now) × (kept.node ≡ node.now)) }
+    ensures none { IfNone result (¬ ((kept : CachedNode) × (lookup (nat_eq number) slots.now.entries ≡ Some (Some kept)) × (kept.key ≡ key.now))) }
+{
+    let kept = slots.peek(&number)?.node()?;
+    if kept.key == *key {
+        Some(&kept.node)
+    } else {
+        None
     }
 }
 

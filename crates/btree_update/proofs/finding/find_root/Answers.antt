@@ -17,20 +17,13 @@ use Rattle.btree_update.specs.Held.{bound}
 use Rattle.btree_update.specs.Holding.{CanHoldRoot}
 use Rattle.btree_update.specs.Finding.{FindsBelow, ComesToWrong, RootFinds, RootFindsBy, RootStops, RootStopsBy, RootKeeps}
 use Rattle.btree_update.proofs.RootHolds.{root_grown, root_lt}
+use Rattle.btree_update.proofs.RootSpots.{spot_is, root_want_is}
 use Rattle.btree_update.proofs.FoundLaws.{looks_more, up_twig, goes_on, from_level, want_is}
 use Rattle.btree_update.proofs.KeptWay.{finds_there, OnOk_from, OnOk_map}
 use Rattle.btree_update.specs.Among.{HaveNodes, HaveSpot}
 use Rattle.btree_update.proofs.AmongLaws.{grown_among, kept_among, spot_among}
 use Rattle.btree_update.proofs.CacheLaws.{stands_on, caches_fewer}
 use Rattle.btree_update.proofs.finding.find_root.Goals as goal
-
--- where the search in the nodes in memory ends
-spot_is : (order level block high head low : ℕ) (twig : Twig) (top : Child) (spot : Spot) → CanHoldRoot order level block high head top → top ≡ made.Grown low twig →
-    ((order level least most low : ℕ) → IsTwig order level least most low high twig → low ≤ block → block < high → IsSpot block (stubs_below level high twig) spot) →
-    IsSpot block (stubs_below (level - 1) high twig) spot
-spot_is order level block high head low twig top spot can is find =
-    let at = root_grown order level block high head low twig (subst (CanHoldRoot order level block high head) is can) in
-    find order (level - 1) at.least order at.low at.shaped at.from at.to
 
 less_one : (level n : ℕ) → n ≤ level - 1 → n ≤ level
 less_one level n le = omega (arith, le)
@@ -72,12 +65,6 @@ returns-in-Grown-clause-looks g c =
     looks_more g.P.Platform _ c.args.level c.args.platform.now c.find_from.new.platform
     (less_one c.args.level _ (from_level c.args.block (c.args.level - 1) (stubs_below (c.args.level - 1) c.args.high c.in-Grown.twig) c.find-spot.result spot (up_twig (c.args.level - 1) c.args.high c.in-Grown.twig)))
     c.find_from.ensures.looks
-
--- what is wanted of a root on the medium
-root_want_is : (order level block high head low addr least : ℕ) (key : List ℕ) (top : Child) → CanHoldRoot order level block high head top → top ≡ made.Kept low addr key → least ≡ top_least (level - 1) →
-    want_at order level low high addr least ≡ top_want order high (suc (level - 1)) addr
-root_want_is order level block high head low addr least key top can is least_is =
-    want_is order high level low addr least can.one (subst (IsRootBy order (level - 1) high) (made.outs-Kept low addr key) (subst (CanHoldRoot order level block high head) is can).shaped) least_is
 
 pub returns-in-Kept-clause-found : goal.returns-in-Kept-clause-found
 returns-in-Kept-clause-found g c = λ tells stands.

@@ -1,4 +1,4 @@
-use Rattle.std.proofs.Common.{◌≡◌, ◌∙◌, ◌⊎◌, ◌||◌, ◌+◌, ◌<◌, ◌≤◌, ℕ, Bool, true, false, List, IsTrue, inl, inr, refl, sym, ap, subst, arith}
+use Rattle.std.proofs.Common.{◌≡◌, ◌∙◌, ◌⊎◌, ◌||◌, ◌+◌, ◌^◌, ◌<◌, ◌≤◌, ℕ, Bool, true, false, List, IsTrue, inl, inr, refl, sym, ap, subst, arith}
 use Rattle.std.specs.FinMap as maps
 use Rattle.sdbt_base.specs.Keys.{key_size}
 use Rattle.platform.specs.Image.{Image}
@@ -28,6 +28,35 @@ use Rattle.device_session.proofs.session.Session.trim.Goals as goal
 
 abbrev any : Stub → Bool
 any s = true
+
+-- ---- where the block isn't there, by the nodes in memory and the cache
+
+pub lacks-requires-clause-within : goal.lacks-requires-clause-within
+lacks-requires-clause-within g c =
+    let o = subst (λ (s : Session). IsOpen s (g.P.Platform.head c.args.platform.now)) (sym c.self.view_is) c.requires in
+    (g.P.Platform.head c.args.platform.now, key_size c.self.inside.root.version, omega (arith, g.met.P.Platform.has_room c.args.platform.now, g.met.P.Platform.is_limited c.args.platform.now), o.below)
+
+pub returns-then-lacks-clause-array : goal.returns-then-lacks-clause-array
+returns-then-lacks-clause-array g c = λ told device contents h.
+    let image = (g.P.Platform.history c.args.platform.now).present in
+    let k = subst (λ (s : Session). Holds s image device contents) (sym c.self.view_is) h in
+    let u = unmapped (the_view c.self.inside) image device contents c.args.block (c.lacks.ensures.maps image.readable k.cached c.if-lacks.true) k in
+    record { array = subst (λ (s : Session). Holds s image device (maps.remove contents c.args.block) × (s.is_touched ≡ (s.is_touched || maps.contains_key contents c.args.block))) c.self.view_is u; pages = λ pages are. are }
+
+pub returns-then-lacks-clause-counter : goal.returns-then-lacks-clause-counter
+returns-then-lacks-clause-counter g c = λ told over.
+    let pages = (g.P.Platform.history c.args.platform.now).present.readable in
+    let over' = subst (λ (s : Session). StandsOver pages s.cache) (sym c.self.view_is) over in
+    inl (subst (λ (s : Session). IsFound false pages s c.args.block) c.self.view_is (c.lacks.ensures.found pages over' c.if-lacks.true), refl)
+
+pub returns-then-lacks-clause-goes_on : goal.returns-then-lacks-clause-goes_on
+returns-then-lacks-clause-goes_on g c = goes_start _ _ _ _ c.requires
+
+pub returns-then-lacks-clause-idle : goal.returns-then-lacks-clause-idle
+returns-then-lacks-clause-idle g c = λ same. (refl, record { order = refl; blocks = refl; head = refl; level = refl; top = refl; gone = refl; never = refl })
+
+pub returns-then-lacks-clause-updates : goal.returns-then-lacks-clause-updates
+returns-then-lacks-clause-updates g c = updates_none _ _ _ refl refl refl
 
 -- ---- the array
 
