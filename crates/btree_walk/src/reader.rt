@@ -3,7 +3,7 @@ ghost use Rattle.page_store.specs.Buffer.{IsBlank};
 ghost use Rattle.btree_walk.specs.Readers.{IsWiped};
 
 use arrayvec::ArrayVec;
-use node_cache::NodeCache;
+use node_cache::{NodeCache, wipe_entries};
 use node_codec::NodeBody;
 use page_store::Buffers;
 use sdbt_base::Memory;
@@ -43,7 +43,10 @@ impl NodeReader {
         ensures cache { self.new.cache ≡ self.old.cache }
     {
         self.buffers.wipe();
-        *self.node = blank_node();
+        let node: &mut NodeBody = &mut self.node;
+        node.level = 0;
+        node.version = 1;
+        wipe_entries(&mut node.entries);
     }
 }
 

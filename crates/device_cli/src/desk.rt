@@ -352,8 +352,8 @@ impl Desk {
         if let Some(mut session) = self.session.take() {
             session.wipe();
         }
-        self.buffer = [0; BLOCK];
-        self.writer = ReplyWriter::new();
+        self.buffer.fill(0);
+        self.writer.wipe();
     }
 
     fn stat<P: Platform>(&self, platform: &P) -> Result<Reply, DeviceStop>

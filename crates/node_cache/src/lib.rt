@@ -8,9 +8,11 @@
 mod buckets;
 mod cache;
 mod slots;
+mod wiping;
 
 #[doc(hidden)]
 pub use buckets::Bucket;
 pub use cache::{NodeCache, Put};
 #[doc(hidden)]
 pub use slots::{CachedNode, Slot};
+pub use wiping::wipe_entries;

@@ -4,6 +4,7 @@ ghost use Rattle.node_codec.specs.declared.body.NodeBody.{NodeBody};
 ghost use Rattle.node_cache.specs.declared.slots.CachedNode.{CachedNode};
 ghost use Rattle.node_cache.specs.Cached.{cached_node, node_of};
 
+use crate::wiping::wipe_entries;
 use arrayvec::ArrayVec;
 use node_codec::{Entry, NodeBody};
 use sdbt_base::{Key, Memory};
@@ -83,7 +84,7 @@ impl CachedNode {
         ensures entries { self.new.node.entries.items ≡ [] }
     {
         self.key = Key::from_bytes([0; 32]);
-        self.node.entries = ArrayVec::new();
+        wipe_entries(&mut self.node.entries);
     }
 }
 

@@ -50,6 +50,14 @@ impl LineBuffer {
         self.len = 0;
     }
 
+    /// Makes the line empty, and leaves nothing of it nor of those before it.
+    pub(crate) fn wipe(&mut self)
+        ensures { self.new ≡ [] }
+    {
+        self.bytes.fill(0);
+        self.len = 0;
+    }
+
     /// Puts a text at the end of a line that has room for it.
     pub(crate) fn push(&mut self, text: &[u8])
         requires { length self.old + length text.now ≤ 8300 }

@@ -28,6 +28,13 @@ impl ReplyWriter {
         }
     }
 
+    /// Leaves nothing of the lines that were written.
+    pub fn wipe(&mut self)
+        ensures { self.new.line ≡ [] }
+    {
+        self.line.wipe();
+    }
+
     /// Puts the line of a reply, whose bytes stand at the front of a buffer, with its line feed. At a fault a first part of it
     /// was put.
     pub fn write<O: Sink>(
