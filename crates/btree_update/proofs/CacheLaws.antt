@@ -18,7 +18,8 @@ use Rattle.page_store.specs.Places.{FitsAt, NothingFits}
 use Rattle.page_store.proofs.RecordLaws.{one_record}
 use Rattle.node_cache.specs.declared.slots.CachedNode.{CachedNode}
 use Rattle.node_cache.specs.Cached.{Cached, cached_node, IsCached}
-use Rattle.btree_walk.specs.Sights.{NodeFits, IsOfPage, StandsOver, KeepsOnly}
+use Rattle.btree_walk.specs.Sights.{NodeFits, IsOfPage, StandsOver, KeepsOnly, ForgetsNone}
+use Rattle.btree_walk.proofs.ForgetLaws.{forgets_then}
 use Rattle.page_store.specs.declared.refusals.FetchRefusal.{FetchRefusal}
 use Rattle.page_store.specs.declared.refusals.FetchRefusal.TheVariants as fetches
 use Rattle.btree_update.specs.declared.refusals.ReadyRefusal.TheVariants as ready
@@ -47,7 +48,7 @@ nothing_else pages want key node small page misfit = λ value fits.
 pub caches_fewer : {S : Type 0} (P : Ghosts S) (Such Those : List (List ℕ) → List Place → Type 0) (platform : S) (old new : Cached) → ((pages : List (List ℕ)) (places : List Place) → Such pages places → Those pages places) → CachesAmong P Those platform old new
     → CachesAmong P Such platform old new
 caches_fewer P Such Those platform old new such c = record {
-  capacity = c.capacity;
+  forgets = c.forgets;
   stands = c.stands;
   among = λ tells stands places s kept. c.among tells stands places (such (P.history platform).present.readable places s) kept;
 }
@@ -60,16 +61,16 @@ caches_then P Such Those first second old mid new same such one two =
     let still : P.tells → (P.history second).present.readable ≡ (P.history first).present.readable = λ tells. ap (λ i. i.readable) (same tells) in
     let over : P.tells → StandsOver (P.history first).present.readable old → StandsOver (P.history second).present.readable mid = λ tells stands. subst (λ p. StandsOver p mid) (sym (still tells)) (one.stands tells stands) in
     record {
-      capacity = two.capacity ∙ one.capacity;
+      forgets = forgets_then old mid new one.forgets two.forgets;
       stands = λ tells stands. subst (λ p. StandsOver p new) (still tells) (two.stands tells (over tells stands));
       among = λ tells stands places s kept. two.among tells (over tells stands) places (subst (λ p. Those p places) (sym (still tells)) (such tells stands places s)) (one.among tells stands places s kept);
     }
 
 -- the node of a child on the medium is read
-pub caches_read : {S : Type 0} (P : Ghosts S) (level high low addr : ℕ) (key : List ℕ) (c : Child) (platform : S) (old new : Cached) → c ≡ made.Kept low addr key → 1 ≤ level → new.capacity ≡ old.capacity
+pub caches_read : {S : Type 0} (P : Ghosts S) (level high low addr : ℕ) (key : List ℕ) (c : Child) (platform : S) (old new : Cached) → c ≡ made.Kept low addr key → 1 ≤ level → ForgetsNone old new
     → (P.tells → StandsOver (P.history platform).present.readable old → StandsOver (P.history platform).present.readable new) → KeepsBut addr key old new → CachesAmong P (λ pages. HaveNodes pages (stubs level high c)) platform old new
-caches_read P level high low addr key c platform old new is one same stands but = record {
-  capacity = same;
+caches_read P level high low addr key c platform old new is one forgets stands but = record {
+  forgets = forgets;
   stands = stands;
   among = λ tells h places such kept. read_among places level high low addr key c old new is one such.1 but kept;
 }

@@ -1,10 +1,10 @@
 -- That the nodes on the medium which a tree names are among these places, and what reading such nodes does to a cache.
-use Rattle.std.specs.Prelude.{◌≡◌, ℕ, ◌≤◌, List}
+use Rattle.std.specs.Prelude.{ℕ, ◌≤◌, List}
 use Rattle.std.specs.List.{AllByRecursion}
 use Rattle.platform.specs.declared.platforms.Platform.{Ghosts}
 use Rattle.page_store.specs.Tree.{Place}
 use Rattle.node_cache.specs.Cached.{Cached}
-use Rattle.btree_walk.specs.Sights.{StandsOver}
+use Rattle.btree_walk.specs.Sights.{StandsOver, ForgetsNone}
 use Rattle.btree_walk.specs.Among.{IsAmong, GoDown, StaysAmong}
 use Rattle.btree_twigs.specs.Stubs.{Stub}
 use Rattle.btree_twigs.specs.declared.twigs.Spot.{Spot}
@@ -24,9 +24,9 @@ HaveSpot pages (Found addr key) places = Unit {0}
 HaveSpot pages Absent places = Unit {0}
 HaveSpot pages (Below level low high addr key) places = GoDown pages places × IsAmong places addr key
 
--- the cache has room for as many nodes as before; where each that it kept is what its page is, so is each that it keeps now, and what is new are nodes of such
--- places over the pages
+-- the cache has room for as many nodes as before, and forgets none; where each that it kept is what its page is, so is each that it keeps now, and what is new
+-- are nodes of such places over the pages
 pub record CachesAmong {S : Type 0} (P : Ghosts S) (Such : List (List ℕ) → List Place → Type 0) (platform : S) (old new : Cached) : Type 0 where
-  pub capacity : new.capacity ≡ old.capacity
+  pub forgets : ForgetsNone old new
   pub stands : P.tells → StandsOver (P.history platform).present.readable old → StandsOver (P.history platform).present.readable new
   pub among : P.tells → StandsOver (P.history platform).present.readable old → StaysAmong (Such (P.history platform).present.readable) old new

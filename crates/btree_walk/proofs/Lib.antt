@@ -2,6 +2,7 @@ pub mod NodeLaws
 pub mod BalanceLaws
 pub mod Elements
 pub mod FindLaws
+pub mod ForgetLaws
 pub mod LookLaws
 pub mod MappedLaws
 pub mod OnLaws

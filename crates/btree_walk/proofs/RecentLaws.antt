@@ -127,7 +127,7 @@ early_on k next more all old mid new all_is less made stays few j above room in'
 
 -- ---- what stays cached where a node was used again
 
-contains-without : (addr : ℕ) (j : CachedNode) (ks : List CachedNode) → j.addr ≢ addr → Contains ks j → Contains (without addr ks) j
+pub contains-without : (addr : ℕ) (j : CachedNode) (ks : List CachedNode) → j.addr ≢ addr → Contains ks j → Contains (without addr ks) j
 contains-without addr j [] other in' = absurd (Contains-nil j in')
 contains-without addr j (k ∷ ks) other in' = elim (eqb_tells k.addr addr) [
   | inl same ↦ rw same.0 (elim (Contains-cons k ks j in') [

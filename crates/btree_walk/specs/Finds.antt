@@ -13,7 +13,7 @@ use Rattle.node_cache.specs.declared.slots.CachedNode.{CachedNode}
 use Rattle.node_cache.specs.Cached.{Cached, cached_node, touched, filled}
 use Rattle.btree_walk.specs.declared.turns.Turn.{Turn}
 use Rattle.btree_walk.specs.Ways.{IsWay, IsEntryOf, IsTurn}
-use Rattle.btree_walk.specs.Sights.{NodeFits, CachedFits, Sees, Misses, KeepsOnly}
+use Rattle.btree_walk.specs.Sights.{NodeFits, CachedFits, Sees, Misses, KeepsOnly, ForgetsNone}
 use Rattle.btree_walk.specs.Among.{KeepsBut}
 use Rattle.btree_walk.specs.Looks.{Looks}
 
@@ -103,7 +103,7 @@ pub record LooksFor {S : Type 0} (P : Ghosts S) (want : Want) (key : List ℕ) (
   pub seen : P.tells → IfOk told (SeesTurn old.nodes (P.history platform).present.readable want key block)
   pub bad : P.tells → (addr : ℕ) → IsErrOf told (refusals.BadRecord addr) → StopsHere (Misses old.nodes (P.history platform).present.readable) addr want key
   pub used : IfOk told (UsesNode want key block old new)
-  pub capacity : new.capacity ≡ old.capacity
+  pub forgets : ForgetsNone old new
   pub keeps : P.tells → KeepsOnly (P.history platform).present.readable old new
   pub but : KeepsBut want.addr key old new
   pub looks : Looks P 1 platform after

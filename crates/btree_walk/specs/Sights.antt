@@ -1,5 +1,5 @@
 -- Which record is seen at a place, where a cache stands before the pages.
-use Rattle.std.specs.Prelude.{◌≡◌, ◌≢◌, ◌⊎◌, ℕ, List, All, Contains}
+use Rattle.std.specs.Prelude.{◌≡◌, ◌≢◌, ◌⊎◌, ◌≤◌, ℕ, List, All, Contains, length}
 use Rattle.sdbt_base.specs.Keys.{version_of}
 use Rattle.node_codec.specs.declared.body.NodeBody.{NodeBody}
 use Rattle.node_codec.specs.Record.{Record, NodeRecord, FitsNode}
@@ -52,3 +52,17 @@ pub record KeepsOnly (pages : List (List ℕ)) (old new : Cached) : Type 0 where
 -- what was cached for other addresses is cached still
 abbrev pub StillKeeps : ℕ → Cached → Cached → Type 0
 StillKeeps addr old new = (k : CachedNode) → k.addr ≢ addr → Contains old.nodes k → Contains new.nodes k
+
+-- a node is cached for the address
+abbrev pub IsCachedFor : List CachedNode → ℕ → Type 0
+IsCachedFor nodes addr = (k : CachedNode) × Contains nodes k × (k.addr ≡ addr)
+
+-- as many nodes are cached as there is room for
+abbrev pub IsFull : Cached → Type 0
+IsFull cache = cache.capacity ≤ length cache.nodes
+
+-- nothing is forgotten: a node is cached still for each address for which one was, where the cache is not full, and a full one stays full
+pub record ForgetsNone (old new : Cached) : Type 0 where
+  pub capacity : new.capacity ≡ old.capacity
+  pub still : (addr : ℕ) → IsCachedFor old.nodes addr → IsCachedFor new.nodes addr ⊎ IsFull new
+  pub full : IsFull old → IsFull new

@@ -1,7 +1,7 @@
 ghost use Rattle.std.specs.Prelude.{◌≡◌, ◌<◌, ◌-◌, ℕ, List, Option, Ok, Err, IfOk, IfSome, IsErrOf};
 ghost use Rattle.sdbt_base.specs.Faults.{TellsOf};
 ghost use Rattle.node_codec.specs.declared.body.Entry.{Entry};
-ghost use Rattle.btree_walk.specs.Sights.{CachedFits, CachedMisfits, Sees, Misses, StandsOver, KeepsOnly};
+ghost use Rattle.btree_walk.specs.Sights.{CachedFits, CachedMisfits, Sees, Misses, StandsOver, KeepsOnly, ForgetsNone};
 ghost use Rattle.btree_walk.specs.Among.{IsAmong, GoDown, StaysAmong};
 ghost use Rattle.btree_walk.specs.Finds.{AsksFor, Finds, Stops, IsFound};
 ghost use Rattle.btree_walk.specs.Looks.{Looks};
@@ -40,12 +40,13 @@ pub fn find<P: Platform>(
     ensures cached { (found : Option Entry) (path : List ℕ) →
         Finds (CachedFits reader.old.cache.nodes) start.now.most block found (start.now.level - 1) start.now key.now path →
         (platform.new ≡ platform.old) × (result ≡ Ok found) }
-    // What is cached for the node stands in the place of its page, also where it doesn't fit.
+    // What is cached for the node stands in the place of its page, also where it doesn't fit, and it does so still.
     ensures misfit { CachedMisfits reader.old.cache.nodes start.now key.now →
-        (platform.new ≡ platform.old) × (result ≡ Err (FetchRefusal.BadRecord start.now.addr)) }
+        (platform.new ≡ platform.old) × (result ≡ Err (FetchRefusal.BadRecord start.now.addr)) × CachedMisfits reader.new.cache.nodes start.now key.now }
 
     ensures keeps { P.tells → KeepsOnly (P.history platform.old).present.readable reader.old.cache reader.new.cache }
-    ensures capacity { reader.new.cache.capacity ≡ reader.old.cache.capacity }
+    // A node is let go only where there is no room for it.
+    ensures forgets { ForgetsNone reader.old.cache reader.new.cache }
     // What is cached is of the places that lead down from the node.
     ensures among { P.tells → StandsOver (P.history platform.old).present.readable reader.old.cache →
         StaysAmong (λ places. GoDown (P.history platform.old).present.readable places × IsAmong places start.now.addr key.now) reader.old.cache reader.new.cache }

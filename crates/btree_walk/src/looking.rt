@@ -31,7 +31,8 @@ pub(crate) fn look<P: Platform>(
     ensures cached { (entries : List Entry) → CachedFits reader.old.cache.nodes want.now key.now (NodeRecord want.now.level entries) →
         (platform.new ≡ platform.old) × IsOkAnd result (IsTurn want.now entries block) }
 
-    ensures misfit { CachedMisfits reader.old.cache.nodes want.now key.now → (platform.new ≡ platform.old) × (result ≡ Err (FetchRefusal.BadRecord want.now.addr)) }
+    ensures misfit { CachedMisfits reader.old.cache.nodes want.now key.now →
+        (platform.new ≡ platform.old) × (result ≡ Err (FetchRefusal.BadRecord want.now.addr)) × CachedMisfits reader.new.cache.nodes want.now key.now }
     ensures still { (node : NodeBody) → IsCached reader.old.cache.nodes want.now.addr key.now node → StillKeeps want.now.addr reader.old.cache reader.new.cache }
 {
     if let Some(node) = reader.cache.get(want.addr, key) {

@@ -55,6 +55,7 @@ impl Model for NodeCache {
 
 impl NodeCache {
     ghost use Rattle.node_cache.specs.Cached.{filled, without, forgotten, IsCached, IsOnlyCached, Uses};
+    ghost use Rattle.node_cache.specs.Slots.{AreApart};
     ghost use Rattle.node_cache.specs.Lends.{EndsUsed};
 
     /// A cache of at most 4,096 nodes that keeps none yet. All memory that it ever takes is taken here. With
@@ -79,10 +80,11 @@ impl NodeCache {
 
     /// Keeps a node for its address under its key, as the most recent one, in the place of one that was cached
     /// for that address; else, where all places are taken, in that of the least recent one. `Off` comes
-    /// exactly where the capacity is 0.
+    /// exactly where the capacity is 0. No two nodes are cached for one address.
     pub fn put(&mut self, addr: u64, key: &Key, node: &NodeBody) -> Put
         ensures off { (result ≡ Put.Off) ↔ (self.old.capacity ≡ 0) }
         ensures cached { self.new ≡ filled self.old (cached_node addr key.now node.now) }
+        ensures apart { AreApart self.old.nodes }
     {
         self.put_node(addr, key, node.level, node.version, &node.entries)
     }
@@ -99,6 +101,7 @@ impl NodeCache {
         requires { length entries.now ≤ 64 }
         ensures off { (result ≡ Put.Off) ↔ (self.old.capacity ≡ 0) }
         ensures cached { self.new ≡ filled self.old (cached_node addr key.now (node_of level version entries.now)) }
+        ensures apart { AreApart self.old.nodes }
     {
         if self.addrs.is_empty() {
             return Put::Off;
@@ -116,6 +119,7 @@ impl NodeCache {
         ensures* used { sem 𝓛 (EndsUsed self.entry addr key.now result) }
         ensures found { IfSome result (λ node. IsOnlyCached self.old.nodes addr key.now node.now) }
         ensures none { IfNone result ((node : NodeBody) → ¬ (IsCached self.old.nodes addr key.now node)) }
+        ensures apart { AreApart self.old.nodes }
     {
         if self.use_again(addr, key) {
             self.latest()
@@ -140,6 +144,7 @@ impl NodeCache {
     fn use_again(&mut self, addr: u64, key: &Key) -> bool
         ensures used { IsTrue result → (node : NodeBody) × Uses self.old addr key.now (Some node) self.new }
         ensures none { ¬ (IsTrue result) → Uses self.old addr key.now None self.new }
+        ensures apart { AreApart self.old.nodes }
     {
         let Some(number) = slot_of(&self.buckets, &self.addrs, addr) else {
             return false;

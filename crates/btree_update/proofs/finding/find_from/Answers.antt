@@ -55,13 +55,13 @@ returns-in-Below-clause-uses g c =
           (λ found h room.
           let level = subst (λ s. level_from s ≤ c.find.new.reader.cache.capacity) c.in-Below.is room in
           subst (KeepsFrom new c.args.order c.args.block) (sym c.in-Below.is)
-          (found, (h.path, h.warm (omega (arith, level, c.find.ensures.capacity)))))
+          (found, (h.path, h.warm (omega (arith, level, c.find.ensures.forgets.capacity)))))
           (c.find.ensures.found tells);
     }
 
 pub returns-in-Below-clause-caches : goal.returns-in-Below-clause-caches
 returns-in-Below-clause-caches g c = record {
-  capacity = c.find.ensures.capacity;
+  forgets = c.find.ensures.forgets;
   stands = λ tells stands. stands_on _ _ _ stands (c.find.ensures.keeps tells);
   among = λ tells stands places such kept.
       (let has = subst (λ s. HaveSpot (g.P.Platform.history c.args.platform.now).present.readable s places) c.in-Below.is such in

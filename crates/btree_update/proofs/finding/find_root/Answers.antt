@@ -135,7 +135,7 @@ returns-in-Kept-clause-uses g c =
           (c.find.ensures.cached at.0 from.0 from.1).0);
       fills = λ tells. OnOk_from _ _ c.find.result
           (λ found h room.
-          let from : FindsBelow (CachedFits new) block want c.in-Kept.key found = (h.path, h.warm (omega (arith, room, c.find.ensures.capacity))) in
+          let from : FindsBelow (CachedFits new) block want c.in-Kept.key found = (h.path, h.warm (omega (arith, room, c.find.ensures.forgets.capacity))) in
           subst (RootKeeps new order block below high) (sym c.in-Kept.is)
           (found, subst (λ y. RootFindsBy (CachedFits new) order block below high y found) (sym (made.outs-Kept c.in-Kept.low c.in-Kept.addr c.in-Kept.key)) (subst (λ w. FindsBelow (CachedFits new) block w c.in-Kept.key found) same from)))
           (c.find.ensures.found tells);
@@ -151,7 +151,7 @@ returns-in-Grown-clause-caches g c =
 
 pub returns-in-Kept-clause-caches : goal.returns-in-Kept-clause-caches
 returns-in-Kept-clause-caches g c = record {
-  capacity = c.find.ensures.capacity;
+  forgets = c.find.ensures.forgets;
   stands = λ tells stands. stands_on _ _ _ stands (c.find.ensures.keeps tells);
   among = λ tells stands places such kept.
       (let at = kept_among places c.args.level c.args.high c.in-Kept.low c.in-Kept.addr c.in-Kept.key c.args.top.now c.in-Kept.is c.requires.can.one such.1 in

@@ -476,11 +476,11 @@ hold_way-returns-in-Grown-clause-caches g t c =
 
 pub hold_way-returns-in_err-twig-in-Kept-clause-caches : goal.hold_way-returns-in_err-twig-in-Kept-clause-caches
 hold_way-returns-in_err-twig-in-Kept-clause-caches g t c =
-    caches_read g.P.Platform c.args.level c.args.high c.in-Kept.low c.in-Kept.addr c.in-Kept.key c.args.child.now c.args.platform.now c.args.reader.now.cache c.read_node.new.reader.cache c.in-Kept.is c.requires.can.one c.in_err-twig-in-Kept.ensures.capacity c.in_err-twig-in-Kept.ensures.stands c.in_err-twig-in-Kept.ensures.but
+    caches_read g.P.Platform c.args.level c.args.high c.in-Kept.low c.in-Kept.addr c.in-Kept.key c.args.child.now c.args.platform.now c.args.reader.now.cache c.read_node.new.reader.cache c.in-Kept.is c.requires.can.one c.in_err-twig-in-Kept.ensures.forgets c.in_err-twig-in-Kept.ensures.stands c.in_err-twig-in-Kept.ensures.but
 
 pub hold_way-returns-in_err-left-in-Kept-clause-caches : goal.hold_way-returns-in_err-left-in-Kept-clause-caches
 hold_way-returns-in_err-left-in-Kept-clause-caches g t c =
-    let one = caches_read g.P.Platform c.args.level c.args.high c.in-Kept.low c.in-Kept.addr c.in-Kept.key c.args.child.now c.args.platform.now c.args.reader.now.cache c.read_node.new.reader.cache c.in-Kept.is c.requires.can.one c.in_ok-twig-in-Kept.ensures.capacity c.in_ok-twig-in-Kept.ensures.stands c.in_ok-twig-in-Kept.ensures.but in
+    let one = caches_read g.P.Platform c.args.level c.args.high c.in-Kept.low c.in-Kept.addr c.in-Kept.key c.args.child.now c.args.platform.now c.args.reader.now.cache c.read_node.new.reader.cache c.in-Kept.is c.requires.can.one c.in_ok-twig-in-Kept.ensures.forgets c.in_ok-twig-in-Kept.ensures.stands c.in_ok-twig-in-Kept.ensures.but in
     caches_then g.P.Platform (λ pages. HaveNodes pages (stubs c.args.level c.args.high c.args.child.now)) (λ pages. HaveNodes pages (stubs_below (c.args.level - 1) c.args.high c.in_ok-twig-in-Kept.twig)) c.args.platform.now c.read_node.new.platform c.args.reader.now.cache c.read_node.new.reader.cache c.hold_below-in-Kept.new.reader.cache
     c.in_ok-twig-in-Kept.ensures.looks.image
     (λ tells stands places such. nodes_below_read _ places c.args.level c.args.high c.in-Kept.low c.in-Kept.addr c.in-Kept.key _ c.in_ok-twig-in-Kept.twig c.args.child.now refl c.in-Kept.is c.requires.can.one (c.in_ok-twig-in-Kept.ensures.reads tells stands) such)
@@ -488,7 +488,7 @@ hold_way-returns-in_err-left-in-Kept-clause-caches g t c =
 
 pub hold_way-returns-in_err-hold-in-Kept-clause-caches : goal.hold_way-returns-in_err-hold-in-Kept-clause-caches
 hold_way-returns-in_err-hold-in-Kept-clause-caches g t c =
-    let one = caches_read g.P.Platform c.args.level c.args.high c.in-Kept.low c.in-Kept.addr c.in-Kept.key c.args.child.now c.args.platform.now c.args.reader.now.cache c.read_node.new.reader.cache c.in-Kept.is c.requires.can.one c.in_ok-twig-in-Kept.ensures.capacity c.in_ok-twig-in-Kept.ensures.stands c.in_ok-twig-in-Kept.ensures.but in
+    let one = caches_read g.P.Platform c.args.level c.args.high c.in-Kept.low c.in-Kept.addr c.in-Kept.key c.args.child.now c.args.platform.now c.args.reader.now.cache c.read_node.new.reader.cache c.in-Kept.is c.requires.can.one c.in_ok-twig-in-Kept.ensures.forgets c.in_ok-twig-in-Kept.ensures.stands c.in_ok-twig-in-Kept.ensures.but in
     caches_then g.P.Platform (λ pages. HaveNodes pages (stubs c.args.level c.args.high c.args.child.now)) (λ pages. HaveNodes pages (stubs_below (c.args.level - 1) c.args.high c.in_ok-twig-in-Kept.twig)) c.args.platform.now c.read_node.new.platform c.args.reader.now.cache c.read_node.new.reader.cache c.hold_below-in-Kept.new.reader.cache
     c.in_ok-twig-in-Kept.ensures.looks.image
     (λ tells stands places such. nodes_below_read _ places c.args.level c.args.high c.in-Kept.low c.in-Kept.addr c.in-Kept.key _ c.in_ok-twig-in-Kept.twig c.args.child.now refl c.in-Kept.is c.requires.can.one (c.in_ok-twig-in-Kept.ensures.reads tells stands) such)
@@ -496,7 +496,7 @@ hold_way-returns-in_err-hold-in-Kept-clause-caches g t c =
 
 pub hold_way-returns-in_ok-hold-in-Kept-clause-caches : goal.hold_way-returns-in_ok-hold-in-Kept-clause-caches
 hold_way-returns-in_ok-hold-in-Kept-clause-caches g t c =
-    let one = caches_read g.P.Platform c.args.level c.args.high c.in-Kept.low c.in-Kept.addr c.in-Kept.key c.args.child.now c.args.platform.now c.args.reader.now.cache c.read_node.new.reader.cache c.in-Kept.is c.requires.can.one c.in_ok-twig-in-Kept.ensures.capacity c.in_ok-twig-in-Kept.ensures.stands c.in_ok-twig-in-Kept.ensures.but in
+    let one = caches_read g.P.Platform c.args.level c.args.high c.in-Kept.low c.in-Kept.addr c.in-Kept.key c.args.child.now c.args.platform.now c.args.reader.now.cache c.read_node.new.reader.cache c.in-Kept.is c.requires.can.one c.in_ok-twig-in-Kept.ensures.forgets c.in_ok-twig-in-Kept.ensures.stands c.in_ok-twig-in-Kept.ensures.but in
     caches_then g.P.Platform (λ pages. HaveNodes pages (stubs c.args.level c.args.high c.args.child.now)) (λ pages. HaveNodes pages (stubs_below (c.args.level - 1) c.args.high c.in_ok-twig-in-Kept.twig)) c.args.platform.now c.read_node.new.platform c.args.reader.now.cache c.read_node.new.reader.cache c.hold_below-in-Kept.new.reader.cache
     c.in_ok-twig-in-Kept.ensures.looks.image
     (λ tells stands places such. nodes_below_read _ places c.args.level c.args.high c.in-Kept.low c.in-Kept.addr c.in-Kept.key _ c.in_ok-twig-in-Kept.twig c.args.child.now refl c.in-Kept.is c.requires.can.one (c.in_ok-twig-in-Kept.ensures.reads tells stands) such)

@@ -9,9 +9,9 @@ use Rattle.btree_twigs.specs.declared.twigs.Twig.{Twig, out-Twig}
 use Rattle.btree_twigs.specs.Stubs.{level_of, children_of}
 use Rattle.btree_update.specs.Holding.{IsNodeFor}
 use Rattle.std.specs.Option.{option_copied}
-use Rattle.node_cache.specs.Cached.{Cached, Uses, cached_node, filled}
+use Rattle.node_cache.specs.Cached.{Cached, Uses, IsCached, cached_node, filled}
 use Rattle.node_codec.specs.declared.body.NodeBody.{NodeBody}
-use Rattle.btree_walk.specs.Sights.{NodeFits, KeepsOnly}
+use Rattle.btree_walk.specs.Sights.{NodeFits, KeepsOnly, ForgetsNone}
 use Rattle.btree_walk.proofs.OnLaws.{IfOk_map}
 use Rattle.btree_update.specs.Reading.{all_kept}
 use Rattle.btree_walk.proofs.SightLaws.{keeps_filled, keeps_used}
@@ -20,6 +20,7 @@ use Rattle.std.proofs.lemmas.Result.{err_from_is_err_and}
 use Rattle.btree_update.proofs.CacheLaws.{stands_on, kept_is_page, nothing_else, refused_bad}
 use Rattle.btree_walk.specs.Among.{KeepsBut}
 use Rattle.btree_walk.proofs.AmongLaws.{but_same, but_filled, but_used}
+use Rattle.btree_walk.proofs.ForgetLaws.{forgets_used, forgets_same, forgets_filled, found_still}
 use Rattle.btree_update.proofs.reading.read_node.Goals as goal
 
 -- a node that fits, in memory
@@ -84,22 +85,28 @@ returns-in_err-fetch_node-clause-bad g c =
     let told = ap Err (refused_bad c.in_err-fetch_node.field-0.0 addr (cc)) in
     (c.in_err-fetch_node.ensures.bad addr told, c.in_err-fetch_node.ensures.nothing_fits tells addr told))
 
--- ---- the room stays
+-- ---- what is forgotten
 
-pub returns-then-not-fits-clause-capacity : goal.returns-then-not-fits-clause-capacity
-returns-then-not-fits-clause-capacity g c =
+pub returns-then-not-fits-clause-forgets : goal.returns-then-not-fits-clause-forgets
+returns-then-not-fits-clause-forgets g c =
     let uses = subst (λ (r : Option (Bor _)). Uses c.args.reader.now.cache c.args.want.now.addr c.args.key.now (option_copied r) c.get.follows.lender-at-none) c.in-Some.is c.get.follows.holds-at-none in
-    ap (λ (cache : Cached). cache.capacity) uses.1
+    forgets_used c.args.reader.now.cache c.get.follows.lender-at-none c.args.want.now.addr c.args.key.now c.in-Some.node.now c.get.ensures.apart uses
 
-pub returns-in-Some-clause-capacity : goal.returns-in-Some-clause-capacity
-returns-in-Some-clause-capacity g c =
+pub returns-in-Some-clause-forgets : goal.returns-in-Some-clause-forgets
+returns-in-Some-clause-forgets g c =
     let uses = subst (λ (r : Option (Bor _)). Uses c.args.reader.now.cache c.args.want.now.addr c.args.key.now (option_copied r) c.get.follows.lender-at-none) c.in-Some.is c.get.follows.holds-at-none in
-    ap (λ (cache : Cached). cache.capacity) uses.1
+    forgets_used c.args.reader.now.cache c.get.follows.lender-at-none c.args.want.now.addr c.args.key.now c.in-Some.node.now c.get.ensures.apart uses
 
-pub returns-clause-capacity : goal.returns-clause-capacity
-returns-clause-capacity g c =
+pub returns-in_err-fetch_node-clause-forgets : goal.returns-in_err-fetch_node-clause-forgets
+returns-in_err-fetch_node-clause-forgets g c =
     let uses = subst (λ (r : Option (Bor _)). Uses c.args.reader.now.cache c.args.want.now.addr c.args.key.now (option_copied r) c.get.follows.lender-at-none) c.in_default.is c.get.follows.holds-at-none in
-    ap (λ (cache : Cached). cache.capacity) c.put.ensures.cached ∙ ap (λ (cache : Cached). cache.capacity) uses.0
+    forgets_same c.args.reader.now.cache c.get.follows.lender-at-none uses.0
+
+pub returns-clause-forgets : goal.returns-clause-forgets
+returns-clause-forgets g c =
+    let uses = subst (λ (r : Option (Bor _)). Uses c.args.reader.now.cache c.args.want.now.addr c.args.key.now (option_copied r) c.get.follows.lender-at-none) c.in_default.is c.get.follows.holds-at-none in
+    let kept = cached_node c.args.want.now.addr c.args.key.now (record { level = c.args.want.now.level; version = c.version_of-version.result; entries = c.fetch_node.new.entries }) in
+    subst (ForgetsNone c.args.reader.now.cache) (sym (c.put.ensures.cached ∙ ap (λ (old : Cached). filled old kept) uses.0)) (forgets_filled c.args.reader.now.cache kept c.get.ensures.apart)
 
 pub returns-then-not-fits-clause-but : goal.returns-then-not-fits-clause-but
 returns-then-not-fits-clause-but g c =
@@ -125,14 +132,21 @@ returns-in_err-fetch_node-clause-but g c =
 -- ---- what is cached
 
 pub returns-then-not-fits-clause-cached : goal.returns-then-not-fits-clause-cached
-returns-then-not-fits-clause-cached g c = λ node here. (refl, λ misfit. refl, tt)
+returns-then-not-fits-clause-cached g c = λ node here.
+    let uses = subst (λ (r : Option (Bor _)). Uses c.args.reader.now.cache c.args.want.now.addr c.args.key.now (option_copied r) c.get.follows.lender-at-none) c.in-Some.is c.get.follows.holds-at-none in
+    let same : node ≡ c.in-Some.node.now = c.in-Some.ensures.found.only node here in
+    let still = found_still c.args.reader.now.cache c.get.follows.lender-at-none c.args.want.now.addr c.args.key.now c.in-Some.node.now uses in
+    (refl, λ misfit. refl, tt, subst (λ (n : NodeBody). IsCached c.get.follows.lender-at-none.nodes c.args.want.now.addr c.args.key.now n) (sym same) still)
 
 pub returns-in-Some-clause-cached : goal.returns-in-Some-clause-cached
 returns-in-Some-clause-cached g c = λ node here.
+    let uses = subst (λ (r : Option (Bor _)). Uses c.args.reader.now.cache c.args.want.now.addr c.args.key.now (option_copied r) c.get.follows.lender-at-none) c.in-Some.is c.get.follows.holds-at-none in
+    let still = found_still c.args.reader.now.cache c.get.follows.lender-at-none c.args.want.now.addr c.args.key.now c.in-Some.node.now uses in
     let same : node ≡ c.in-Some.node.now = c.in-Some.ensures.found.only node here in (
       refl,
       λ misfit. absurd (misfit (subst (NodeFits c.args.want.now c.args.key.now) (sym same) (c.fits.ensures.0 c.if-not-fits.false))),
       IfOk_map _ _ c.in_memory.result (λ twig is. is.1 ∙ ap (λ (n : NodeBody). all_kept n.entries.items) (sym same)) c.in_memory.ensures.node,
+      subst (λ (n : NodeBody). IsCached c.get.follows.lender-at-none.nodes c.args.want.now.addr c.args.key.now n) (sym same) still,
     )
 
 pub returns-in_err-fetch_node-clause-cached : goal.returns-in_err-fetch_node-clause-cached

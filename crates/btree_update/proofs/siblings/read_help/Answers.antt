@@ -60,9 +60,9 @@ returns-in_ok-twig-in-Kept-clause-reads g c = λ tells stands.
 pub returns-in_err-twig-in-Kept-clause-caches : goal.returns-in_err-twig-in-Kept-clause-caches
 returns-in_err-twig-in-Kept-clause-caches g c =
     let l = c.requires.can.level_is in
-    caches_read g.P.Platform c.args.level c.args.high c.in-Kept.low c.in-Kept.addr c.in-Kept.key c.args.child.now c.args.platform.now c.args.reader.now.cache c.read_node.new.reader.cache c.in-Kept.is (omega (arith, l)) c.in_err-twig-in-Kept.ensures.capacity c.in_err-twig-in-Kept.ensures.stands c.in_err-twig-in-Kept.ensures.but
+    caches_read g.P.Platform c.args.level c.args.high c.in-Kept.low c.in-Kept.addr c.in-Kept.key c.args.child.now c.args.platform.now c.args.reader.now.cache c.read_node.new.reader.cache c.in-Kept.is (omega (arith, l)) c.in_err-twig-in-Kept.ensures.forgets c.in_err-twig-in-Kept.ensures.stands c.in_err-twig-in-Kept.ensures.but
 
 pub returns-in_ok-twig-in-Kept-clause-caches : goal.returns-in_ok-twig-in-Kept-clause-caches
 returns-in_ok-twig-in-Kept-clause-caches g c =
     let l = c.requires.can.level_is in
-    caches_read g.P.Platform c.args.level c.args.high c.in-Kept.low c.in-Kept.addr c.in-Kept.key c.args.child.now c.args.platform.now c.args.reader.now.cache c.read_node.new.reader.cache c.in-Kept.is (omega (arith, l)) c.in_ok-twig-in-Kept.ensures.capacity c.in_ok-twig-in-Kept.ensures.stands c.in_ok-twig-in-Kept.ensures.but
+    caches_read g.P.Platform c.args.level c.args.high c.in-Kept.low c.in-Kept.addr c.in-Kept.key c.args.child.now c.args.platform.now c.args.reader.now.cache c.read_node.new.reader.cache c.in-Kept.is (omega (arith, l)) c.in_ok-twig-in-Kept.ensures.forgets c.in_ok-twig-in-Kept.ensures.stands c.in_ok-twig-in-Kept.ensures.but

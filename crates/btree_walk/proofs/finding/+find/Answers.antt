@@ -13,6 +13,7 @@ use Rattle.btree_walk.proofs.LookLaws.{used_range, asks_next, next_below, next_l
 use Rattle.btree_walk.proofs.OnLaws.{found_leaf, found_on, stopped_on, first_kept, same_found, kept_on, IfOk_map, entry_below}
 use Rattle.btree_walk.proofs.MappedLaws.{stands_over_still}
 use Rattle.btree_walk.proofs.AmongLaws.{among_but, goes_among, keeps_then}
+use Rattle.btree_walk.proofs.ForgetLaws.{forgets_then}
 use Rattle.btree_walk.proofs.finding.+find.Goals as goal
 
 pub returns-in_err-found-clause-bad : goal.returns-in_err-found-clause-bad
@@ -120,6 +121,9 @@ returns-in-Below-clause-keeps g t c = λ tells.
     keeps_then pages c.args.reader.now.cache c.look.new.reader.cache c.find.new.reader.cache (c.in_ok-found.ensures.look.keeps tells)
     (subst (λ (p : List (List ℕ)). KeepsOnly p c.look.new.reader.cache c.find.new.reader.cache) same (c.find.ensures.keeps tells)))
 
+pub returns-in-Below-clause-forgets : goal.returns-in-Below-clause-forgets
+returns-in-Below-clause-forgets g t c = forgets_then c.args.reader.now.cache c.look.new.reader.cache c.find.new.reader.cache c.in_ok-found.ensures.look.forgets c.find.ensures.forgets
+
 -- ---- a cached node that isn't wanted
 
 pub returns-in_err-found-clause-misfit : goal.returns-in_err-found-clause-misfit
@@ -128,7 +132,7 @@ returns-in_err-found-clause-misfit g t c =
     rw (p.1, p.2) (λ is.
     let misfit = c.in_err-found.ensures.misfit is in
     let same : c.in_err-found.field-0.0 ≡ BadRecord c.args.start.now.addr = let told = misfit.1 in cc in
-    (misfit.0, ap Err same))
+    (misfit.0, ap Err same, misfit.2))
 
 pub returns-in-Found-clause-misfit : goal.returns-in-Found-clause-misfit
 returns-in-Found-clause-misfit g t c = λ is. absurd (let no = (c.in_ok-found.ensures.misfit is).1 in cc)

@@ -9,6 +9,7 @@ use Rattle.btree_walk.specs.Sights.{NodeFits}
 use Rattle.btree_walk.proofs.SightLaws.{keeps_used}
 use Rattle.btree_walk.proofs.AmongLaws.{but_used}
 use Rattle.btree_walk.proofs.RecentLaws.{still_used}
+use Rattle.btree_walk.proofs.ForgetLaws.{forgets_used, found_still}
 use Rattle.btree_walk.proofs.LookLaws.{looks_still, same_entries, fits_too}
 use Rattle.btree_walk.proofs.looking.look.Goals as goal
 
@@ -24,7 +25,7 @@ returns-then-fits-clause-look g c =
       seen = search rules;
       bad = search rules;
       used = record { node = c.in-Some.node.now; fits = c.fits.ensures.0 c.if-fits.true; is = c.turn_at.ensures; first = inl uses.1 };
-      capacity = ap (λ (c : Cached). c.capacity) uses.1;
+      forgets = forgets_used c.args.reader.now.cache c.get.follows.lender-at-none c.args.want.now.addr c.args.key.now c.in-Some.node.now c.get.ensures.apart uses;
       keeps = λ tells. keeps_used (g.P.Platform.history c.args.platform.now).present.readable c.args.reader.now.cache c.get.follows.lender-at-none c.args.want.now.addr c.args.key.now c.in-Some.node.now uses;
       but = but_used c.args.reader.now.cache c.get.follows.lender-at-none c.args.want.now.addr c.args.key.now c.in-Some.node.now uses;
       looks = looks_still g.P.Platform c.args.platform.now;
@@ -41,7 +42,7 @@ returns-else-fits-clause-look g c =
       seen = search rules;
       bad = search rules;
       used = tt;
-      capacity = ap (λ (c : Cached). c.capacity) uses.1;
+      forgets = forgets_used c.args.reader.now.cache c.get.follows.lender-at-none c.args.want.now.addr c.args.key.now c.in-Some.node.now c.get.ensures.apart uses;
       keeps = λ tells. keeps_used (g.P.Platform.history c.args.platform.now).present.readable c.args.reader.now.cache c.get.follows.lender-at-none c.args.want.now.addr c.args.key.now c.in-Some.node.now uses;
       but = but_used c.args.reader.now.cache c.get.follows.lender-at-none c.args.want.now.addr c.args.key.now c.in-Some.node.now uses;
       looks = looks_still g.P.Platform c.args.platform.now;
@@ -75,7 +76,16 @@ pub returns-then-fits-clause-misfit : goal.returns-then-fits-clause-misfit
 returns-then-fits-clause-misfit g c = λ is. absurd (is.misfit (subst (NodeFits c.args.want.now c.args.key.now) (sym (c.in-Some.ensures.found.only is.node is.here)) (c.fits.ensures.0 c.if-fits.true)))
 
 pub returns-else-fits-clause-misfit : goal.returns-else-fits-clause-misfit
-returns-else-fits-clause-misfit g c = λ is. (refl, refl)
+returns-else-fits-clause-misfit g c = λ is.
+    (let uses = subst (λ (r : Option (Bor NodeBody)). Uses c.args.reader.now.cache c.args.want.now.addr c.args.key.now (option_copied r) c.get.follows.lender-at-none) c.in-Some.is c.get.follows.holds-at-none in (
+      refl,
+      refl,
+      record {
+        node = c.in-Some.node.now;
+        here = found_still c.args.reader.now.cache c.get.follows.lender-at-none c.args.want.now.addr c.args.key.now c.in-Some.node.now uses;
+        misfit = subst (λ (n : NodeBody). ¬ (NodeFits c.args.want.now c.args.key.now n)) (c.in-Some.ensures.found.only is.node is.here) is.misfit;
+      },
+    ))
 
 pub returns-clause-misfit : goal.returns-clause-misfit
 returns-clause-misfit g c = λ is. absurd (c.in_default.ensures.none is.node is.here)
