@@ -27,4 +27,5 @@ pub mod DatumLaws
 pub mod ManyLaws
 pub mod AscendLaws
 pub mod KeptWay
+pub mod WarmLaws
 pub mod FewLaws

@@ -6,7 +6,7 @@ ghost use Rattle.btree_walk.specs.Looks.{Looks};
 ghost use Rattle.node_codec.specs.declared.body.NodeBody.{NodeBody};
 ghost use Rattle.node_cache.specs.Cached.{IsCached, cached_node};
 ghost use Rattle.btree_walk.specs.Finds.{MakesFirst};
-ghost use Rattle.btree_walk.specs.Sights.{NodeFits, StandsOver};
+ghost use Rattle.btree_walk.specs.Sights.{NodeFits, StandsOver, StillKeeps};
 ghost use Rattle.btree_walk.specs.Among.{KeepsBut};
 ghost use Rattle.btree_twigs.specs.Stubs.{level_of, children_of};
 ghost use Rattle.btree_twigs.specs.declared.twigs.Twig.{out-Twig};
@@ -44,9 +44,11 @@ pub(crate) fn read_node<P: Platform>(
     ensures looks { Looks P.Platform 1 platform.old platform.new }
     ensures cause { TellsOf ReadyRefusal.PlatformFault result (P.faults platform.old) (P.faults platform.new) }
     ensures capacity { reader.new.cache.capacity ≡ reader.old.cache.capacity }
-    // What is cached stands in the place of the page, also where it doesn't fit, and nothing is read then.
+    // What is cached stands in the place of the page, also where it doesn't fit; nothing is read then, and what is cached for other
+    // addresses stays.
     ensures cached { (node : NodeBody) → IsCached reader.old.cache.nodes want.now.addr key.now node → (platform.new ≡ platform.old)
-        × (¬ (NodeFits want.now key.now node) → IsErrOf result (ReadyRefusal.BadRecord want.now.addr)) × IfOk result (λ twig. children_of twig ≡ all_kept node.entries.items) }
+        × (¬ (NodeFits want.now key.now node) → IsErrOf result (ReadyRefusal.BadRecord want.now.addr)) × IfOk result (λ twig. children_of twig ≡ all_kept node.entries.items)
+        × StillKeeps want.now.addr reader.old.cache reader.new.cache }
     // After an `Ok` the node is the one that was used last.
     ensures fills { IfOk result (λ twig. (node : NodeBody) × (children_of twig ≡ all_kept node.entries.items)
         × MakesFirst (cached_node want.now.addr key.now node) reader.old.cache reader.new.cache) }

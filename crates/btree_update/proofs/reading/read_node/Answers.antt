@@ -20,6 +20,7 @@ use Rattle.std.proofs.lemmas.Result.{err_from_is_err_and}
 use Rattle.btree_update.proofs.CacheLaws.{stands_on, kept_is_page, nothing_else, refused_bad}
 use Rattle.btree_walk.specs.Among.{KeepsBut}
 use Rattle.btree_walk.proofs.AmongLaws.{but_same, but_filled, but_used}
+use Rattle.btree_walk.proofs.RecentLaws.{still_used}
 use Rattle.btree_update.proofs.reading.read_node.Goals as goal
 
 -- a node that fits, in memory
@@ -125,14 +126,18 @@ returns-in_err-fetch_node-clause-but g c =
 -- ---- what is cached
 
 pub returns-then-not-fits-clause-cached : goal.returns-then-not-fits-clause-cached
-returns-then-not-fits-clause-cached g c = λ node here. (refl, λ misfit. refl, tt)
+returns-then-not-fits-clause-cached g c = λ node here.
+    let uses = subst (λ (r : Option (Bor _)). Uses c.args.reader.now.cache c.args.want.now.addr c.args.key.now (option_copied r) c.get.follows.lender-at-none) c.in-Some.is c.get.follows.holds-at-none in
+    (refl, λ misfit. refl, tt, still_used c.args.reader.now.cache c.get.follows.lender-at-none c.args.want.now.addr c.args.key.now c.in-Some.node.now uses)
 
 pub returns-in-Some-clause-cached : goal.returns-in-Some-clause-cached
 returns-in-Some-clause-cached g c = λ node here.
+    let uses = subst (λ (r : Option (Bor _)). Uses c.args.reader.now.cache c.args.want.now.addr c.args.key.now (option_copied r) c.get.follows.lender-at-none) c.in-Some.is c.get.follows.holds-at-none in
     let same : node ≡ c.in-Some.node.now = c.in-Some.ensures.found.only node here in (
       refl,
       λ misfit. absurd (misfit (subst (NodeFits c.args.want.now c.args.key.now) (sym same) (c.fits.ensures.0 c.if-not-fits.false))),
       IfOk_map _ _ c.in_memory.result (λ twig is. is.1 ∙ ap (λ (n : NodeBody). all_kept n.entries.items) (sym same)) c.in_memory.ensures.node,
+      still_used c.args.reader.now.cache c.get.follows.lender-at-none c.args.want.now.addr c.args.key.now c.in-Some.node.now uses,
     )
 
 pub returns-in_err-fetch_node-clause-cached : goal.returns-in_err-fetch_node-clause-cached
