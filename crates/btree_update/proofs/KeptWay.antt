@@ -108,6 +108,62 @@ finds_there Fits order block ss spot found is f =
     let same = spot_of block ss ss f.spot spot f.is is (same_here block ss (here_of block f.spot) (here_of block spot) (at_here block ss f.spot f.is) (at_here block ss spot is)) in
     subst (λ s. FindsFrom Fits order block s found) same f.finds
 
+-- ---- among fewer places
+
+-- these places come first, and all behind them begin after the block
+record ComeFirst (block : ℕ) (ss here : List Stub) : Type 0 where
+  rest : List Stub
+  is : ss ≡ here ++ rest
+  after : BeginBehind block rest
+
+come_first : (block : ℕ) (old bs here back : List Stub) → BeginBehind block bs → HaveBlock block here → BeginBehind block back → old ++ bs ≡ here ++ back → ComeFirst block old here
+come_first block old bs [] back behind has after same = record { rest = old; is = refl; after = behind_front block old bs (subst (BeginBehind block) (sym same) after) }
+come_first block [] bs (h ∷ here) back behind has after same =
+    let all = subst (BeginBehind block) same behind in
+    absurd (omega (arith, has.0.0, all.0))
+come_first block (o ∷ old) bs (h ∷ here) back behind has after same =
+    let head : o ≡ h = cc in
+    let tail : old ++ bs ≡ here ++ back = cc in
+    let r = come_first block old bs here back behind has.1 after tail in
+    record { rest = r.rest; is = ap (λ xs. o ∷ xs) r.is ∙ ap (λ x. x ∷ (here ++ r.rest)) head; after = r.after }
+
+at_front : (block : ℕ) (old bs front here back : List Stub) → BeginBehind block bs → EndBefore block front → HaveBlock block here → BeginBehind block back → old ++ bs ≡ front ++ (here ++ back) → IsAt block old here
+at_front block old bs [] here back behind before has after same =
+    let r = come_first block old bs here back behind has after same in
+    record { front = []; back = r.rest; all = r.is; before = tt; after = r.after }
+at_front block [] bs (f ∷ front) here back behind before has after same =
+    let all = behind_back block (f ∷ front) (here ++ back) (subst (BeginBehind block) same behind) in
+    let none = none_behind block here has (behind_front block here back all) in
+    subst (IsAt block []) (sym none) (record { front = []; back = []; all = refl; before = tt; after = tt })
+at_front block (o ∷ old) bs (f ∷ front) here back behind before has after same =
+    let head : o ≡ f = cc in
+    let tail : old ++ bs ≡ front ++ (here ++ back) = cc in
+    let r = at_front block old bs front here back behind before.1 has after tail in
+    record { front = f ∷ r.front; back = r.back; all = ap (λ xs. o ∷ xs) r.all ∙ ap (λ x. x ∷ (r.front ++ (here ++ r.back))) head; before = (before.0, r.before); after = r.after }
+
+-- places before the block and behind it are no hindrance
+at_narrow : (block : ℕ) (xs old bs front here back : List Stub) → EndBefore block xs → BeginBehind block bs → EndBefore block front → HaveBlock block here → BeginBehind block back → xs ++ (old ++ bs) ≡ front ++ (here ++ back) → IsAt block old here
+at_narrow block [] old bs front here back ends behind before has after same = at_front block old bs front here back behind before has after same
+at_narrow block (x ∷ xs) old bs [] [] back ends behind before has after same =
+    let all = subst (BeginBehind block) (sym same) after in
+    record { front = []; back = old; all = refl; before = tt; after = behind_front block old bs (behind_back block (x ∷ xs) (old ++ bs) all) }
+at_narrow block (x ∷ xs) old bs [] (h ∷ here) back ends behind before has after same =
+    let head : x ≡ h = cc in
+    let end = subst (λ (s : Stub). s.high ≤ block) head ends.0 in
+    absurd (omega (arith, has.0.1, end))
+at_narrow block (x ∷ xs) old bs (f ∷ front) here back ends behind before has after same =
+    let tail : xs ++ (old ++ bs) ≡ front ++ (here ++ back) = cc in
+    at_narrow block xs old bs front here back ends.1 behind before.1 has after tail
+
+spot_there : (block : ℕ) (xs old bs : List Stub) (spot : Spot) → EndBefore block xs → BeginBehind block bs → (is : IsHere block (xs ++ (old ++ bs)) (here_of block spot)) → IsAt block old (here_of block spot)
+spot_there block xs old bs spot ends behind is = at_narrow block xs old bs is.at.front (here_of block spot) is.at.back ends behind is.at.before is.has is.at.after is.at.all
+
+pub spot_narrow : (block : ℕ) (xs old bs : List Stub) (spot : Spot) → EndBefore block xs → BeginBehind block bs → IsSpot block (xs ++ (old ++ bs)) spot → IsSpot block old spot
+spot_narrow block xs old bs (Found addr key) ends behind is = spot_there block xs old bs (Found addr key) ends behind (at_here block (xs ++ (old ++ bs)) (Found addr key) is)
+spot_narrow block xs old bs Absent ends behind is = spot_there block xs old bs Absent ends behind (at_here block (xs ++ (old ++ bs)) Absent is)
+spot_narrow block xs old bs (Below level low high addr key) ends behind is =
+    (is.0, is.1, is.2, spot_there block xs old bs (Below level low high addr key) ends behind (at_here block (xs ++ (old ++ bs)) (Below level low high addr key) is))
+
 -- ---- in an answer
 
 pub OnOk_from : {T E : Type 0} (P : T → Type 0) (Q : Type 0) (r : Result T E) → ((x : T) → P x → Q) → IfOk r P → OnOk r Q

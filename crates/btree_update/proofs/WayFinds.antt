@@ -3,6 +3,8 @@ use Rattle.std.proofs.Common.{Option, None, Some, ◌≡◌, ◌≢◌, ◌↔�
 use Rattle.std.specs.Bool.{OnTrue, OnFalse}
 use Rattle.std.proofs.lemmas.Bool.{false≢true}
 use Rattle.node_codec.specs.declared.body.Entry.{Entry}
+use Rattle.node_codec.specs.Record.{Record}
+use Rattle.page_store.specs.declared.wants.Want.{Want}
 use Rattle.page_store.specs.Places.{FitsAt}
 use Rattle.btree_walk.specs.Finds.{Finds}
 use Rattle.btree_twigs.specs.declared.twigs.Child.{Child, Child-F, out-Child}
@@ -145,3 +147,11 @@ root_in pages order block below high (Grown low twig) found root f = f
 -- what is found from a root on is found below it
 pub root_finds : (pages : List (List ℕ)) (order block below high : ℕ) (top : Child) (found : Option Entry) → IsRootBy order below high (out-Child top) → ChildFinds (FitsAt pages) order (top_least below) block below high top found → RootFinds (FitsAt pages) order block below high top found
 root_finds pages order block below high top found root f = root_in pages order block below high (out-Child top) found root f
+
+-- and the other way round
+from_root_in : (Fits : Want → List ℕ → Record → Type 0) (order block below high : ℕ) (x : Child-F Child Twig) (found : Option Entry) → IsRootBy order below high x → RootFindsBy Fits order block below high x found → ChildFindsBy Fits order (top_least below) block below high x found
+from_root_in Fits order block below high (Kept low addr key) found root f = subst (λ w. FindsBelow Fits block w key found) (sym (root_want order below low high addr root)) f
+from_root_in Fits order block below high (Grown low twig) found root f = f
+
+pub from_root : (Fits : Want → List ℕ → Record → Type 0) (order block below high : ℕ) (top : Child) (found : Option Entry) → IsRootBy order below high (out-Child top) → RootFinds Fits order block below high top found → ChildFinds Fits order (top_least below) block below high top found
+from_root Fits order block below high top found root f = from_root_in Fits order block below high (out-Child top) found root f

@@ -12,4 +12,5 @@ pub mod Helping
 pub mod Groves
 pub mod Holding
 pub mod Finding
+pub mod Warm
 pub mod Refusals

@@ -25,6 +25,7 @@ ghost use Rattle.btree_update.specs.declared.refusals.ReadyRefusal.{ReadyRefusal
 ghost use Rattle.btree_update.specs.Held.{Bound, bound, AreBelow};
 ghost use Rattle.btree_update.specs.Holding.{HoldsFew, AddsSpares};
 ghost use Rattle.btree_update.specs.Finding.{RootFinds, GroveFinds, GroveStops, KeepsWay, UsesCache};
+ghost use Rattle.btree_update.specs.Warm.{CachesWay};
 ghost use Rattle.btree_update.specs.Groves.{KeepsTree, IsSound, IsReadFrom, IsReadBeside, IsReadBesideAt, HasLevels, RefusesWrong, MayRise, CanInsert, CanRemove, GroveMaps, places_of, grown_in, IsAddressOf, LetsGo, Goes};
 
 use crate::counting::count;
@@ -217,8 +218,10 @@ impl Grove {
             RefusesWrong (P.history platform.old).present.readable block self.old (λ addr. IsErrOf result (ReadyRefusal.BadRecord addr)) }
         ensures sound { IsSound self.new }
         ensures tree { KeepsTree self.old self.new }
-        // What is cached is of the places that lead down from the nodes that the tree names.
-        ensures caches { CachesAmong P.Platform (λ pages. HaveNodes pages (places_of self.old)) platform.old reader.old.cache reader.new.cache }
+        // What is cached is of the places that lead down from the nodes that the tree names. Where the cache keeps the way, no more
+        // pages are read than neighbours are held beside it, and one for each level above the leaves at most.
+        ensures caches { CachesWay P.Platform (λ pages. HaveNodes pages (places_of self.old)) (λ kept. KeepsWay kept block self.old) (self.old.level - 1)
+            platform.old platform.new reader.old.cache reader.new.cache [] self.new.beside.items result }
         ensures looks { Looks P.Platform (2 * self.old.level) platform.old platform.new }
         ensures cause { TellsOf ReadyRefusal.PlatformFault result (P.faults platform.old) (P.faults platform.new) }
     {

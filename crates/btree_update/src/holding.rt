@@ -3,7 +3,7 @@ ghost use Rattle.btree_update.specs.declared.refusals.ReadyRefusal.{ReadyRefusal
 ghost use Rattle.sdbt_base.specs.Faults.{TellsOf};
 ghost use Rattle.btree_walk.specs.Looks.{Looks};
 ghost use Rattle.btree_walk.specs.Sights.{StandsOver};
-ghost use Rattle.btree_update.specs.Among.{HaveNodes, CachesAmong};
+ghost use Rattle.btree_update.specs.Among.{HaveNodes};
 ghost use Rattle.btree_update.specs.Held.{AnyRead, IsReadAs, OnWay, HeldFor, HeldFrom};
 ghost use Rattle.btree_twigs.specs.Top.{top_least};
 ghost use Rattle.btree_twigs.specs.Stubs.{stubs_below, children_of, stubs};
@@ -14,6 +14,7 @@ ghost use Rattle.btree_update.specs.Wrong.{WrongUnder, WrongFrom};
 ghost use Rattle.btree_update.specs.Beside.{IsLeft, HelpsBelow, LeftOf, IsMappedBy};
 ghost use Rattle.btree_update.specs.Holding.{CanHold, CanHoldBelow, HoldsFew};
 ghost use Rattle.btree_update.specs.Finding.{FindsAmong, ChildFinds, IsFoundBy};
+ghost use Rattle.btree_update.specs.Warm.{KeepsFromChild, KeepsBelow, CachesWay};
 
 use crate::reading::read_node;
 use crate::refusals::ReadyRefusal;
@@ -56,7 +57,9 @@ pub(crate) fn hold_way<P: Platform>(
         IfOk result (λ left. (mapped : List Mapped) → MapsFrom (P.history platform.old).present.readable order least (level - 1) high child.now mapped → IsMappedBy block mapped left) }
     ensures finds { P.tells → StandsOver (P.history platform.old).present.readable reader.old.cache →
         IfOk result (IsFoundBy (ChildFinds (FitsAt (P.history platform.old).present.readable) order least block (level - 1) high child.now)) }
-    ensures caches { CachesAmong P.Platform (λ pages. HaveNodes pages (stubs level high child.now)) platform.old reader.old.cache reader.new.cache }
+    // What is cached is of the places below the child. Where the cache keeps the way, nothing is read on it.
+    ensures caches { CachesWay P.Platform (λ pages. HaveNodes pages (stubs level high child.now)) (λ kept. KeepsFromChild kept order least block (level - 1) high child.now) (level - 1)
+        platform.old platform.new reader.old.cache reader.new.cache beside.old.items beside.new.items result }
     ensures looks { Looks P.Platform (2 * level - 1) platform.old platform.new }
     ensures cause { TellsOf ReadyRefusal.PlatformFault result (P.faults platform.old) (P.faults platform.new) }
 {
@@ -130,7 +133,8 @@ pub(crate) fn hold_below<P: Platform>(
         IfOk result (λ left. (mapped : List Mapped) → Maps (P.history platform.old).present.readable order (stubs_below level high twig.now) mapped → IsMappedBy block mapped left) }
     ensures finds { P.tells → StandsOver (P.history platform.old).present.readable reader.old.cache →
         IfOk result (IsFoundBy (FindsAmong (FitsAt (P.history platform.old).present.readable) order block (stubs_below level high twig.now))) }
-    ensures caches { CachesAmong P.Platform (λ pages. HaveNodes pages (stubs_below level high twig.now)) platform.old reader.old.cache reader.new.cache }
+    ensures caches { CachesWay P.Platform (λ pages. HaveNodes pages (stubs_below level high twig.now)) (λ kept. KeepsBelow kept order block level high twig.now) level
+        platform.old platform.new reader.old.cache reader.new.cache beside.old.items beside.new.items result }
     ensures looks { Looks P.Platform (2 * level) platform.old platform.new }
     ensures cause { TellsOf ReadyRefusal.PlatformFault result (P.faults platform.old) (P.faults platform.new) }
 {

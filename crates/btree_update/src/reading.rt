@@ -6,7 +6,7 @@ ghost use Rattle.btree_walk.specs.Looks.{Looks};
 ghost use Rattle.node_codec.specs.declared.body.NodeBody.{NodeBody};
 ghost use Rattle.node_cache.specs.Cached.{IsCached, cached_node};
 ghost use Rattle.btree_walk.specs.Finds.{MakesFirst};
-ghost use Rattle.btree_walk.specs.Sights.{NodeFits, StandsOver, ForgetsNone};
+ghost use Rattle.btree_walk.specs.Sights.{NodeFits, StandsOver, ForgetsNone, StillKeeps};
 ghost use Rattle.btree_walk.specs.Among.{KeepsBut};
 ghost use Rattle.btree_twigs.specs.Stubs.{level_of, children_of};
 ghost use Rattle.btree_twigs.specs.declared.twigs.Twig.{out-Twig};
@@ -45,10 +45,11 @@ pub(crate) fn read_node<P: Platform>(
     ensures cause { TellsOf ReadyRefusal.PlatformFault result (P.faults platform.old) (P.faults platform.new) }
     // A node is let go only where there is no room for it.
     ensures forgets { ForgetsNone reader.old.cache reader.new.cache }
-    // What is cached stands in the place of the page, also where it doesn't fit, and nothing is read then; it is cached still.
+    // What is cached stands in the place of the page, also where it doesn't fit, and nothing is read then; it is cached still, and
+    // so is what is cached for other addresses.
     ensures cached { (node : NodeBody) → IsCached reader.old.cache.nodes want.now.addr key.now node → (platform.new ≡ platform.old)
         × (¬ (NodeFits want.now key.now node) → IsErrOf result (ReadyRefusal.BadRecord want.now.addr)) × IfOk result (λ twig. children_of twig ≡ all_kept node.entries.items)
-        × IsCached reader.new.cache.nodes want.now.addr key.now node }
+        × IsCached reader.new.cache.nodes want.now.addr key.now node × StillKeeps want.now.addr reader.old.cache reader.new.cache }
     // After an `Ok` the node is the one that was used last.
     ensures fills { IfOk result (λ twig. (node : NodeBody) × (children_of twig ≡ all_kept node.entries.items)
         × MakesFirst (cached_node want.now.addr key.now node) reader.old.cache reader.new.cache) }

@@ -36,6 +36,13 @@ use Rattle.page_store.specs.Tree.{Place}
 use Rattle.btree_update.specs.Among.{HaveNodes}
 use Rattle.btree_update.proofs.AmongLaws.{child_among, grown_among}
 use Rattle.btree_update.proofs.CacheLaws.{caches_fewer, caches_then, caches_read, nodes_below_read}
+use Rattle.node_cache.specs.declared.slots.CachedNode.{CachedNode}
+use Rattle.node_cache.specs.Cached.{IsCached}
+use Rattle.node_codec.specs.declared.body.NodeBody.{NodeBody}
+use Rattle.btree_update.specs.Warm.{KeepsFromChild, KeepsBelow}
+use Rattle.btree_update.proofs.WarmLaws.{below_grown, first_cached, below_kept}
+use Rattle.btree_update.proofs.KeptWay.{OnOk_from}
+use Rattle.btree_walk.proofs.ForgetLaws.{forgets_same}
 use Rattle.btree_update.proofs.holding.+hold.Goals as goal
 
 nothing_before : (block high n : ℕ) (ds cs : List Child) → ds ≡ cs → n ≡ 0 → ((high : ℕ) → block < high → block < start_by low_of (drop n ds) high) → block < high → block < start_by low_of cs high
@@ -450,14 +457,32 @@ on_way_among : (pages : List (List ℕ)) (places : List Place) (order block leve
     HaveNodes pages (stubs_below level high twig) places → HaveNodes pages (stubs level end c) places
 on_way_among pages places order block level high n end twig c w is such = (such.0, child_among places level high w.at end (children_of twig) c w.split is such.1)
 
+-- the way at the child is kept, where the way below the node is
+way_kept : (kept : List CachedNode) (order level block high n end : ℕ) (twig : Twig) (c : Child) → (w : IsOnWay order block level high (children_of twig) n c) → (level ≡ 0 → ⊥) → end ≡ start_by low_of (drop (suc w.at) (children_of twig)) high →
+    KeepsBelow kept order block level high twig → KeepsFromChild kept order (order / 2) block (level - 1) end c
+way_kept kept order level block high n end twig c w some is keeps =
+    let there = keeps (omega (arith, some)) (take w.at (children_of twig)) (drop (suc w.at) (children_of twig)) c w.split w.from w.to in
+    subst (λ m. KeepsFromChild kept order (order / 2) block (level - 1) m c) (sym is) there
+
+pub hold_below-returns-then-at-eq0-clause-caches : goal.hold_below-returns-then-at-eq0-clause-caches
+hold_below-returns-then-at-eq0-clause-caches g t c = record { forgets = forgets_same _ _ refl; stands = λ tells stands. stands; among = λ tells stands places such kept. kept; warm = λ tells keeps. omega arith; few = λ tells keeps. omega arith }
+
+pub hold_below-returns-then-level-eq0-clause-caches : goal.hold_below-returns-then-level-eq0-clause-caches
+hold_below-returns-then-level-eq0-clause-caches g t c = record { forgets = forgets_same _ _ refl; stands = λ tells stands. stands; among = λ tells stands places such kept. kept; warm = λ tells keeps. omega arith; few = λ tells keeps. omega arith }
+
 pub hold_below-returns-in_err-left-clause-caches : goal.hold_below-returns-in_err-left-clause-caches
 hold_below-returns-in_err-left-clause-caches g t c =
+    let p = err_from_is_err_and c.from_residual.result c.from_residual.ensures.1 in
     let w = on_way c.args.order c.args.block c.args.level c.args.high c.place-at.result (children_of c.args.twig.now) c.deref.result.now c.index-child.result.now c.deref.ensures.value c.if-at-eq0.false
     c.place-at.ensures.within c.place-at.ensures.before c.place-at.ensures.after c.requires.can.to c.index-child.ensures in
     let e = end_is c.args.high c.place-at.result w.at c.end_of-end.result c.deref-2.result.now (children_of c.args.twig.now) c.deref-2.ensures.value w.at_is c.end_of-end.ensures in
     let below = λ (pages : List (List ℕ)). HaveNodes pages (stubs_below c.args.level c.args.high c.args.twig.now) in
     let child = λ (pages : List (List ℕ)). HaveNodes pages (stubs c.args.level c.end_of-end.result c.index-child.result.now) in
-    caches_fewer g.P.Platform below child c.args.platform.now c.args.reader.now.cache c.hold_way.new.reader.cache (λ pages places such. on_way_among pages places c.args.order c.args.block c.args.level c.args.high c.place-at.result c.end_of-end.result c.args.twig.now c.index-child.result.now w e such) c.in_err-left.ensures.caches
+    let way = c.in_err-left.ensures.caches in
+    let one = caches_fewer g.P.Platform below child c.args.platform.now c.args.reader.now.cache c.hold_way.new.reader.cache (λ pages places such. on_way_among pages places c.args.order c.args.block c.args.level c.args.high c.place-at.result c.end_of-end.result c.args.twig.now c.index-child.result.now w e such)
+    (record { forgets = way.forgets; stands = way.stands; among = way.among }) in
+    let kept : KeepsBelow c.args.reader.now.cache.nodes c.args.order c.args.block c.args.level c.args.high c.args.twig.now → KeepsFromChild c.args.reader.now.cache.nodes c.args.order (c.args.order / 2) c.args.block (c.args.level - 1) c.end_of-end.result c.index-child.result.now = λ keeps. way_kept c.args.reader.now.cache.nodes c.args.order c.args.level c.args.block c.args.high c.place-at.result c.end_of-end.result c.args.twig.now c.index-child.result.now w c.if-level-eq0.false e keeps in
+    rw (p.1, p.2) (record { forgets = one.forgets; stands = one.stands; among = one.among; warm = λ tells keeps. tt; few = λ tells keeps. omega (arith, way.few tells (kept keeps)) })
 
 pub hold_below-returns-clause-caches : goal.hold_below-returns-clause-caches
 hold_below-returns-clause-caches g t c =
@@ -466,38 +491,99 @@ hold_below-returns-clause-caches g t c =
     let e = end_is c.args.high c.place-at.result w.at c.end_of-end.result c.deref-2.result.now (children_of c.args.twig.now) c.deref-2.ensures.value w.at_is c.end_of-end.ensures in
     let below = λ (pages : List (List ℕ)). HaveNodes pages (stubs_below c.args.level c.args.high c.args.twig.now) in
     let child = λ (pages : List (List ℕ)). HaveNodes pages (stubs c.args.level c.end_of-end.result c.index-child.result.now) in
-    let one = caches_fewer g.P.Platform below child c.args.platform.now c.args.reader.now.cache c.hold_way.new.reader.cache (λ pages places such. on_way_among pages places c.args.order c.args.block c.args.level c.args.high c.place-at.result c.end_of-end.result c.args.twig.now c.index-child.result.now w e such) c.in_ok-left.ensures.caches in
-    caches_then g.P.Platform below below c.args.platform.now c.hold_way.new.platform c.args.reader.now.cache c.hold_way.new.reader.cache c.hold_beside.new.reader.cache c.in_ok-left.ensures.looks.image (λ tells stands places such. such) one c.hold_beside.ensures.caches
+    let way = c.in_ok-left.ensures.caches in
+    let one = caches_fewer g.P.Platform below child c.args.platform.now c.args.reader.now.cache c.hold_way.new.reader.cache (λ pages places such. on_way_among pages places c.args.order c.args.block c.args.level c.args.high c.place-at.result c.end_of-end.result c.args.twig.now c.index-child.result.now w e such)
+    (record { forgets = way.forgets; stands = way.stands; among = way.among }) in
+    let all = caches_then g.P.Platform below below c.args.platform.now c.hold_way.new.platform c.args.reader.now.cache c.hold_way.new.reader.cache c.hold_beside.new.reader.cache c.in_ok-left.ensures.looks.image (λ tells stands places such. such) one c.hold_beside.ensures.caches in
+    let kept : KeepsBelow c.args.reader.now.cache.nodes c.args.order c.args.block c.args.level c.args.high c.args.twig.now → KeepsFromChild c.args.reader.now.cache.nodes c.args.order (c.args.order / 2) c.args.block (c.args.level - 1) c.end_of-end.result c.index-child.result.now = λ keeps. way_kept c.args.reader.now.cache.nodes c.args.order c.args.level c.args.block c.args.high c.place-at.result c.end_of-end.result c.args.twig.now c.index-child.result.now w c.if-level-eq0.false e keeps in
+    record {
+      forgets = all.forgets;
+      stands = all.stands;
+      among = all.among;
+      warm = λ tells keeps. OnOk_from _ _ c.hold_beside.result (λ left few. omega (arith, way.warm tells (kept keeps), few.reads tells)) c.hold_beside.ensures.few;
+      few = λ tells keeps. omega (arith, way.few tells (kept keeps), c.hold_beside.ensures.looks.reads_most tells, c.if-level-eq0.false);
+    }
 
 pub hold_way-returns-in-Grown-clause-caches : goal.hold_way-returns-in-Grown-clause-caches
 hold_way-returns-in-Grown-clause-caches g t c =
-    caches_fewer g.P.Platform (λ pages. HaveNodes pages (stubs c.args.level c.args.high c.args.child.now)) (λ pages. HaveNodes pages (stubs_below (c.args.level - 1) c.args.high c.in-Grown.twig)) c.args.platform.now c.args.reader.now.cache c.hold_below.new.reader.cache
-    (λ pages places such. (such.0, grown_among places c.args.level c.args.high c.in-Grown.low c.in-Grown.twig c.args.child.now c.in-Grown.is c.requires.can.one such.1)) c.hold_below.ensures.caches
+    let way = c.hold_below.ensures.caches in
+    let one = caches_fewer g.P.Platform (λ pages. HaveNodes pages (stubs c.args.level c.args.high c.args.child.now)) (λ pages. HaveNodes pages (stubs_below (c.args.level - 1) c.args.high c.in-Grown.twig)) c.args.platform.now c.args.reader.now.cache c.hold_below.new.reader.cache
+    (λ pages places such. (such.0, grown_among places c.args.level c.args.high c.in-Grown.low c.in-Grown.twig c.args.child.now c.in-Grown.is c.requires.can.one such.1)) (record { forgets = way.forgets; stands = way.stands; among = way.among }) in
+    let head = g.P.Platform.head c.args.platform.now in
+    let can = way_grown c.args.order c.args.least c.args.level c.args.block c.args.high head c.in-Grown.low c.in-Grown.twig (subst (CanHold c.args.order c.args.least c.args.level c.args.block c.args.high head) c.in-Grown.is c.requires.can) in
+    let kept : KeepsFromChild c.args.reader.now.cache.nodes c.args.order c.args.least c.args.block (c.args.level - 1) c.args.high c.args.child.now → KeepsBelow c.args.reader.now.cache.nodes c.args.order c.args.block (c.args.level - 1) c.args.high c.in-Grown.twig = λ keeps. below_grown c.args.reader.now.cache.nodes c.args.order c.args.least c.args.block (c.args.level - 1) c.args.high head c.in-Grown.low c.in-Grown.twig can
+    (subst (KeepsFromChild c.args.reader.now.cache.nodes c.args.order c.args.least c.args.block (c.args.level - 1) c.args.high) c.in-Grown.is keeps) in
+    record { forgets = one.forgets; stands = one.stands; among = one.among; warm = λ tells keeps. way.warm tells (kept keeps); few = λ tells keeps. way.few tells (kept keeps) }
 
 pub hold_way-returns-in_err-twig-in-Kept-clause-caches : goal.hold_way-returns-in_err-twig-in-Kept-clause-caches
 hold_way-returns-in_err-twig-in-Kept-clause-caches g t c =
-    caches_read g.P.Platform c.args.level c.args.high c.in-Kept.low c.in-Kept.addr c.in-Kept.key c.args.child.now c.args.platform.now c.args.reader.now.cache c.read_node.new.reader.cache c.in-Kept.is c.requires.can.one c.in_err-twig-in-Kept.ensures.forgets c.in_err-twig-in-Kept.ensures.stands c.in_err-twig-in-Kept.ensures.but
+    let p = err_from_is_err_and c.from_residual.result c.from_residual.ensures.1 in
+    let one = caches_read g.P.Platform c.args.level c.args.high c.in-Kept.low c.in-Kept.addr c.in-Kept.key c.args.child.now c.args.platform.now c.args.reader.now.cache c.read_node.new.reader.cache c.in-Kept.is c.requires.can.one c.in_err-twig-in-Kept.ensures.forgets c.in_err-twig-in-Kept.ensures.stands c.in_err-twig-in-Kept.ensures.but in
+    let first : KeepsFromChild c.args.reader.now.cache.nodes c.args.order c.args.least c.args.block (c.args.level - 1) c.args.high c.args.child.now → (node : NodeBody) × IsCached c.args.reader.now.cache.nodes c.in-Kept.addr c.in-Kept.key node = λ keeps. first_cached c.args.reader.now.cache.nodes c.args.order c.args.least c.args.block (c.args.level - 1) c.args.high c.in-Kept.low c.in-Kept.addr c.in-Kept.key
+    (subst (KeepsFromChild c.args.reader.now.cache.nodes c.args.order c.args.least c.args.block (c.args.level - 1) c.args.high) c.in-Kept.is keeps) in
+    rw (p.1, p.2) (record {
+      forgets = one.forgets;
+      stands = one.stands;
+      among = one.among;
+      warm = λ tells keeps. tt;
+      few = λ tells keeps. (let node = first keeps in omega (arith, ap g.P.Platform.reads (c.in_err-twig-in-Kept.ensures.cached node.0 node.1).0));
+    })
 
 pub hold_way-returns-in_err-left-in-Kept-clause-caches : goal.hold_way-returns-in_err-left-in-Kept-clause-caches
 hold_way-returns-in_err-left-in-Kept-clause-caches g t c =
-    let one = caches_read g.P.Platform c.args.level c.args.high c.in-Kept.low c.in-Kept.addr c.in-Kept.key c.args.child.now c.args.platform.now c.args.reader.now.cache c.read_node.new.reader.cache c.in-Kept.is c.requires.can.one c.in_ok-twig-in-Kept.ensures.forgets c.in_ok-twig-in-Kept.ensures.stands c.in_ok-twig-in-Kept.ensures.but in
-    caches_then g.P.Platform (λ pages. HaveNodes pages (stubs c.args.level c.args.high c.args.child.now)) (λ pages. HaveNodes pages (stubs_below (c.args.level - 1) c.args.high c.in_ok-twig-in-Kept.twig)) c.args.platform.now c.read_node.new.platform c.args.reader.now.cache c.read_node.new.reader.cache c.hold_below-in-Kept.new.reader.cache
-    c.in_ok-twig-in-Kept.ensures.looks.image
-    (λ tells stands places such. nodes_below_read _ places c.args.level c.args.high c.in-Kept.low c.in-Kept.addr c.in-Kept.key _ c.in_ok-twig-in-Kept.twig c.args.child.now refl c.in-Kept.is c.requires.can.one (c.in_ok-twig-in-Kept.ensures.reads tells stands) such)
-    one c.in_err-left-in-Kept.ensures.caches
+    let p = err_from_is_err_and c.from_residual-in_err-left-in-Kept.result c.from_residual-in_err-left-in-Kept.ensures.1 in
+    let read = c.in_ok-twig-in-Kept.ensures in
+    let twig = c.in_ok-twig-in-Kept.twig in
+    let way = c.in_err-left-in-Kept.ensures.caches in
+    let old = c.args.reader.now.cache in
+    let one = caches_read g.P.Platform c.args.level c.args.high c.in-Kept.low c.in-Kept.addr c.in-Kept.key c.args.child.now c.args.platform.now old c.read_node.new.reader.cache c.in-Kept.is c.requires.can.one read.forgets read.stands read.but in
+    let all = caches_then g.P.Platform (λ pages. HaveNodes pages (stubs c.args.level c.args.high c.args.child.now)) (λ pages. HaveNodes pages (stubs_below (c.args.level - 1) c.args.high twig)) c.args.platform.now c.read_node.new.platform old c.read_node.new.reader.cache c.hold_below-in-Kept.new.reader.cache read.looks.image
+    (λ tells stands places such. nodes_below_read _ places c.args.level c.args.high c.in-Kept.low c.in-Kept.addr c.in-Kept.key _ twig c.args.child.now refl c.in-Kept.is c.requires.can.one (read.reads tells stands) such)
+    one (record { forgets = way.forgets; stands = way.stands; among = way.among }) in
+    let head = g.P.Platform.head c.args.platform.now in
+    let at = subst (CanHold c.args.order c.args.least c.args.level c.args.block c.args.high head) c.in-Kept.is c.requires.can in
+    let can = way_read c.args.order c.args.least c.args.level c.args.block c.args.high head c.in-Kept.low c.in-Kept.addr c.in-Kept.key twig at read.fits in
+    let child : KeepsFromChild c.args.reader.now.cache.nodes c.args.order c.args.least c.args.block (c.args.level - 1) c.args.high c.args.child.now → KeepsFromChild c.args.reader.now.cache.nodes c.args.order c.args.least c.args.block (c.args.level - 1) c.args.high (made.Kept c.in-Kept.low c.in-Kept.addr c.in-Kept.key) = λ keeps. subst (KeepsFromChild old.nodes c.args.order c.args.least c.args.block (c.args.level - 1) c.args.high) c.in-Kept.is keeps in
+    let kept : KeepsFromChild c.args.reader.now.cache.nodes c.args.order c.args.least c.args.block (c.args.level - 1) c.args.high c.args.child.now → KeepsBelow c.read_node.new.reader.cache.nodes c.args.order c.args.block (c.args.level - 1) c.args.high twig = λ keeps. below_kept c.args.order c.args.least c.args.block (c.args.level - 1) c.args.high head c.in-Kept.low c.in-Kept.addr c.in-Kept.key twig old c.read_node.new.reader.cache can
+    (λ node here. (let at = read.cached node here in (at.2, at.4))) (child keeps) in
+    let same : KeepsFromChild c.args.reader.now.cache.nodes c.args.order c.args.least c.args.block (c.args.level - 1) c.args.high c.args.child.now → g.P.Platform.reads c.read_node.new.platform ≡ g.P.Platform.reads c.args.platform.now = λ keeps. (let node = first_cached old.nodes c.args.order c.args.least c.args.block (c.args.level - 1) c.args.high c.in-Kept.low c.in-Kept.addr c.in-Kept.key (child keeps) in ap g.P.Platform.reads (read.cached node.0 node.1).0) in
+    rw (p.1, p.2) (record { forgets = all.forgets; stands = all.stands; among = all.among; warm = λ tells keeps. tt; few = λ tells keeps. omega (arith, way.few tells (kept keeps), same keeps) })
 
 pub hold_way-returns-in_err-hold-in-Kept-clause-caches : goal.hold_way-returns-in_err-hold-in-Kept-clause-caches
 hold_way-returns-in_err-hold-in-Kept-clause-caches g t c =
-    let one = caches_read g.P.Platform c.args.level c.args.high c.in-Kept.low c.in-Kept.addr c.in-Kept.key c.args.child.now c.args.platform.now c.args.reader.now.cache c.read_node.new.reader.cache c.in-Kept.is c.requires.can.one c.in_ok-twig-in-Kept.ensures.forgets c.in_ok-twig-in-Kept.ensures.stands c.in_ok-twig-in-Kept.ensures.but in
-    caches_then g.P.Platform (λ pages. HaveNodes pages (stubs c.args.level c.args.high c.args.child.now)) (λ pages. HaveNodes pages (stubs_below (c.args.level - 1) c.args.high c.in_ok-twig-in-Kept.twig)) c.args.platform.now c.read_node.new.platform c.args.reader.now.cache c.read_node.new.reader.cache c.hold_below-in-Kept.new.reader.cache
-    c.in_ok-twig-in-Kept.ensures.looks.image
-    (λ tells stands places such. nodes_below_read _ places c.args.level c.args.high c.in-Kept.low c.in-Kept.addr c.in-Kept.key _ c.in_ok-twig-in-Kept.twig c.args.child.now refl c.in-Kept.is c.requires.can.one (c.in_ok-twig-in-Kept.ensures.reads tells stands) such)
-    one c.in_ok-left-in-Kept.ensures.caches
+    let p = err_from_is_err_and c.from_residual-in_err-hold-in-Kept.result c.from_residual-in_err-hold-in-Kept.ensures.1 in
+    let read = c.in_ok-twig-in-Kept.ensures in
+    let twig = c.in_ok-twig-in-Kept.twig in
+    let way = c.in_ok-left-in-Kept.ensures.caches in
+    let old = c.args.reader.now.cache in
+    let one = caches_read g.P.Platform c.args.level c.args.high c.in-Kept.low c.in-Kept.addr c.in-Kept.key c.args.child.now c.args.platform.now old c.read_node.new.reader.cache c.in-Kept.is c.requires.can.one read.forgets read.stands read.but in
+    let all = caches_then g.P.Platform (λ pages. HaveNodes pages (stubs c.args.level c.args.high c.args.child.now)) (λ pages. HaveNodes pages (stubs_below (c.args.level - 1) c.args.high twig)) c.args.platform.now c.read_node.new.platform old c.read_node.new.reader.cache c.hold_below-in-Kept.new.reader.cache read.looks.image
+    (λ tells stands places such. nodes_below_read _ places c.args.level c.args.high c.in-Kept.low c.in-Kept.addr c.in-Kept.key _ twig c.args.child.now refl c.in-Kept.is c.requires.can.one (read.reads tells stands) such)
+    one (record { forgets = way.forgets; stands = way.stands; among = way.among }) in
+    let head = g.P.Platform.head c.args.platform.now in
+    let at = subst (CanHold c.args.order c.args.least c.args.level c.args.block c.args.high head) c.in-Kept.is c.requires.can in
+    let can = way_read c.args.order c.args.least c.args.level c.args.block c.args.high head c.in-Kept.low c.in-Kept.addr c.in-Kept.key twig at read.fits in
+    let child : KeepsFromChild c.args.reader.now.cache.nodes c.args.order c.args.least c.args.block (c.args.level - 1) c.args.high c.args.child.now → KeepsFromChild c.args.reader.now.cache.nodes c.args.order c.args.least c.args.block (c.args.level - 1) c.args.high (made.Kept c.in-Kept.low c.in-Kept.addr c.in-Kept.key) = λ keeps. subst (KeepsFromChild old.nodes c.args.order c.args.least c.args.block (c.args.level - 1) c.args.high) c.in-Kept.is keeps in
+    let kept : KeepsFromChild c.args.reader.now.cache.nodes c.args.order c.args.least c.args.block (c.args.level - 1) c.args.high c.args.child.now → KeepsBelow c.read_node.new.reader.cache.nodes c.args.order c.args.block (c.args.level - 1) c.args.high twig = λ keeps. below_kept c.args.order c.args.least c.args.block (c.args.level - 1) c.args.high head c.in-Kept.low c.in-Kept.addr c.in-Kept.key twig old c.read_node.new.reader.cache can
+    (λ node here. (let at = read.cached node here in (at.2, at.4))) (child keeps) in
+    let same : KeepsFromChild c.args.reader.now.cache.nodes c.args.order c.args.least c.args.block (c.args.level - 1) c.args.high c.args.child.now → g.P.Platform.reads c.read_node.new.platform ≡ g.P.Platform.reads c.args.platform.now = λ keeps. (let node = first_cached old.nodes c.args.order c.args.least c.args.block (c.args.level - 1) c.args.high c.in-Kept.low c.in-Kept.addr c.in-Kept.key (child keeps) in ap g.P.Platform.reads (read.cached node.0 node.1).0) in
+    rw (p.1, p.2) (record { forgets = all.forgets; stands = all.stands; among = all.among; warm = λ tells keeps. tt; few = λ tells keeps. omega (arith, way.few tells (kept keeps), same keeps) })
 
 pub hold_way-returns-in_ok-hold-in-Kept-clause-caches : goal.hold_way-returns-in_ok-hold-in-Kept-clause-caches
 hold_way-returns-in_ok-hold-in-Kept-clause-caches g t c =
-    let one = caches_read g.P.Platform c.args.level c.args.high c.in-Kept.low c.in-Kept.addr c.in-Kept.key c.args.child.now c.args.platform.now c.args.reader.now.cache c.read_node.new.reader.cache c.in-Kept.is c.requires.can.one c.in_ok-twig-in-Kept.ensures.forgets c.in_ok-twig-in-Kept.ensures.stands c.in_ok-twig-in-Kept.ensures.but in
-    caches_then g.P.Platform (λ pages. HaveNodes pages (stubs c.args.level c.args.high c.args.child.now)) (λ pages. HaveNodes pages (stubs_below (c.args.level - 1) c.args.high c.in_ok-twig-in-Kept.twig)) c.args.platform.now c.read_node.new.platform c.args.reader.now.cache c.read_node.new.reader.cache c.hold_below-in-Kept.new.reader.cache
-    c.in_ok-twig-in-Kept.ensures.looks.image
-    (λ tells stands places such. nodes_below_read _ places c.args.level c.args.high c.in-Kept.low c.in-Kept.addr c.in-Kept.key _ c.in_ok-twig-in-Kept.twig c.args.child.now refl c.in-Kept.is c.requires.can.one (c.in_ok-twig-in-Kept.ensures.reads tells stands) such)
-    one c.in_ok-left-in-Kept.ensures.caches
+    let read = c.in_ok-twig-in-Kept.ensures in
+    let twig = c.in_ok-twig-in-Kept.twig in
+    let way = c.in_ok-left-in-Kept.ensures.caches in
+    let old = c.args.reader.now.cache in
+    let one = caches_read g.P.Platform c.args.level c.args.high c.in-Kept.low c.in-Kept.addr c.in-Kept.key c.args.child.now c.args.platform.now old c.read_node.new.reader.cache c.in-Kept.is c.requires.can.one read.forgets read.stands read.but in
+    let all = caches_then g.P.Platform (λ pages. HaveNodes pages (stubs c.args.level c.args.high c.args.child.now)) (λ pages. HaveNodes pages (stubs_below (c.args.level - 1) c.args.high twig)) c.args.platform.now c.read_node.new.platform old c.read_node.new.reader.cache c.hold_below-in-Kept.new.reader.cache read.looks.image
+    (λ tells stands places such. nodes_below_read _ places c.args.level c.args.high c.in-Kept.low c.in-Kept.addr c.in-Kept.key _ twig c.args.child.now refl c.in-Kept.is c.requires.can.one (read.reads tells stands) such)
+    one (record { forgets = way.forgets; stands = way.stands; among = way.among }) in
+    let head = g.P.Platform.head c.args.platform.now in
+    let at = subst (CanHold c.args.order c.args.least c.args.level c.args.block c.args.high head) c.in-Kept.is c.requires.can in
+    let can = way_read c.args.order c.args.least c.args.level c.args.block c.args.high head c.in-Kept.low c.in-Kept.addr c.in-Kept.key twig at read.fits in
+    let child : KeepsFromChild c.args.reader.now.cache.nodes c.args.order c.args.least c.args.block (c.args.level - 1) c.args.high c.args.child.now → KeepsFromChild c.args.reader.now.cache.nodes c.args.order c.args.least c.args.block (c.args.level - 1) c.args.high (made.Kept c.in-Kept.low c.in-Kept.addr c.in-Kept.key) = λ keeps. subst (KeepsFromChild old.nodes c.args.order c.args.least c.args.block (c.args.level - 1) c.args.high) c.in-Kept.is keeps in
+    let kept : KeepsFromChild c.args.reader.now.cache.nodes c.args.order c.args.least c.args.block (c.args.level - 1) c.args.high c.args.child.now → KeepsBelow c.read_node.new.reader.cache.nodes c.args.order c.args.block (c.args.level - 1) c.args.high twig = λ keeps. below_kept c.args.order c.args.least c.args.block (c.args.level - 1) c.args.high head c.in-Kept.low c.in-Kept.addr c.in-Kept.key twig old c.read_node.new.reader.cache can
+    (λ node here. (let at = read.cached node here in (at.2, at.4))) (child keeps) in
+    let same : KeepsFromChild c.args.reader.now.cache.nodes c.args.order c.args.least c.args.block (c.args.level - 1) c.args.high c.args.child.now → g.P.Platform.reads c.read_node.new.platform ≡ g.P.Platform.reads c.args.platform.now = λ keeps. (let node = first_cached old.nodes c.args.order c.args.least c.args.block (c.args.level - 1) c.args.high c.in-Kept.low c.in-Kept.addr c.in-Kept.key (child keeps) in ap g.P.Platform.reads (read.cached node.0 node.1).0) in
+    record { forgets = all.forgets; stands = all.stands; among = all.among; warm = λ tells keeps. omega (arith, way.warm tells (kept keeps), same keeps); few = λ tells keeps. omega (arith, way.few tells (kept keeps), same keeps) }

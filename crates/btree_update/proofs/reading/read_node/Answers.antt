@@ -21,6 +21,7 @@ use Rattle.btree_update.proofs.CacheLaws.{stands_on, kept_is_page, nothing_else,
 use Rattle.btree_walk.specs.Among.{KeepsBut}
 use Rattle.btree_walk.proofs.AmongLaws.{but_same, but_filled, but_used}
 use Rattle.btree_walk.proofs.ForgetLaws.{forgets_used, forgets_same, forgets_filled, found_still}
+use Rattle.btree_walk.proofs.RecentLaws.{still_used}
 use Rattle.btree_update.proofs.reading.read_node.Goals as goal
 
 -- a node that fits, in memory
@@ -136,7 +137,8 @@ returns-then-not-fits-clause-cached g c = λ node here.
     let uses = subst (λ (r : Option (Bor _)). Uses c.args.reader.now.cache c.args.want.now.addr c.args.key.now (option_copied r) c.get.follows.lender-at-none) c.in-Some.is c.get.follows.holds-at-none in
     let same : node ≡ c.in-Some.node.now = c.in-Some.ensures.found.only node here in
     let still = found_still c.args.reader.now.cache c.get.follows.lender-at-none c.args.want.now.addr c.args.key.now c.in-Some.node.now uses in
-    (refl, λ misfit. refl, tt, subst (λ (n : NodeBody). IsCached c.get.follows.lender-at-none.nodes c.args.want.now.addr c.args.key.now n) (sym same) still)
+    (refl, λ misfit. refl, tt, subst (λ (n : NodeBody). IsCached c.get.follows.lender-at-none.nodes c.args.want.now.addr c.args.key.now n) (sym same) still,
+    still_used c.args.reader.now.cache c.get.follows.lender-at-none c.args.want.now.addr c.args.key.now c.in-Some.node.now uses)
 
 pub returns-in-Some-clause-cached : goal.returns-in-Some-clause-cached
 returns-in-Some-clause-cached g c = λ node here.
@@ -147,6 +149,7 @@ returns-in-Some-clause-cached g c = λ node here.
       λ misfit. absurd (misfit (subst (NodeFits c.args.want.now c.args.key.now) (sym same) (c.fits.ensures.0 c.if-not-fits.false))),
       IfOk_map _ _ c.in_memory.result (λ twig is. is.1 ∙ ap (λ (n : NodeBody). all_kept n.entries.items) (sym same)) c.in_memory.ensures.node,
       subst (λ (n : NodeBody). IsCached c.get.follows.lender-at-none.nodes c.args.want.now.addr c.args.key.now n) (sym same) still,
+      still_used c.args.reader.now.cache c.get.follows.lender-at-none c.args.want.now.addr c.args.key.now c.in-Some.node.now uses,
     )
 
 pub returns-in_err-fetch_node-clause-cached : goal.returns-in_err-fetch_node-clause-cached

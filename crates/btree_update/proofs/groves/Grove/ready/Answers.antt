@@ -17,6 +17,14 @@ use Rattle.btree_update.proofs.MappedLaws.{told}
 use Rattle.page_store.specs.Places.{FitsAt}
 use Rattle.btree_update.specs.Finding.{ChildFinds, GroveFinds, IsFoundBy}
 use Rattle.btree_update.proofs.WayFinds.{found_as, told_found, root_finds}
+use Rattle.std.proofs.Common.{length}
+use Rattle.node_cache.specs.declared.slots.CachedNode.{CachedNode}
+use Rattle.btree_walk.specs.Sights.{CachedFits}
+use Rattle.btree_twigs.specs.declared.twigs.Child.{Child}
+use Rattle.btree_update.specs.Roots.{IsRoot}
+use Rattle.btree_update.specs.Finding.{RootKeeps}
+use Rattle.btree_update.specs.Warm.{KeepsFromChild}
+use Rattle.btree_update.proofs.WayFinds.{from_root}
 use Rattle.btree_update.proofs.groves.Grove.ready.Goals as goal
 
 pub hold_way-requires : goal.hold_way-requires
@@ -107,3 +115,47 @@ returns-clause-finds g c = λ tells stands.
     let left = subst (λ l. IsFoundBy (ChildFinds (FitsAt pages) grove.order l c.args.block (grove.level - 1) grove.blocks grove.top) c.in_ok-left.left) c.least_of_root-least.ensures (c.in_ok-left.ensures.finds tells stands) in
     told_found (GroveFinds pages c.args.block grove) c.in_ok-left.left c.is_mapped.result c.is_mapped.ensures
     (found_as Finds (GroveFinds pages c.args.block grove) c.in_ok-left.left (λ found f. root_finds pages grove.order c.args.block (grove.level - 1) grove.blocks grove.top found c.requires.sound.shaped f) left))
+
+-- ---- where the cache keeps the way
+
+kept_child : (kept : List CachedNode) (order least block level high : ℕ) (top : Child) → IsRoot order (level - 1) high top → least ≡ top_least (level - 1) → RootKeeps kept order block (level - 1) high top → KeepsFromChild kept order least block (level - 1) high top
+kept_child kept order least block level high top root is keeps = subst (λ l. KeepsFromChild kept order l block (level - 1) high top) (sym is) (keeps.0, from_root (CachedFits kept) order block (level - 1) high top keeps.0 root keeps.1)
+
+pub returns-in_err-left-clause-caches : goal.returns-in_err-left-clause-caches
+returns-in_err-left-clause-caches g c =
+    let p = err_from_is_err_and c.from_residual.result c.from_residual.ensures.1 in
+    let grove = c.args.self.now in
+    let way = c.in_err-left.ensures.caches in
+    let kept = kept_child c.args.reader.now.cache.nodes grove.order c.least_of_root-least.result c.args.block grove.level grove.blocks grove.top c.requires.sound.shaped c.least_of_root-least.ensures in
+    rw (p.1, p.2) (record { forgets = way.forgets; stands = way.stands; among = way.among; warm = λ tells keeps. tt; few = λ tells keeps. way.few tells (kept keeps) })
+
+pub returns-in_err-make_spares-clause-caches : goal.returns-in_err-make_spares-clause-caches
+returns-in_err-make_spares-clause-caches g c =
+    let p = err_from_is_err_and c.from_residual-in_err-make_spares.result c.from_residual-in_err-make_spares.ensures.1 in
+    let grove = c.args.self.now in
+    let way = c.in_ok-left.ensures.caches in
+    let kept = kept_child c.args.reader.now.cache.nodes grove.order c.least_of_root-least.result c.args.block grove.level grove.blocks grove.top c.requires.sound.shaped c.least_of_root-least.ensures in
+    rw (p.1, p.2) (record { forgets = way.forgets; stands = way.stands; among = way.among; warm = λ tells keeps. tt; few = λ tells keeps. way.few tells (kept keeps) })
+
+pub returns-in_err-make_room-clause-caches : goal.returns-in_err-make_room-clause-caches
+returns-in_err-make_room-clause-caches g c =
+    let p = err_from_is_err_and c.from_residual-in_err-make_room.result c.from_residual-in_err-make_room.ensures.1 in
+    let grove = c.args.self.now in
+    let way = c.in_ok-left.ensures.caches in
+    let kept = kept_child c.args.reader.now.cache.nodes grove.order c.least_of_root-least.result c.args.block grove.level grove.blocks grove.top c.requires.sound.shaped c.least_of_root-least.ensures in
+    rw (p.1, p.2) (record { forgets = way.forgets; stands = way.stands; among = way.among; warm = λ tells keeps. tt; few = λ tells keeps. way.few tells (kept keeps) })
+
+pub returns-clause-caches : goal.returns-clause-caches
+returns-clause-caches g c =
+    let grove = c.args.self.now in
+    let way = c.in_ok-left.ensures.caches in
+    let kept = kept_child c.args.reader.now.cache.nodes grove.order c.least_of_root-least.result c.args.block grove.level grove.blocks grove.top c.requires.sound.shaped c.least_of_root-least.ensures in
+    record {
+      forgets = way.forgets;
+      stands = way.stands;
+      among = way.among;
+      warm = λ tells keeps.
+          (let none : length c.let_go_held.new.beside.items ≡ 0 = ap length c.let_go_held.ensures.1 in
+          omega (arith, way.warm tells (kept keeps), none));
+      few = λ tells keeps. way.few tells (kept keeps);
+    }
