@@ -54,7 +54,9 @@ impl LineBuffer {
     pub(crate) fn clear(&mut self)
         ensures { self.new ≡ [] }
     {
-        self.used = self.used.max(self.len);
+        if self.used < self.len {
+            self.used = self.len;
+        }
         self.len = 0;
     }
 
