@@ -4,3 +4,4 @@ pub mod Replies
 pub mod Arrays
 pub mod Answers
 pub mod Codes
+pub mod Lines

@@ -15,14 +15,20 @@ const LINE: usize = 8300;
 pub(crate) struct LineBuffer {
     bytes: [u8; LINE],
     len: usize,
+    // the greatest length of a line that was cleared
+    used: usize,
 }
 
 impl Model for LineBuffer {
+    ghost use Rattle.std.specs.Prelude.{ℕ, List, take};
+    ghost use Rattle.script_lang.specs.Lines.{IsRoom};
+
     ghost Value = { List ℕ };
 
     ghost view = { λ l. take l.len l.bytes };
 
-    ghost invariant = { λ l. l.len ≤ 8300 };
+    // Behind the line, and behind those that were cleared, nothing was ever written.
+    ghost invariant = { λ l. IsRoom l.len l.used l.bytes };
 }
 
 impl LineBuffer {
@@ -33,6 +39,7 @@ impl LineBuffer {
         LineBuffer {
             bytes: [0; LINE],
             len: 0,
+            used: 0,
         }
     }
 
@@ -47,6 +54,9 @@ impl LineBuffer {
     pub(crate) fn clear(&mut self)
         ensures { self.new ≡ [] }
     {
+        if self.used < self.len {
+            self.used = self.len;
+        }
         self.len = 0;
     }
 
@@ -54,8 +64,9 @@ impl LineBuffer {
     pub(crate) fn wipe(&mut self)
         ensures { self.new ≡ [] }
     {
-        self.bytes.fill(0);
-        self.len = 0;
+        self.clear();
+        self.bytes[..self.used].fill(0);
+        self.used = 0;
     }
 
     /// Puts a text at the end of a line that has room for it.
