@@ -9,6 +9,7 @@ use Rattle.platform.specs.Image.{Image}
 use Rattle.platform.specs.History.{During, History, Turns}
 use Rattle.platform.proofs.Moments.{During-now, LeavesOnly-now, Turns-not}
 use Rattle.page_store.specs.Stands.{Stands}
+use Rattle.page_store.proofs.KeepingLaws.{drew_none}
 use Rattle.page_store.proofs.StandsLaws.{stands_during}
 use Rattle.device_terms.specs.Certifying.{PutsSynced}
 use Rattle.device_terms.specs.Served.{IsServedImage}
@@ -30,7 +31,7 @@ use Rattle.device_session.specs.declared.refusals.CommitReply.TheVariants as rep
 use Rattle.device_session.proofs.CountLaws.{needs_none, needs_some}
 use Rattle.sdbt_base.specs.Counts.{Counts}
 use Rattle.session_calls.specs.Blame.{HasCause}
-use Rattle.session_calls.specs.Commits.{AnswersReply, CommitLeads, HasNumber, LeavesLedger, LeftAt, ReplyLeads, stop_of_fault}
+use Rattle.session_calls.specs.Commits.{AnswersReply, CommitLeads, DrewForPages, HasNumber, LeavesLedger, LeftAt, ReplyLeads, stop_of_fault}
 use Rattle.session_calls.specs.declared.stops.DeviceStop.{DeviceStop}
 use Rattle.session_calls.specs.declared.stops.DeviceStop.TheVariants as stops
 use Rattle.session_calls.proofs.StateLaws.{at_array}
@@ -119,6 +120,33 @@ reply_answers P T platform platform_now tape tape_now ledger ledger_now session 
         | inr many ↦
             let r = raised e many in
             subst Goal (sym r.replied) (raised_number P T platform platform_now tape tape_now ledger ledger_now session now reply now_open e many r)
+      ]
+    ]
+
+-- as many keys were drawn as pages were added: none where all is as it was
+drew_same : {S R : Type 0} (P : PlatformGhosts S) (T : TapeGhosts R) (platform platform_now : S) (tape tape_now : R) → platform_now ≡ platform → tape_now ≡ tape → DrewForPages P T platform platform_now tape tape_now
+drew_same P T platform platform_now tape tape_now platform_same tape_same =
+    let same : P.head platform_now ≡ P.head platform = ap P.head platform_same in
+    ([], omega (arith, same), drew_none (T.drawn tape) (T.drawn tape_now) (ap T.drawn tape_same))
+
+pub reply_drew : {S R W : Type 0} (P : PlatformGhosts S) (T : TapeGhosts R) (platform platform_now : S) (tape tape_now : R) (ledger ledger_now : W) (session now : Session) (reply : CommitReply)
+    → (is_touched session ≡ false → (now ≡ session) × (platform_now ≡ platform) × (tape_now ≡ tape) × (ledger_now ≡ ledger) × (reply ≡ replies.Committed (number_of session)))
+    → (is_touched session ≡ true → P.capacity platform - P.head platform < needed_by session
+    → (now ≡ session) × (platform_now ≡ platform) × (tape_now ≡ tape) × (ledger_now ≡ ledger) × (reply ≡ replies.Full (needed_by session) (P.capacity platform - P.head platform)))
+    → (is_touched session ≡ true → needed_by session ≤ P.capacity platform - P.head platform → HasRaised P T platform platform_now tape tape_now session now reply)
+    → DrewForPages P T platform platform_now tape tape_now
+reply_drew P T platform platform_now tape tape_now ledger ledger_now session now reply idle full raised =
+    elim (cases_Bool (is_touched session)) [
+      | inr e ↦
+          let i = idle e in
+          drew_same P T platform platform_now tape tape_now i.1 i.2
+      | inl e ↦ elim (cases_lt (P.capacity platform - P.head platform) (needed_by session)) [
+        | inl few ↦
+            let f = full e few in
+            drew_same P T platform platform_now tape tape_now f.1 f.2
+        | inr many ↦
+            let r = raised e many in
+            (r.drew.0, r.head ∙ ap (λ (n : ℕ). P.head platform + n) (sym r.drew.1), r.drew.2)
       ]
     ]
 

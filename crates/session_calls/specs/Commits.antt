@@ -1,10 +1,11 @@
 -- What a commit of a session says, by its answer.
-use Rattle.std.specs.Prelude.{◌≡◌, ◌+◌, ◌-◌, ◌<◌, ◌≤◌, ℕ, true, false, Some, Result, Ok, Err, IfErr, IfOk, IsOk}
+use Rattle.std.specs.Prelude.{◌≡◌, ◌+◌, ◌-◌, ◌<◌, ◌≤◌, ℕ, true, false, List, Some, Result, Ok, Err, IfErr, IfOk, IsOk, OnOk, length}
 use Rattle.sdbt_base.specs.Arrays.{Device, Session as OpenSession, committed, committed_if, mounted}
 use Rattle.sdbt_base.specs.declared.sinks.Sink.{Ghosts as SinkGhosts}
 use Rattle.sdbt_base.specs.declared.tapes.Tape.{Ghosts as TapeGhosts}
 use Rattle.platform.specs.declared.platforms.Platform.{Ghosts as PlatformGhosts}
 use Rattle.platform.specs.History.{CellStays, During, History, Turns}
+use Rattle.page_store.specs.Keeping.{DrewAll}
 use Rattle.device_terms.specs.Certifying.{PutsSynced}
 use Rattle.device_terms.specs.Effects.{AddsNothing}
 use Rattle.device_course.specs.Keys.{KeepsOn}
@@ -48,8 +49,12 @@ LeavesLedger ledger ledger_now stops.Ledger = Unit {0}
 LeavesLedger ledger ledger_now stops.BadRoot = ⊥
 LeavesLedger ledger ledger_now (stops.BadRecord addr) = ⊥
 
+-- as many keys were drawn as pages were added
+abbrev pub DrewForPages : {S R : Type 0} → PlatformGhosts S → TapeGhosts R → S → S → R → R → Type 0
+DrewForPages P T platform platform_now tape tape_now = (keys : List (List ℕ)) × (P.head platform_now ≡ P.head platform + length keys) × DrewAll (T.drawn tape) keys (T.drawn tape_now)
+
 -- what a commit does to a run, whatever its answer: it adds at most the pages that it needs; keys are kept, and the ledger gets what belongs to the root records that come into the cell, of one
--- more entry a part only where no session comes back; and a stop at a fault came where the count of that object rose
+-- more entry a part only where no session comes back; a stop at a fault came where the count of that object rose; and one that was answered drew as many keys as it added pages
 pub record CommitGoes {S R W : Type 0} (P : PlatformGhosts S) (T : TapeGhosts R) (L : SinkGhosts W) (platform platform_now : S) (tape tape_now : R) (ledger ledger_now : W) (session : Session) (result : Result Committed DeviceStop) : Type 0 where
   pub back : IfOk result (λ done. ComesBack P platform_now session done.session)
   pub capacity : P.capacity platform_now ≡ P.capacity platform
@@ -61,6 +66,7 @@ pub record CommitGoes {S R W : Type 0} (P : PlatformGhosts S) (T : TapeGhosts R)
   -- the pages that it needs are added, and all pages are synced, before the ledger gets anything
   pub synced : PutsSynced P (needed_by session) platform platform_now ledger ledger_now
   pub unput : IfErr result (LeavesLedger ledger ledger_now)
+  pub drew : OnOk result (DrewForPages P T platform platform_now tape tape_now)
 
 -- the session, and all that it was handed, are as they were
 abbrev pub AreSame : {S R W : Type 0} → S → S → R → R → W → W → Session → Session → Type 0

@@ -1,9 +1,11 @@
--- Why a line is answered so, by its calls: what stopped a call for a block may stop the line that made the call; and which table there is behind a reply.
+-- Why a line is answered so, by its calls: what stopped a call for a block may stop the line that made the call; which table there is behind a reply; and what a content that is given is.
 use Rattle.std.proofs.Common.{◌≡◌, ℕ, List, Option, None, Some, Result, Ok, Err, inl, inr, refl, ap, subst, sym}
 use Rattle.platform.specs.Image.{Image}
+use Rattle.device_session.specs.Reading.{FindsContent}
 use Rattle.device_session.specs.Sessions.{Session}
 use Rattle.device_session.specs.declared.refusals.CommitReply.{CommitReply}
 use Rattle.device_session.specs.declared.refusals.CommitReply.TheVariants as commits
+use Rattle.script_lang.specs.Arrays.{trimmed}
 use Rattle.session_calls.specs.Blame.{IsOfCall}
 use Rattle.session_calls.specs.Commits.{LeavesLedger}
 use Rattle.session_calls.specs.Damage.{IsWrongPage, MeetsDamage, ReadsAny, TrimsAny, WritesAny}
@@ -17,7 +19,7 @@ use Rattle.volume_lines.specs.Replies as told
 use Rattle.volume_lines.specs.Replies.{Reply, said}
 use Rattle.volume_lines.specs.declared.replies.Reply.{Reply as Given}
 use Rattle.volume_lines.specs.declared.replies.Reply.TheVariants as given
-use Rattle.volume_desk.specs.Causes.{AnswersAny, Changes, Commits, Draws, HasBlock, IsAccepted, LacksBlock, MayStop, MeetsRecord, Sizes, StopsAny, TakesAny, TurnsTable}
+use Rattle.volume_desk.specs.Causes.{AnswersAny, Changes, Commits, Draws, GivesContent, HasBlock, IsAccepted, IsLookedUp, LacksBlock, MayStop, MeetsRecord, OnContent, Sizes, StopsAny, TakesAny, TurnsTable}
 use Rattle.volume_desk.specs.Turns.{IsBlockAt, NoBlock, commit_reply, destroy_reply}
 
 -- ---- stops
@@ -141,7 +143,57 @@ read_done here table name block at reply bytes same is =
     let done : TurnsTable here table (Read name block) (told.Content bytes) table = inr (table, (has_block table name block at is, refl), inl (tt, refl)) in
     subst (λ (r : Reply). TurnsTable here table (Read name block) r table) (sym same) done
 
--- a commit, and a destroy
+-- ---- content
+
+-- none is given where there is no such block
+pub no_block_gives : (Claim : List ℕ → ℕ → List ℕ → Type 0) (table : List Volume) (name : List ℕ) (block : ℕ) (reply : Given) (buffer : List ℕ) → NoBlock table name block reply → OnContent (Read name block) (said reply buffer) Claim
+no_block_gives Claim table name block given.Unknown buffer none = tt
+no_block_gives Claim table name block given.Range buffer none = tt
+no_block_gives Claim table name block given.Created buffer none = absurd none
+no_block_gives Claim table name block given.Exists buffer none = absurd none
+no_block_gives Claim table name block given.NoRoom buffer none = absurd none
+no_block_gives Claim table name block (given.Content count) buffer none = absurd none
+no_block_gives Claim table name block given.Done buffer none = absurd none
+no_block_gives Claim table name block given.Full buffer none = absurd none
+no_block_gives Claim table name block (given.Destroyed number) buffer none = absurd none
+no_block_gives Claim table name block given.Uncommitted buffer none = absurd none
+no_block_gives Claim table name block (given.Committed number) buffer none = absurd none
+no_block_gives Claim table name block given.Bad buffer none = absurd none
+
+-- it is what the call for the block read
+pub read_gives : (Known : Type 0) (image after : Image) (session : Session) (table : List Volume) (name : List ℕ) (block at : ℕ) (reply : Reply) (bytes : List ℕ) → reply ≡ told.Content (trimmed bytes) → IsBlockAt table name block at
+    → ReadsAny Known image after session at bytes (Ok tt) → GivesContent Known session image table (Read name block) reply
+read_gives Known image after session table name block at reply bytes same is any =
+    let gives : GivesContent Known session image table (Read name block) (told.Content (trimmed bytes)) = λ known.
+        record { v = is.v; named = is.named; below = is.below; content = bytes; found = subst (λ (b : ℕ). FindsContent image.readable session.grove b bytes) is.is (any known); is = refl } in
+    subst (λ (r : Reply). GivesContent Known session image table (Read name block) r) (sym same) gives
+
+-- what is said of it follows from something else
+pub on_content : (it : Line) (reply : Reply) (One Other : List ℕ → ℕ → List ℕ → Type 0) → ((name : List ℕ) (block : ℕ) (bytes : List ℕ) → One name block bytes → Other name block bytes) → OnContent it reply One → OnContent it reply Other
+on_content (Read name block) (told.Content bytes) One Other follows given = follows name block bytes given
+on_content (Read name block) told.Created One Other follows given = tt
+on_content (Read name block) told.Exists One Other follows given = tt
+on_content (Read name block) told.NoRoom One Other follows given = tt
+on_content (Read name block) told.Unknown One Other follows given = tt
+on_content (Read name block) told.Done One Other follows given = tt
+on_content (Read name block) told.Range One Other follows given = tt
+on_content (Read name block) told.Full One Other follows given = tt
+on_content (Read name block) (told.Destroyed number) One Other follows given = tt
+on_content (Read name block) told.Uncommitted One Other follows given = tt
+on_content (Read name block) (told.Committed number) One Other follows given = tt
+on_content (Read name block) told.Bad One Other follows given = tt
+on_content (Create name count) reply One Other follows given = tt
+on_content (Write name block content) reply One Other follows given = tt
+on_content (Trim name block) reply One Other follows given = tt
+on_content (Destroy name) reply One Other follows given = tt
+on_content Commit reply One Other follows given = tt
+
+-- where more is known
+pub gives_known : (Known Other : Type 0) (session : Session) (image : Image) (table : List Volume) (it : Line) (reply : Reply) → (Other → Known) → GivesContent Known session image table it reply → GivesContent Other session image table it reply
+gives_known Known Other session image table it reply known gives =
+    on_content it reply (λ name block bytes. Known → IsLookedUp image session table name block bytes) (λ name block bytes. Other → IsLookedUp image session table name block bytes) (λ name block bytes is other. is (known other)) gives
+
+-- ---- a commit, and a destroy
 pub commit_turns : (here : Sizes) (table : List Volume) (reply : CommitReply) (answer : Given) (buffer : List ℕ) → answer ≡ commit_reply reply → TurnsTable here table Commit (said answer buffer) table
 commit_turns here table (commits.Committed number) answer buffer is =
     let done : TurnsTable here table Commit (told.Committed number) table = inr (table, refl, inl (tt, refl)) in
@@ -168,6 +220,6 @@ pub takes_none_any : (Known : Type 0) (image : Image) (here : Sizes) (table left
 takes_none_any Known image here table left name buffer refused is takes = subst (λ (r : Option Given). TakesAny Known image here table left name buffer (Ok r)) is takes
 
 -- ---- a line that is this one is answered as this one
-pub any_as : (Known : Type 0) (image : Image) (here : Sizes) (table left : List Volume) (line was : Parsed) (before buffer : List ℕ) (result : Result Given DeviceStop) → line ≡ was → AnswersAny Known image here table left (asked was before) buffer result
-    → AnswersAny Known image here table left (asked line before) buffer result
-any_as Known image here table left line was before buffer result is any = subst (λ (l : Parsed). AnswersAny Known image here table left (asked l before) buffer result) (sym is) any
+pub any_as : (Known : Type 0) (session : Session) (first image : Image) (here : Sizes) (table left : List Volume) (line was : Parsed) (before buffer : List ℕ) (result : Result Given DeviceStop) → line ≡ was → AnswersAny Known session first image here table left (asked was before) buffer result
+    → AnswersAny Known session first image here table left (asked line before) buffer result
+any_as Known session first image here table left line was before buffer result is any = subst (λ (l : Parsed). AnswersAny Known session first image here table left (asked l before) buffer result) (sym is) any

@@ -1,3 +1,4 @@
 pub mod TurnLaws
 pub mod DeskLaws
 pub mod CauseLaws
+pub mod DrawingLaws

@@ -1,6 +1,9 @@
--- Why a line is answered so, or the device stops at it, on any pages, forged ones too: by the table in memory, by the line's name and numbers, and by the pages that are free.
-use Rattle.std.specs.Prelude.{◌≡◌, ◌≤◌, ◌<◌, ◌⊎◌, ℕ, List, Option, None, Some, Result, Ok, Err}
+-- Why a line is answered so, or the device stops at it, on any pages, forged ones too: by the table in memory, by the line's name and numbers, and by the pages that are free; and what a content that is given is.
+use Rattle.std.specs.Prelude.{◌≡◌, ◌≤◌, ◌<◌, ◌+◌, ◌⊎◌, ℕ, List, Option, None, Some, Result, Ok, Err}
 use Rattle.platform.specs.Image.{Image}
+use Rattle.device_session.specs.Reading.{FindsContent}
+use Rattle.device_session.specs.Sessions.{Session}
+use Rattle.script_lang.specs.Arrays.{trimmed}
 use Rattle.session_calls.specs.Damage.{IsWrongPage, IsWrongPlace}
 use Rattle.session_calls.specs.declared.stops.DeviceStop.{DeviceStop}
 use Rattle.session_calls.specs.declared.stops.DeviceStop.TheVariants as stops
@@ -78,6 +81,26 @@ TurnsTable here table it reply now =
     (IsRefused here.blocks table it reply × (now ≡ table))
     ⊎ ((next : List Volume) × IsAccepted here.blocks table it next × ((IsDone it reply × (now ≡ next)) ⊎ (LacksPages here it × (reply ≡ Full) × (now ≡ table))))
 
+-- ---- content
+
+-- over these pages a look-up with this session of the device's block that is this one of the volume comes to these bytes, but for their trailing zeros: to zeros where the block is not mapped
+pub record IsLookedUp (image : Image) (session : Session) (table : List Volume) (name : List ℕ) (block : ℕ) (bytes : List ℕ) : Type 0 where
+  pub v : Volume
+  pub named : IsNamed table name v
+  pub below : block < v.count
+  pub content : List ℕ
+  pub found : FindsContent image.readable session.grove (v.start + block) content
+  pub is : bytes ≡ trimmed content
+
+-- where a block is read and its content given, this is so of them
+abbrev pub OnContent : Line → Reply → (List ℕ → ℕ → List ℕ → Type 0) → Type 0
+OnContent (Read name block) (Content bytes) Claim = Claim name block bytes
+OnContent _ _ Claim = Unit {0}
+
+-- a content that is given is what a look-up comes to, over the pages from before, where this is known of them and of the session
+abbrev pub GivesContent : Type 0 → Session → Image → List Volume → Line → Reply → Type 0
+GivesContent Known session image table it reply = OnContent it reply (λ name block bytes. Known → IsLookedUp image session table name block bytes)
+
 -- ---- stops
 
 -- it draws keys: it writes a block, and be it the table's, or it commits
@@ -119,10 +142,10 @@ StopsAny Known image blocks table it stop = MayStop Known image it stop × ((nex
 
 -- ---- answers
 
--- the one table of a line's answers on any pages
-abbrev pub AnswersAny : Type 0 → Image → Sizes → List Volume → List Volume → Line → List ℕ → Result Given DeviceStop → Type 0
-AnswersAny Known image here table table_now it buffer (Ok reply) = TurnsTable here table it (said reply buffer) table_now
-AnswersAny Known image here table table_now it buffer (Err stop) = StopsAny Known image here.blocks table it stop
+-- the one table of a line's answers on any pages, with the session and over the pages from before it
+abbrev pub AnswersAny : Type 0 → Session → Image → Image → Sizes → List Volume → List Volume → Line → List ℕ → Result Given DeviceStop → Type 0
+AnswersAny Known session before image here table table_now it buffer (Ok reply) = TurnsTable here table it (said reply buffer) table_now × GivesContent Known session before table it (said reply buffer)
+AnswersAny Known session before image here table table_now it buffer (Err stop) = StopsAny Known image here.blocks table it stop
 
 -- the answer of which that speaks
 abbrev pub answer_in : Result Answered DeviceStop → Result Given DeviceStop

@@ -10,6 +10,7 @@ ghost use Rattle.volume_lines.specs.Replies.{CanWrite, FitsBlock, IsWords, said}
 ghost use Rattle.volume_terms.specs.Turn.{OnBlock, Reads, Trims, Writes};
 ghost use Rattle.session_calls.specs.Calling.{Calls};
 ghost use Rattle.volume_desk.specs.Causes.{AnswersAny, sizes};
+ghost use Rattle.volume_desk.specs.Drawing.{DrewFor, tally};
 ghost use Rattle.volume_desk.specs.Turns.{IsBlockAt, IsHeld, NoBlock, TurnsTo};
 
 use device_session::Session;
@@ -55,7 +56,7 @@ pub(crate) fn read<P: Platform>(
         → TurnsTo (P.history platform.new).present (P.head platform.new) table.now session.new entry
         (λ reply next. OnBlock table.now entry name.now block Reads reply next) (Unit {0}) buffer.new result }
     // On any pages: why it is answered so.
-    ensures any { AnswersAny (P.tells × IsMounted (P.history platform.old).present session.old) (P.history platform.new).present
+    ensures any { AnswersAny (P.tells × IsMounted (P.history platform.old).present session.old) session.old (P.history platform.old).present (P.history platform.new).present
         (sizes (blocks_of session.old) (P.head platform.new) (P.capacity platform.new)) table.now table.now (lines.Read name.now block) buffer.new result }
 {
     match block_of(table, name, block) {
@@ -86,8 +87,10 @@ pub(crate) fn write<P: Platform, T: Tape>(
         → TurnsTo (P.history platform.new).present (P.head platform.new) table.now session.new entry
         (λ reply next. OnBlock table.now entry name.now block (Writes (P.capacity platform.old) content.now) reply next) (entry.pages ≢ P.capacity platform.old) buffer result }
     // On any pages: why it is answered so.
-    ensures any { (buffer : List ℕ) → AnswersAny (P.tells × IsMounted (P.history platform.old).present session.old) (P.history platform.new).present
+    ensures any { (buffer : List ℕ) → AnswersAny (P.tells × IsMounted (P.history platform.old).present session.old) session.old (P.history platform.old).present (P.history platform.new).present
         (sizes (blocks_of session.old) (P.head platform.new) (P.capacity platform.new)) table.now table.now (lines.Write name.now block content.now) buffer result }
+    // Which keys it draws, each for a page.
+    ensures drew { (buffer : List ℕ) → IfOk result (λ reply. DrewFor (tally (T.drawn tape.old) (P.head platform.old)) (lines.Write name.now block content.now) (said reply buffer) (tally (T.drawn tape.new) (P.head platform.new))) }
 {
     match block_of(table, name, block) {
         Err(reply) => Ok(reply),
@@ -114,12 +117,13 @@ pub(crate) fn trim<P: Platform>(
     requires open { IsOpen session.old (P.head platform.old) }
     requires table { IsTable (blocks_of session.old) table.now }
     ensures calls { (drawn : Drawn) → Calls P.Platform 1 platform.old platform.new drawn drawn session.old session.new result }
+    ensures head { P.head platform.new ≡ P.head platform.old }
     ensures words { IfOk result IsWords }
     ensures turns { P.tells → (entry : Held) (buffer : List ℕ) → IsHeld (P.history platform.old).present (P.head platform.old) session.old table.now entry
         → TurnsTo (P.history platform.new).present (P.head platform.new) table.now session.new entry
         (λ reply next. OnBlock table.now entry name.now block Trims reply next) (Unit {0}) buffer result }
     // On any pages: why it is answered so.
-    ensures any { (buffer : List ℕ) → AnswersAny (P.tells × IsMounted (P.history platform.old).present session.old) (P.history platform.new).present
+    ensures any { (buffer : List ℕ) → AnswersAny (P.tells × IsMounted (P.history platform.old).present session.old) session.old (P.history platform.old).present (P.history platform.new).present
         (sizes (blocks_of session.old) (P.head platform.new) (P.capacity platform.new)) table.now table.now (lines.Trim name.now block) buffer result }
 {
     match block_of(table, name, block) {

@@ -8,6 +8,7 @@ ghost use Rattle.device_course.specs.Held.{trim_all};
 ghost use Rattle.session_calls.specs.Along.{Drawn, drawn_by};
 ghost use Rattle.session_calls.specs.Damage.{IsMounted, MeetsDamage};
 ghost use Rattle.volume_table.specs.Tables.{IsInside, table_bytes};
+ghost use Rattle.volume_desk.specs.Drawing.{DrewOne, tally};
 ghost use Rattle.volume_desk.specs.Turns.{ChangesTo};
 ghost use Rattle.session_calls.specs.Calling.{Calls};
 
@@ -30,6 +31,7 @@ pub(crate) fn change<P: Platform, T: Tape>(
     requires free { P.head platform.old ≢ P.capacity platform.old }
     ensures calls { Calls P.Platform (1 + volume.now.count) platform.old platform.new (drawn_by T.Tape tape.old) (drawn_by T.Tape tape.new) session.old session.new result }
     ensures head { OnOk result (P.head platform.new ≡ P.head platform.old + 1) }
+    ensures drew { OnOk result (DrewOne (tally (T.drawn tape.old) (P.head platform.old)) (tally (T.drawn tape.new) (P.head platform.new))) }
     ensures leads { P.tells → (device : Device) (array : OpenSession) → IsAt (P.history platform.old).present (Some session.old) (mounted device array)
         → ChangesTo (P.history platform.new).present session.new device (trim_all (written array 0 (table_bytes table.now)) (blocks_from volume.now.start volume.now.count)) result }
     ensures damage { P.tells → IsMounted (P.history platform.old).present session.old → IfErr result (MeetsDamage (P.history platform.new).present) }

@@ -15,6 +15,7 @@ ghost use Rattle.volume_terms.specs.Turn.{Serves};
 ghost use Rattle.session_calls.specs.Calling.{Calls};
 ghost use Rattle.session_calls.specs.Carrying.{Carries, IsReady};
 ghost use Rattle.volume_desk.specs.Causes.{AnswersAny, answer_in, sizes};
+ghost use Rattle.volume_desk.specs.Drawing.{Spends, tally};
 ghost use Rattle.volume_desk.specs.Turns.{HasPages, IsHeld, IsOfBlocks, ServesAs, TurnsTo, goes_on};
 
 use crate::blocks::{read, trim, write};
@@ -70,8 +71,11 @@ pub fn serve_line<P: Platform, T: Tape, L: Sink>(
         (around P.Platform T.Tape L.Sink platform.new tape.new ledger.new) desk.old.table desk.new.table desk.new.buffer entry
         (asked line.now desk.old.buffer) result }
     // On any pages: why it is answered so.
-    ensures any { AnswersAny P.tells (P.history platform.new).present
+    ensures any { AnswersAny P.tells first (P.history platform.old).present (P.history platform.new).present
         (sizes (blocks_of first) (P.head platform.new) (P.capacity platform.new)) desk.old.table desk.new.table
+        (asked line.now desk.old.buffer) desk.new.buffer (answer_in result) }
+    // Which keys it draws, each for a page.
+    ensures spends { Spends tape.old tape.new (tally (T.drawn tape.old) (P.head platform.old)) (tally (T.drawn tape.new) (P.head platform.new))
         (asked line.now desk.old.buffer) desk.new.buffer (answer_in result) }
 {
     match line {
@@ -110,8 +114,11 @@ fn serve_blocks<P: Platform, T: Tape>(
         (λ reply next. Serves (P.capacity platform.old) desk.old.table entry (asked line.now desk.old.buffer) reply next)
         (HasPages (P.capacity platform.old) entry (asked line.now desk.old.buffer)) desk.new.buffer result }
     // On any pages: why it is answered so.
-    ensures any { AnswersAny (P.tells × IsMounted (P.history platform.old).present session.old) (P.history platform.new).present
+    ensures any { AnswersAny (P.tells × IsMounted (P.history platform.old).present session.old) session.old (P.history platform.old).present (P.history platform.new).present
         (sizes (blocks_of session.old) (P.head platform.new) (P.capacity platform.new)) desk.old.table desk.new.table
+        (asked line.now desk.old.buffer) desk.new.buffer result }
+    // Which keys it draws, each for a page.
+    ensures spends { Spends tape.old tape.new (tally (T.drawn tape.old) (P.head platform.old)) (tally (T.drawn tape.new) (P.head platform.new))
         (asked line.now desk.old.buffer) desk.new.buffer result }
 {
     match line {

@@ -8,7 +8,7 @@ use Rattle.sdbt_base.specs.Told.{Got, GotPart}
 use Rattle.sdbt_base.proofs.ToldLaws.{Got-nothing, Got-then}
 use Rattle.platform.specs.Image.{Image}
 use Rattle.platform.specs.History.{Extends, History, moment}
-use Rattle.platform.proofs.Moments.{image_at-now}
+use Rattle.platform.proofs.Moments.{Extends-refl, image_at-now}
 use Rattle.device_course.specs.States.{IsLater, Outside}
 use Rattle.device_course.proofs.MadeLaws.{made_again, made_start, made_then, shut}
 use Rattle.device_session.specs.Sessions.{Session}
@@ -22,6 +22,7 @@ use Rattle.device_course.specs.Held.{Held, device_of}
 use Rattle.device_course.specs.Leading.{Led, last_of, marks_of}
 use Rattle.device_course.proofs.LeadingLaws.{last_of-append, leads_append, leads_longer}
 use Rattle.std.proofs.lemmas.List.{map-append}
+use Rattle.session_calls.specs.Damage.{IsMounted}
 use Rattle.session_calls.specs.declared.stops.DeviceStop.{DeviceStop}
 use Rattle.session_calls.specs.declared.stops.DeviceStop.TheVariants as device
 use Rattle.volume_table.specs.declared.volume.Volume.{Volume}
@@ -31,12 +32,15 @@ use Rattle.volume_lines.specs.Replies.{Reply, Bad, line_of}
 use Rattle.volume_terms.specs.Turn.{Turn}
 use Rattle.volume_terms.specs.Volumes.{IsTabled}
 use Rattle.device_course.specs.Course.{MadeBetween}
-use Rattle.volume_desk.specs.Causes.{StopsAny, sizes}
+use Rattle.volume_desk.specs.Causes.{Draws, GivesContent, StopsAny, TurnsTable, sizes}
+use Rattle.volume_desk.specs.Drawing.{DrewFor, tally}
 use Rattle.volume_desk.specs.Turns.{HasPages, IsHeld, Served, Shows, Stopped, StopsAt}
 use Rattle.volume_serving.specs.World.{World, IsOn}
 use Rattle.volume_serving.specs.Handled.{ending_of, goes_on, AreMany, AreShown, EndsOn, Handled, OnLines, Replied}
-use Rattle.volume_serving.specs.Tabled.{IfStopped, IsTurnOn, OnTables}
-use Rattle.volume_serving.proofs.TabledLaws.{if_stopped_behind, if_stopped_longer, next_behind, next_longer, tables_cut, tables_longer, tables_nothing, tables_then}
+use Rattle.volume_serving.specs.Drawing.{DrewUntil, tally_of}
+use Rattle.volume_serving.specs.Tabled.{GaveContent, IfStopped, IsTurnOn, OnTables}
+use Rattle.volume_serving.proofs.DrawingLaws.{until_bad, until_cut, until_line, until_longer, until_none, until_then}
+use Rattle.volume_serving.proofs.TabledLaws.{gave_now, if_stopped_behind, if_stopped_longer, next_behind, next_longer, tables_cut, tables_longer, tables_nothing, tables_then}
 
 -- ---- nothing
 
@@ -63,7 +67,7 @@ pub handled_nothing : (tells : Type 0) (blocks : ℕ) (w : World) (written : Opt
 handled_nothing tells blocks w written fits = record {
   put = [];
   got = Got-nothing written;
-  replied = record { replies = []; part = []; put_is = refl; behind = refl; many = refl; tables = tables_nothing tells blocks w.table w.outside; later = later_none w.outside fits; led = λ told entry on. on_nothing w entry on };
+  replied = record { replies = []; part = []; put_is = refl; behind = refl; many = refl; tables = tables_nothing tells blocks w.table w.outside; drew = until_none (tally_of w.outside) []; later = later_none w.outside fits; led = λ told entry on. on_nothing w entry on };
 }
 
 -- ---- lines behind others
@@ -184,7 +188,8 @@ replied_then tells blocks old mid new ending lines more put others one two =
       behind = two.behind;
       many = subst (λ (n : ℕ). AreMany n (length (lines ++ more)) ending) (sym (length-append one.replies two.replies))
           (subst (λ (n : ℕ). AreMany (length one.replies + length two.replies) n ending) (sym (length-append lines more)) (many_then (length one.replies) (length two.replies) (length lines) (length more) ending one.many two.many));
-      tables = tables_then tells blocks old.table mid.table new.table mid.outside new.outside lines more one.replies two.replies ending two.later one.many one.tables two.tables;
+      tables = tables_then tells blocks old.table mid.table new.table old.outside mid.outside new.outside lines more one.replies two.replies ending two.later one.many one.tables two.tables;
+      drew = until_then (tally_of old.outside) (tally_of mid.outside) (tally_of new.outside) lines more one.replies two.replies one.many one.drew two.drew;
       later = later_then old.outside mid.outside new.outside one.later two.later;
       led = λ told entry on. on_then old mid new entry lines more one.replies two.replies two.part ending one.later.capacity one.many
           (subst (λ (p : List ℕ). OnLines old mid entry lines one.replies p (Ok tt)) one.behind (one.led told entry on)) (λ last there. two.led told last there);
@@ -240,7 +245,8 @@ handled_longer tells blocks old new stop lines more a b line p =
         put_is = r.put_is;
         behind = r.behind;
         many = subst (λ (n : ℕ). AreMany (length r.replies) n (Err stop)) (sym (length-append lines more)) (many_longer (length r.replies) (length lines) (length more) stop line r.many);
-        tables = tables_longer tells blocks old.table new.table new.outside lines more r.replies stop line r.tables;
+        tables = tables_longer tells blocks old.table new.table old.outside new.outside lines more r.replies stop line r.tables;
+        drew = until_longer (tally_of old.outside) (tally_of new.outside) lines more r.replies r.drew;
         later = r.later;
         led = λ told entry on. on_longer old new entry lines more r.replies r.part stop line (r.led told entry on);
       };
@@ -295,12 +301,44 @@ served_turn old new session now table_now entry text it reply going spelled on s
 shown_one : (old new : History) (reply : Reply) (next : Held) → moment old ≤ moment new → Shows new.present reply next → AreShown new (moment old) (reply ∷ []) (next ∷ [])
 shown_one old new reply next later shows = (moment new, later, omega arith, subst (λ (image : Image). Shows image reply next) (sym (image_at-now new (moment new) (omega arith))) shows, tt)
 
+-- what is said of it and its reply on any pages: it is one over the table, what a content is, and which keys it drew, whether the reply is put or not
+pub record SaysOf (tells : Type 0) (blocks : ℕ) (old : World) (table_now : List Volume) (new : Outside) (text : List ℕ) (reply : Reply) : Type 0 where
+  pub extends : tells → Extends old.outside.history new.history
+  pub turn : IsTurnOn (sizes blocks new.head new.capacity) (λ table it given. GaveContent tells new.history (moment old.outside.history) table it given) old.table text reply table_now
+  pub drew : DrewUntil (tally_of old.outside) (text ∷ []) (reply ∷ []) (tally_of new)
+  pub cut : DrewUntil (tally_of old.outside) (text ∷ []) [] (tally_of new)
+
+-- a line outside the grammar
+pub bad_says : (tells : Type 0) (blocks : ℕ) (old : World) (text : List ℕ) → IsBad text → SaysOf tells blocks old old.table old.outside text Bad
+bad_says tells blocks old text bad = record {
+  extends = λ told. Extends-refl old.outside.history;
+  turn = inr (bad, refl, refl);
+  drew = until_bad (tally_of old.outside) text bad;
+  cut = until_none (tally_of old.outside) (text ∷ []);
+}
+
+-- a line that draws no key leaves the tally
+pub still_of : {T : Type 0} (draws : T → Option (List (List ℕ))) (tape tape_now : T) (pages pages_now : ℕ) (it : Line) → ((Draws it → ⊥) → tape_now ≡ tape) → ((Draws it → ⊥) → pages_now ≡ pages) → (Draws it → ⊥)
+    → tally (draws tape_now) pages_now ≡ tally (draws tape) pages
+still_of draws tape tape_now pages pages_now it undrawn unadded none = λ k. tally (draws (undrawn none k)) (unadded none k)
+
+-- one in the grammar, by what the desk says of it
+pub served_says : (tells : Type 0) (blocks : ℕ) (old : World) (session : Session) (table_now : List Volume) (new : Outside) (text : List ℕ) (it : Line) (reply : Reply) → Spells text it → (tells → Extends old.outside.history new.history)
+    → (tells → IsMounted old.outside.history.present session) → TurnsTable (sizes blocks new.head new.capacity) old.table it reply table_now × GivesContent tells session old.outside.history.present old.table it reply
+    → DrewFor (tally_of old.outside) it reply (tally_of new) → ((Draws it → ⊥) → tally_of new ≡ tally_of old.outside) → SaysOf tells blocks old table_now new text reply
+served_says tells blocks old session table_now new text it reply spelled extends mounted any drew still = record {
+  extends = extends;
+  turn = inl (it, spelled, any.0, gave_now tells old.outside.history new.history session old.table it reply extends mounted any.1);
+  drew = until_line (tally_of old.outside) (tally_of new) text it reply spelled drew;
+  cut = until_cut (tally_of old.outside) (tally_of new) text it drew.0 spelled still drew.2.drew;
+}
+
 -- its reply is put
 pub line_put : (tells : Type 0) (blocks : ℕ) (old new : World) (now : Session) (text : List ℕ) (reply : Reply) (a b : Option (List ℕ)) → new.session ≡ Some now → IsLater old.outside new.outside
-    → IsTurnOn (sizes blocks new.outside.head new.outside.capacity) old.table text reply new.table
+    → SaysOf tells blocks old new.table new.outside text reply
     → (tells → (entry : Held) → IsOn old entry → IsTurn old new.outside.history.present new.outside.head now new.table new.outside.history entry text reply) → Got a (line_of reply) b
     → Handled tells blocks old new (Ok tt) (text ∷ []) a b
-line_put tells blocks old new now text reply a b going later on_table turns got = record {
+line_put tells blocks old new now text reply a b going later says turns got = record {
   put = line_of reply;
   got = got;
   replied = record {
@@ -309,7 +347,8 @@ line_put tells blocks old new now text reply a b going later on_table turns got 
     put_is = sym (append-nil (line_of reply ++ []) ∙ append-nil (line_of reply));
     behind = refl;
     many = refl;
-    tables = record { last = new.table; turns = (new.table, on_table, refl); going = refl; stopped = tt };
+    tables = record { last = new.table; extends = says.extends; turns = (new.table, says.turn, refl); going = refl; stopped = tt };
+    drew = says.drew;
     later = later;
     led = λ told entry on.
         let t = turns told entry on in
@@ -325,9 +364,10 @@ line_put tells blocks old new now text reply a b going later on_table turns got 
 
 -- or only a part of it
 pub line_cut : (tells : Type 0) (blocks : ℕ) (old new : World) (now : Session) (image : Image) (head : ℕ) (table_now : List Volume) (text : List ℕ) (reply : Reply) (a b : Option (List ℕ)) → IsLater old.outside new.outside
+    → SaysOf tells blocks old table_now new.outside text reply
     → (tells → (entry : Held) → IsOn old entry → IsTurn old image head now table_now new.outside.history entry text reply) → GotPart a (line_of reply) b
     → Handled tells blocks old new (Err stops.Sink) (text ∷ []) a b
-line_cut tells blocks old new now image head table_now text reply a b later turns (n, got) = record {
+line_cut tells blocks old new now image head table_now text reply a b later says turns (n, got) = record {
   put = take n (line_of reply);
   got = got;
   replied = record {
@@ -336,7 +376,8 @@ line_cut tells blocks old new now image head table_now text reply a b later turn
     put_is = refl;
     behind = inl (reply, (n, refl));
     many = omega arith;
-    tables = record { last = old.table; turns = refl; going = tt; stopped = tt };
+    tables = record { last = old.table; extends = says.extends; turns = refl; going = tt; stopped = tt };
+    drew = says.cut;
     later = later;
     led = λ told entry on.
         let t = turns told entry on in
@@ -363,10 +404,10 @@ stop_ends new capacity table entry text it ahead (device.BadRecord addr) spelled
 
 -- the device stopped at it
 pub line_stop : (tells : Type 0) (blocks : ℕ) (old new : World) (session : Session) (text : List ℕ) (it : Line) (stop : DeviceStop) (a : Option (List ℕ)) → old.session ≡ Some session → Spells text it
-    → StopsAny tells new.outside.history.present blocks old.table it stop → IsLater old.outside new.outside
+    → StopsAny tells new.outside.history.present blocks old.table it stop → IsLater old.outside new.outside → (tells → Extends old.outside.history new.outside.history) → DrewUntil (tally_of old.outside) (text ∷ []) [] (tally_of new.outside)
     → (tells → (entry : Held) → IsHeld old.outside.history.present old.outside.head session old.table entry → Stopped old.outside new.outside old.table entry it stop)
     → Handled tells blocks old new (Err (stops.Device stop)) (text ∷ []) a a
-line_stop tells blocks old new session text it stop a going spelled may later stopped = record {
+line_stop tells blocks old new session text it stop a going spelled may later extends drew stopped = record {
   put = [];
   got = Got-nothing a;
   replied = record {
@@ -375,7 +416,8 @@ line_stop tells blocks old new session text it stop a going spelled may later st
     put_is = refl;
     behind = refl;
     many = omega arith;
-    tables = record { last = old.table; turns = refl; going = tt; stopped = (it, spelled, may) };
+    tables = record { last = old.table; extends = extends; turns = refl; going = tt; stopped = (it, spelled, may) };
+    drew = drew;
     later = later;
     led = λ told entry on.
         let same : on.session ≡ session = let e : Some on.session ≡ Some session = sym on.going ∙ going in cc in
@@ -393,16 +435,16 @@ line_stop tells blocks old new session text it stop a going spelled may later st
 
 -- a reply that was put, or was not
 pub line_told : (tells : Type 0) (blocks : ℕ) (old : World) (outside : Outside) (now : Session) (table_now : List Volume) (text : List ℕ) (reply : Reply) (result : Result Session Stop) (a b : Option (List ℕ)) → IsLater old.outside outside
-    → IsTurnOn (sizes blocks outside.head outside.capacity) old.table text reply table_now
+    → SaysOf tells blocks old table_now outside text reply
     → (tells → (entry : Held) → IsOn old entry → IsTurn old outside.history.present outside.head now table_now outside.history entry text reply) → IfOk result (λ s. s ≡ now) → HasPut (line_of reply) (ending_of result) a b
     → Handled tells blocks old (record { session = goes_on result; table = table_now; outside = outside }) (ending_of result) (text ∷ []) a b
-line_told tells blocks old outside now table_now text reply (Ok session) a b later on_table turns same put =
-    line_put tells blocks old (record { session = Some session; table = table_now; outside = outside }) now text reply a b (ap Some same) later on_table turns put
-line_told tells blocks old outside now table_now text reply (Err stops.Sink) a b later on_table turns same put =
-    line_cut tells blocks old (record { session = None; table = table_now; outside = outside }) now outside.history.present outside.head table_now text reply a b later turns put
-line_told tells blocks old outside now table_now text reply (Err stops.Source) a b later on_table turns same put = absurd put
-line_told tells blocks old outside now table_now text reply (Err stops.Limit) a b later on_table turns same put = absurd put
-line_told tells blocks old outside now table_now text reply (Err (stops.Device stop)) a b later on_table turns same put = absurd put
+line_told tells blocks old outside now table_now text reply (Ok session) a b later says turns same put =
+    line_put tells blocks old (record { session = Some session; table = table_now; outside = outside }) now text reply a b (ap Some same) later says turns put
+line_told tells blocks old outside now table_now text reply (Err stops.Sink) a b later says turns same put =
+    line_cut tells blocks old (record { session = None; table = table_now; outside = outside }) now outside.history.present outside.head table_now text reply a b later says turns put
+line_told tells blocks old outside now table_now text reply (Err stops.Source) a b later says turns same put = absurd put
+line_told tells blocks old outside now table_now text reply (Err stops.Limit) a b later says turns same put = absurd put
+line_told tells blocks old outside now table_now text reply (Err (stops.Device stop)) a b later says turns same put = absurd put
 
 -- ---- an input that failed behind lines
 
@@ -415,7 +457,7 @@ on_cut old new entry lines replies part on = (
 
 -- a run that handled its lines, and ended so behind them
 handled_ended : (tells : Type 0) (blocks : ℕ) (old new : World) (ending : Ending) (lines : List (List ℕ)) (a b : Option (List ℕ)) (p : Handled tells blocks old new (Ok tt) lines a b) → IsBehind line_of no_line p.replied.part ending
-    → AreMany (length p.replied.replies) (length lines) ending → OnTables tells blocks old.table new.table new.outside lines p.replied.replies ending
+    → AreMany (length p.replied.replies) (length lines) ending → OnTables tells blocks old.table new.table old.outside new.outside lines p.replied.replies ending
     → ((entry : Held) → OnLines old new entry lines p.replied.replies p.replied.part (Ok tt) → OnLines old new entry lines p.replied.replies p.replied.part ending) → Handled tells blocks old new ending lines a b
 handled_ended tells blocks old new ending lines a b p behind many tables on = let r = p.replied in record {
   put = p.put;
@@ -427,6 +469,7 @@ handled_ended tells blocks old new ending lines a b p behind many tables on = le
     behind = behind;
     many = many;
     tables = tables;
+    drew = r.drew;
     later = r.later;
     led = λ told entry there. on entry (r.led told entry there);
   };
@@ -435,8 +478,8 @@ handled_ended tells blocks old new ending lines a b p behind many tables on = le
 pub handled_cut : (tells : Type 0) (blocks : ℕ) (old new : World) (lines : List (List ℕ)) (a b : Option (List ℕ)) → Handled tells blocks old new (Ok tt) lines a b
     → Handled tells blocks old new (Err stops.Source) lines a b × Handled tells blocks old new (Err stops.Limit) lines a b
 handled_cut tells blocks old new lines a b p = let r = p.replied in (
-  handled_ended tells blocks old new (Err stops.Source) lines a b p r.behind r.many (tables_cut tells blocks old.table new.table new.outside lines r.replies r.tables).0 (λ entry on. (on_cut old new entry lines r.replies r.part on).0),
-  handled_ended tells blocks old new (Err stops.Limit) lines a b p r.behind r.many (tables_cut tells blocks old.table new.table new.outside lines r.replies r.tables).1 (λ entry on. (on_cut old new entry lines r.replies r.part on).1),
+  handled_ended tells blocks old new (Err stops.Source) lines a b p r.behind r.many (tables_cut tells blocks old.table new.table old.outside new.outside lines r.replies r.tables).0 (λ entry on. (on_cut old new entry lines r.replies r.part on).0),
+  handled_ended tells blocks old new (Err stops.Limit) lines a b p r.behind r.many (tables_cut tells blocks old.table new.table old.outside new.outside lines r.replies r.tables).1 (λ entry on. (on_cut old new entry lines r.replies r.part on).1),
 )
 
 -- ---- how many replies there are

@@ -1,3 +1,4 @@
 pub mod TabledLaws
+pub mod DrawingLaws
 pub mod HandledLaws
 pub mod ServingLaws

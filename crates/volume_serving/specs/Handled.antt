@@ -15,6 +15,7 @@ use Rattle.volume_lines.specs.Replies.{Reply, line_of}
 use Rattle.volume_terms.specs.Turn.{Turn}
 use Rattle.device_course.specs.Course.{MadeBetween}
 use Rattle.volume_desk.specs.Turns.{HasPages, Shows}
+use Rattle.volume_serving.specs.Drawing.{DrewUntil, tally_of}
 use Rattle.volume_serving.specs.Tabled.{IfNext, IfStopped, OnTables}
 use Rattle.volume_serving.specs.World.{World, IsOn}
 
@@ -65,14 +66,15 @@ pub record OnLines (old new : World) (entry : Held) (lines : List (List ℕ)) (r
   pub pages : IfStopped (λ stop it. HasPages old.outside.capacity (last_of entry led.states) it) lines replies ending
   pub shown : AreShown new.outside.history (moment old.outside.history) replies led.states
 
--- a run that handled these lines, over a device of so many blocks: what it put is the lines of its replies, and perhaps a part behind them
+-- a run that handled these lines, over a device of so many blocks: what it put is the lines of its replies, and perhaps a part behind them; and which keys they drew
 pub record Replied (tells : Type 0) (blocks : ℕ) (old new : World) (ending : Ending) (lines : List (List ℕ)) (put : List ℕ) : Type 0 where
   pub replies : List Reply
   pub part : List ℕ
   pub put_is : put ≡ flat_map line_of replies ++ part
   pub behind : IsBehind line_of no_line part ending
   pub many : AreMany (length replies) (length lines) ending
-  pub tables : OnTables tells blocks old.table new.table new.outside lines replies ending
+  pub tables : OnTables tells blocks old.table new.table old.outside new.outside lines replies ending
+  pub drew : DrewUntil (tally_of old.outside) lines replies (tally_of new.outside)
   pub later : IsLater old.outside new.outside
   pub led : tells → (entry : Held) → IsOn old entry → OnLines old new entry lines replies part ending
 

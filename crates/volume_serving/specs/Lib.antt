@@ -1,5 +1,6 @@
 pub mod World
 pub mod Damage
 pub mod Tabled
+pub mod Drawing
 pub mod Handled
 pub mod Ran

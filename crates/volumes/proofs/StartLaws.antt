@@ -38,7 +38,10 @@ use Rattle.device_course.specs.Course.{MadeBetween}
 use Rattle.volume_desk.specs.Turns.{HasPages, IsHeld}
 use Rattle.volume_serving.specs.Handled.{AreShown, EndsOn}
 use Rattle.volume_serving.specs.Ran.{Ran as RanLines}
+use Rattle.volume_desk.specs.Drawing.{Tally, tally}
+use Rattle.volume_serving.specs.Drawing.{DrewUntil, tally_of}
 use Rattle.volume_serving.specs.Tabled.{IfStopped, OnTables}
+use Rattle.volume_serving.proofs.TabledLaws.{tables_since}
 use Rattle.volume_serving.proofs.HandledLaws.{shown_from}
 use Rattle.volumes.specs.Running.{Answers, IsEarly, IsIdle, IsSilent, OnVolumes, Serves}
 use Rattle.volumes.specs.Starting.{EndsEarly, FindsFirst, FindsTable, IsFrom, IsOfTable, IsRefusal, IsSpelled, IsStart, SpellsNone}
@@ -112,9 +115,10 @@ volumes_since first second third session table table_now entry lines replies par
           (ahead_of (record { session = session; table = table_now; outside = third }) first.capacity (last_of entry states) lines replies part there.on.ahead ending on.ends) on.shown;
     }
 
-answers_since : (tells : Type 0) (Earlier From : Held → Type 0) (first second third : Outside) (ending : Ending) (left left_now written written_now : Option (List ℕ)) → second.capacity ≡ first.capacity → (tells → second.history.present ≡ first.history.present) → Since Earlier From first second
+answers_since : (tells : Type 0) (Earlier From : Held → Type 0) (first second third : Outside) (ending : Ending) (left left_now written written_now : Option (List ℕ)) → second.capacity ≡ first.capacity → tally_of second ≡ tally_of first → (tells → CellStays first.history second.history)
+    → (tells → second.history.present ≡ first.history.present) → Since Earlier From first second
     → Answers tells From second third ending left left_now written written_now → Answers tells Earlier first third ending left left_now written written_now
-answers_since tells Earlier From first second third ending left left_now written written_now same image since answers = record {
+answers_since tells Earlier From first second third ending left left_now written written_now same counted stays image since answers = record {
   taken = answers.taken;
   lines = answers.lines;
   gave = answers.gave;
@@ -131,18 +135,20 @@ answers_since tells Earlier From first second third ending left left_now written
   first = answers.first;
   table = answers.table;
   spelled = (answers.spelled.0, λ told. subst (λ (i : Image). IsSpelled i answers.blocks answers.first) (image told) (answers.spelled.1 told));
-  tables = answers.tables;
+  tables = tables_since tells answers.blocks answers.first answers.table first second third answers.lines answers.replies ending (λ told. (stays told).extends) answers.tables;
+  drew = subst (λ (t : Tally). DrewUntil t answers.lines answers.replies (tally_of third)) counted answers.drew;
   led = λ entry early.
       let s = since entry early in
       volumes_since first second third answers.session answers.first answers.table entry answers.lines answers.replies answers.part ending same s.1 (answers.led entry s.0);
 }
 
-pub serves_since : (tells : Type 0) (Earlier From : Held → Type 0) (first second third : Outside) (result : Result (Unit {0}) Halt) (left left_now written written_now : Option (List ℕ)) → second.capacity ≡ first.capacity → (tells → second.history.present ≡ first.history.present) → Since Earlier From first second
+pub serves_since : (tells : Type 0) (Earlier From : Held → Type 0) (first second third : Outside) (result : Result (Unit {0}) Halt) (left left_now written written_now : Option (List ℕ)) → second.capacity ≡ first.capacity → tally_of second ≡ tally_of first → (tells → CellStays first.history second.history)
+    → (tells → second.history.present ≡ first.history.present) → Since Earlier From first second
     → Serves tells From second third result left left_now written written_now → Serves tells Earlier first third result left left_now written written_now
-serves_since tells Earlier From first second third result left left_now written written_now same image since (inl (halt, is, silent)) =
+serves_since tells Earlier From first second third result left left_now written written_now same counted stays image since (inl (halt, is, silent)) =
     inl (halt, is, silent_since tells Earlier From first second third halt left left_now written written_now image since silent)
-serves_since tells Earlier From first second third result left left_now written written_now same image since (inr (ending, is, answers)) =
-    inr (ending, is, answers_since tells Earlier From first second third ending left left_now written written_now same image since answers)
+serves_since tells Earlier From first second third result left left_now written written_now same counted stays image since (inr (ending, is, answers)) =
+    inr (ending, is, answers_since tells Earlier From first second third ending left left_now written written_now same counted stays image since answers)
 
 -- ---- a mount
 
@@ -285,13 +291,14 @@ pub first_none : (Known : Type 0) (image after : Image) (session : Session) (byt
 first_none Known image after session bytes blocks any same none known = (bytes, any known, λ table is. none table (subst (λ (n : ℕ). IsTable n table) (sym same) is))
 
 -- lines that were served behind it
-pub answers_behind : (tells : Type 0) (old mid new : Outside) (first now : Session) (after : Option Session) (table table_now : List Volume) (ending : Ending) (left left_now written written_now : Option (List ℕ)) → mid.head ≡ old.head → mid.capacity ≡ old.capacity
+pub answers_behind : (tells : Type 0) (old mid new : Outside) (first now : Session) (after : Option Session) (table table_now : List Volume) (ending : Ending) (left left_now written written_now : Option (List ℕ)) → mid.head ≡ old.head → mid.drawn ≡ old.drawn → mid.capacity ≡ old.capacity
     → needed_by now ≤ needed_by first → (tells → CellStays old.history mid.history) → IsTable (blocks_of first) table
     → (tells → (there : Device) (array : OpenSession) → IsAt old.history.present (Some first) (mounted there array) → FindsTable mid.history.present now there array (Ok table)) → (tells → IsSpelled old.history.present (blocks_of first) table)
     → blocks_of now ≡ blocks_of first → RanLines tells (blocks_of now) (record { session = Some now; table = table; outside = mid }) (record { session = after; table = table_now; outside = new }) ending left left_now written written_now
     → Answers tells (IsFrom tells old first) old new ending left left_now written written_now
-answers_behind tells old mid new first now after table table_now ending left left_now written written_now head capacity needs stays whole finds spelled many ran =
+answers_behind tells old mid new first now after table table_now ending left left_now written written_now head drawn capacity needs stays whole finds spelled many ran =
     let replied = ran.handled.replied in
+    let same_tally : tally_of mid ≡ tally_of old = λ k. tally (drawn k) (head k) in
     record {
       taken = ran.taken;
       lines = ran.lines;
@@ -309,7 +316,8 @@ answers_behind tells old mid new first now after table table_now ending left lef
       first = table;
       table = table_now;
       spelled = (whole, spelled);
-      tables = subst (λ (n : ℕ). OnTables tells n table table_now new ran.lines replied.replies ending) many replied.tables;
+      tables = tables_since tells (blocks_of first) table table_now old mid new ran.lines replied.replies ending (λ told. (stays told).extends) (subst (λ (n : ℕ). OnTables tells n table table_now mid new ran.lines replied.replies ending) many replied.tables);
+      drew = subst (λ (t : Tally). DrewUntil t ran.lines replied.replies (tally_of new)) same_tally replied.drew;
       led = λ entry from.
           let found = finds from.told entry.device entry.session from.at in
           let stands = from.at.there.session.0.stands in

@@ -19,6 +19,7 @@ use Rattle.volume_terms.specs.Own.{HasOwn}
 use Rattle.volume_terms.specs.Volumes.{IsTabled}
 use Rattle.device_course.specs.Course.{MadeBetween}
 use Rattle.volume_serving.specs.Handled.{AreMany, OnLines}
+use Rattle.volume_serving.specs.Drawing.{DrewUntil, tally_of}
 use Rattle.volume_serving.specs.Tabled.{OnTables}
 use Rattle.volumes.specs.Destroyed.{AreDestroyed}
 use Rattle.volumes.specs.Halts.{EndsAs}
@@ -68,7 +69,8 @@ pub record OnVolumes (old new : Outside) (session : Option Session) (table table
   pub destroyed : AreDestroyed old.history new.history entry lines replies on.led.states on.ahead
 
 -- a run that served lines, and ended so: what it took, the lines of that, its replies to them, and a part of one more where the output failed. On any pages the replies are such as their lines may have over the table that
--- block 0 spelled, and what those before them made of it; and a line at which the device stopped the run is one that may stop so
+-- block 0 spelled, and what those before them made of it; a content that they give is what a look-up came to; they drew keys where they say so, one for each page that was added; and a line at which the device stopped the run
+-- is one that may stop so
 pub record Answers (tells : Type 0) (From : Held → Type 0) (old new : Outside) (ending : Ending) (left left_now written written_now : Option (List ℕ)) : Type 0 where
   pub taken : List ℕ
   pub lines : List (List ℕ)
@@ -86,7 +88,8 @@ pub record Answers (tells : Type 0) (From : Held → Type 0) (old new : Outside)
   pub first : List Volume
   pub table : List Volume
   pub spelled : IsTable blocks first × (tells → IsSpelled old.history.present blocks first)
-  pub tables : OnTables tells blocks first table new lines replies ending
+  pub tables : OnTables tells blocks first table old new lines replies ending
+  pub drew : DrewUntil (tally_of old) lines replies (tally_of new)
   pub led : (entry : Held) → From entry → OnVolumes old new session first table entry lines replies part ending
 
 -- how a run halts whose lines end so

@@ -10,7 +10,7 @@ use Rattle.sdbt_base.specs.Counts.{Counts, counts}
 use Rattle.session_calls.specs.Blame.{HasCause}
 use Rattle.session_calls.specs.Commits.{CommitLeads, LeavesLedger, LeftAt}
 use Rattle.session_calls.specs.declared.stops.DeviceStop.{DeviceStop}
-use Rattle.session_calls.proofs.CommitLaws.{commit_behind, fault_blamed, fault_leads, fault_left, fault_unput, reply_answers, reply_leads}
+use Rattle.session_calls.proofs.CommitLaws.{commit_behind, fault_blamed, fault_leads, fault_left, fault_unput, reply_answers, reply_drew, reply_leads}
 use Rattle.session_calls.proofs.committing.commit_session.Goals as goal
 
 pub returns-in-Ok-clause-goes : goal.returns-in-Ok-clause-goes
@@ -38,6 +38,9 @@ returns-in-Ok-clause-goes g c =
       };
       synced = commits.synced;
       unput = tt;
+      drew = reply_drew g.P.Platform g.T.Tape _ _ _ _ _ _ _ _ c.in-Ok.reply
+          (λ e. let idle = c.in-Ok.ensures.idle e in (idle.0, idle.1, idle.2, idle.3, idle.4))
+          (λ e few. let full = c.in-Ok.ensures.full e few in (full.0, full.1, full.2, full.3, full.4)) c.in-Ok.ensures.raised;
     }
 
 pub returns-in-Err-clause-goes : goal.returns-in-Err-clause-goes
@@ -58,6 +61,7 @@ returns-in-Err-clause-goes g c =
       };
       synced = commits.synced;
       unput = subst (λ (s : DeviceStop). LeavesLedger c.args.ledger.now c.commit.new.ledger s) (sym c.stop_of.ensures) (fault_unput g.P.Platform g.T.Tape _ _ _ _ _ _ c.in-Err.fault before now commits.cause);
+      drew = tt;
     }
 
 pub returns-in-Ok-clause-answers : goal.returns-in-Ok-clause-answers

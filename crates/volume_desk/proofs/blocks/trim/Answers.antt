@@ -40,13 +40,19 @@ returns-in-Err-trim_block-clause-turns g c told entry buffer held =
     (trim_sound (g.P.Platform.history c.trim_block.new.platform).present c.trim_block.new.session entry.device entry.session c.in-Ok.at c.in-Err-trim_block.stop (c.in-Err-trim_block.ensures.leads told entry.device entry.session held.at), tt)
 
 pub returns-in-Err-clause-any : goal.returns-in-Err-clause-any
-returns-in-Err-clause-any g c buffer = trim_refused (sizes (blocks_of c.args.session.now) (g.P.Platform.head c.args.platform.now) (g.P.Platform.capacity c.args.platform.now)) c.args.table.now c.args.name.now c.args.block c.in-Err.reply buffer c.in-Err.ensures.none
+returns-in-Err-clause-any g c buffer = (trim_refused (sizes (blocks_of c.args.session.now) (g.P.Platform.head c.args.platform.now) (g.P.Platform.capacity c.args.platform.now)) c.args.table.now c.args.name.now c.args.block c.in-Err.reply buffer c.in-Err.ensures.none, tt)
 
 pub returns-in-Ok-trim_block-clause-any : goal.returns-in-Ok-trim_block-clause-any
-returns-in-Ok-trim_block-clause-any g c buffer = inr (c.args.table.now, (has_block c.args.table.now c.args.name.now c.args.block c.in-Ok.at c.in-Ok.ensures.found, refl), inl (tt, refl))
+returns-in-Ok-trim_block-clause-any g c buffer = (inr (c.args.table.now, (has_block c.args.table.now c.args.name.now c.args.block c.in-Ok.at c.in-Ok.ensures.found, refl), inl (tt, refl)), tt)
 
 pub returns-in-Err-trim_block-clause-any : goal.returns-in-Err-trim_block-clause-any
 returns-in-Err-trim_block-clause-any g c buffer = (
   trim_may _ (g.P.Platform.history c.args.platform.now).present (g.P.Platform.history c.trim_block.new.platform).present c.args.session.now c.in-Ok.at c.args.name.now c.args.block c.in-Err-trim_block.stop c.in-Err-trim_block.ensures.any,
   (c.args.table.now, (has_block c.args.table.now c.args.name.now c.args.block c.in-Ok.at c.in-Ok.ensures.found, refl)),
 )
+
+pub returns-in-Ok-trim_block-clause-head : goal.returns-in-Ok-trim_block-clause-head
+returns-in-Ok-trim_block-clause-head g c = c.in-Ok-trim_block.ensures.head
+
+pub returns-in-Err-trim_block-clause-head : goal.returns-in-Err-trim_block-clause-head
+returns-in-Err-trim_block-clause-head g c = c.in-Err-trim_block.ensures.head

@@ -1,4 +1,4 @@
-use Rattle.std.proofs.Common.{◌≡◌, ◌≢◌, ◌≤◌, ℕ, Ok, Err, inl, inr, ap, refl, arith}
+use Rattle.std.proofs.Common.{◌≡◌, ◌≢◌, ◌≤◌, ℕ, [], ◌∷◌, Ok, Err, inl, inr, ap, refl, arith}
 use Rattle.device_session.specs.Open.{blocks_of}
 use Rattle.session_calls.specs.Along.{drawn_by}
 use Rattle.volume_terms.specs.Turn.{Writes}
@@ -6,6 +6,8 @@ use Rattle.volume_terms.proofs.KeepingLaws.{wrote}
 use Rattle.session_calls.proofs.CallLaws.{calls_done, calls_none, calls_of, calls_stopped}
 use Rattle.volume_desk.specs.Causes.{sizes}
 use Rattle.volume_desk.proofs.CauseLaws.{has_block, write_may, write_refused}
+use Rattle.volume_desk.specs.Drawing.{tally}
+use Rattle.volume_desk.proofs.DrawingLaws.{refused_drew, seals_none, seals_one}
 use Rattle.volume_desk.proofs.DeskLaws.{changed_none, held_wrote, no_block, write_sound}
 use Rattle.volume_desk.proofs.blocks.write.Goals as goal
 
@@ -53,18 +55,30 @@ returns-in-Err-write_block-clause-turns g c told entry buffer held = (
 )
 
 pub returns-in-Err-clause-any : goal.returns-in-Err-clause-any
-returns-in-Err-clause-any g c buffer = write_refused (sizes (blocks_of c.args.session.now) (g.P.Platform.head c.args.platform.now) (g.P.Platform.capacity c.args.platform.now)) c.args.table.now c.args.name.now c.args.block c.args.content.now c.in-Err.reply buffer c.in-Err.ensures.none
+returns-in-Err-clause-any g c buffer = (write_refused (sizes (blocks_of c.args.session.now) (g.P.Platform.head c.args.platform.now) (g.P.Platform.capacity c.args.platform.now)) c.args.table.now c.args.name.now c.args.block c.args.content.now c.in-Err.reply buffer c.in-Err.ensures.none, tt)
 
 pub returns-then-head-capacity-clause-any : goal.returns-then-head-capacity-clause-any
 returns-then-head-capacity-clause-any g c buffer =
     let full : g.P.Platform.capacity c.args.platform.now ≤ g.P.Platform.head c.args.platform.now = omega (arith, c.if-head-capacity.true, c.head.ensures, c.capacity.ensures) in
-    inr (c.args.table.now, (has_block c.args.table.now c.args.name.now c.args.block c.in-Ok.at c.in-Ok.ensures.found, refl), inr (full, refl, refl))
+    (inr (c.args.table.now, (has_block c.args.table.now c.args.name.now c.args.block c.in-Ok.at c.in-Ok.ensures.found, refl), inr (full, refl, refl)), tt)
 
 pub returns-in-Ok-write_block-clause-any : goal.returns-in-Ok-write_block-clause-any
-returns-in-Ok-write_block-clause-any g c buffer = inr (c.args.table.now, (has_block c.args.table.now c.args.name.now c.args.block c.in-Ok.at c.in-Ok.ensures.found, refl), inl (tt, refl))
+returns-in-Ok-write_block-clause-any g c buffer = (inr (c.args.table.now, (has_block c.args.table.now c.args.name.now c.args.block c.in-Ok.at c.in-Ok.ensures.found, refl), inl (tt, refl)), tt)
 
 pub returns-in-Err-write_block-clause-any : goal.returns-in-Err-write_block-clause-any
 returns-in-Err-write_block-clause-any g c buffer = (
   write_may _ (g.P.Platform.history c.args.platform.now).present (g.P.Platform.history c.write_block.new.platform).present c.args.session.now c.in-Ok.at c.args.name.now c.args.block c.args.content.now c.in-Err-write_block.stop c.in-Err-write_block.ensures.any,
   (c.args.table.now, (has_block c.args.table.now c.args.name.now c.args.block c.in-Ok.at c.in-Ok.ensures.found, refl)),
 )
+
+pub returns-in-Err-clause-drew : goal.returns-in-Err-clause-drew
+returns-in-Err-clause-drew g c buffer =
+    refused_drew (tally (g.T.Tape.drawn c.args.tape.now) (g.P.Platform.head c.args.platform.now)) c.args.table.now c.args.name.now c.args.block c.args.content.now buffer c.in-Err.reply c.in-Err.ensures.none
+
+pub returns-then-head-capacity-clause-drew : goal.returns-then-head-capacity-clause-drew
+returns-then-head-capacity-clause-drew g c buffer = ([], refl, seals_none (g.T.Tape.drawn c.args.tape.now) (g.P.Platform.head c.args.platform.now) (g.P.Platform.head c.args.platform.now) refl)
+
+pub returns-in-Ok-write_block-clause-drew : goal.returns-in-Ok-write_block-clause-drew
+returns-in-Ok-write_block-clause-drew g c buffer =
+    let adds = c.in-Ok-write_block.ensures.adds in
+    (adds.1 ∷ [], refl, seals_one (g.T.Tape.drawn c.args.tape.now) (g.T.Tape.drawn c.write_block.new.tape) (g.P.Platform.head c.args.platform.now) (g.P.Platform.head c.write_block.new.platform) adds.1 adds.2 adds.0)

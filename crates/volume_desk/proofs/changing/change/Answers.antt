@@ -7,6 +7,7 @@ use Rattle.volume_desk.specs.Turns.{ChangesTo}
 use Rattle.session_calls.proofs.CallLaws.{calls_of, calls_stopped, calls_then, platform_quiet, tape_quiet}
 use Rattle.session_calls.proofs.DamageLaws.{write_meets}
 use Rattle.volume_desk.proofs.DeskLaws.{on_ok, write_sound}
+use Rattle.volume_desk.proofs.DrawingLaws.{one_then}
 use Rattle.volume_desk.proofs.changing.change.Goals as goal
 
 pub returns-in-Ok-clause-calls : goal.returns-in-Ok-clause-calls
@@ -18,6 +19,11 @@ returns-in-Ok-clause-calls g c =
 
 pub returns-in-Ok-clause-head : goal.returns-in-Ok-clause-head
 returns-in-Ok-clause-head g c = on_ok c.trim_range.result _ (c.trim_range.ensures.head ∙ c.in-Ok.ensures.adds.0)
+
+pub returns-in-Ok-clause-drew : goal.returns-in-Ok-clause-drew
+returns-in-Ok-clause-drew g c =
+    let adds = c.in-Ok.ensures.adds in
+    one_then (g.T.Tape.drawn c.args.tape.now) (g.T.Tape.drawn c.write_block.new.tape) (g.P.Platform.head c.args.platform.now) (g.P.Platform.head c.trim_range.new.platform) adds.1 c.trim_range.result adds.2 (c.trim_range.ensures.head ∙ adds.0)
 
 pub returns-in-Ok-clause-leads : goal.returns-in-Ok-clause-leads
 returns-in-Ok-clause-leads g c told device array at =

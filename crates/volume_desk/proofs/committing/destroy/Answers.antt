@@ -10,6 +10,8 @@ use Rattle.session_calls.proofs.CarryLaws.{carries_along, carries_committed, car
 use Rattle.device_course.proofs.MadeLaws.{made_kept}
 use Rattle.volume_desk.specs.Causes.{sizes}
 use Rattle.volume_desk.proofs.CauseLaws.{commit_may, destroy_turns, stops_known, takes_none_any, takes_some_any}
+use Rattle.volume_desk.specs.Drawing.{tally}
+use Rattle.volume_desk.proofs.DrawingLaws.{destroy_drew, short_head, takes_none_drew, takes_some_drew}
 use Rattle.volume_desk.proofs.TurnLaws.{changed_served, committed_to, destroy_served, destroy_stopped, stopped_kept, takes_none, takes_some}
 use Rattle.volume_desk.proofs.committing.destroy.Goals as goal
 
@@ -63,7 +65,7 @@ returns-in-Err-commit_session-clause-serves g c told entry buffer held =
     (During-now _ _ IsServedImage (c.in-Err-commit_session.ensures.goes.keeps.serves told taken.held.at.served)) (c.in-Err-commit_session.ensures.leads told entry.device (changed entry c.take_out.new.table taken.v).session taken.held.at)
 
 pub returns-in-Some-clause-any : goal.returns-in-Some-clause-any
-returns-in-Some-clause-any g c buffer = takes_some_any (g.P.Platform.tells × IsMounted (g.P.Platform.history c.args.platform.now).present c.args.first) (g.P.Platform.history c.take_out.new.platform).present (sizes (blocks_of c.args.first) (g.P.Platform.head c.take_out.new.platform) (g.P.Platform.capacity c.take_out.new.platform)) c.args.table.now c.take_out.new.table c.args.name.now buffer c.in-Ok.refused c.in-Some.reply c.in-Some.is (c.in-Ok.ensures.any buffer)
+returns-in-Some-clause-any g c buffer = (takes_some_any (g.P.Platform.tells × IsMounted (g.P.Platform.history c.args.platform.now).present c.args.first) (g.P.Platform.history c.take_out.new.platform).present (sizes (blocks_of c.args.first) (g.P.Platform.head c.take_out.new.platform) (g.P.Platform.capacity c.take_out.new.platform)) c.args.table.now c.take_out.new.table c.args.name.now buffer c.in-Ok.refused c.in-Some.reply c.in-Some.is (c.in-Ok.ensures.any buffer), tt)
 
 pub returns-in-Err-clause-any : goal.returns-in-Err-clause-any
 returns-in-Err-clause-any g c buffer =
@@ -71,10 +73,20 @@ returns-in-Err-clause-any g c buffer =
 
 pub returns-in-Ok-commit_session-clause-any : goal.returns-in-Ok-commit_session-clause-any
 returns-in-Ok-commit_session-clause-any g c buffer =
-    destroy_turns (sizes (blocks_of c.args.first) (g.P.Platform.head c.commit_session.new.platform) (g.P.Platform.capacity c.commit_session.new.platform)) c.args.table.now c.take_out.new.table c.args.name.now c.in-Ok-commit_session.done.reply c.reply_to_destroy.result buffer c.reply_to_destroy.ensures (takes_none_any (g.P.Platform.tells × IsMounted (g.P.Platform.history c.args.platform.now).present c.args.first) (g.P.Platform.history c.take_out.new.platform).present (sizes (blocks_of c.args.first) (g.P.Platform.head c.take_out.new.platform) (g.P.Platform.capacity c.take_out.new.platform)) c.args.table.now c.take_out.new.table c.args.name.now buffer c.in-Ok.refused c.in_default.is (c.in-Ok.ensures.any buffer))
+    (destroy_turns (sizes (blocks_of c.args.first) (g.P.Platform.head c.commit_session.new.platform) (g.P.Platform.capacity c.commit_session.new.platform)) c.args.table.now c.take_out.new.table c.args.name.now c.in-Ok-commit_session.done.reply c.reply_to_destroy.result buffer c.reply_to_destroy.ensures (takes_none_any (g.P.Platform.tells × IsMounted (g.P.Platform.history c.args.platform.now).present c.args.first) (g.P.Platform.history c.take_out.new.platform).present (sizes (blocks_of c.args.first) (g.P.Platform.head c.take_out.new.platform) (g.P.Platform.capacity c.take_out.new.platform)) c.args.table.now c.take_out.new.table c.args.name.now buffer c.in-Ok.refused c.in_default.is (c.in-Ok.ensures.any buffer)), tt)
 
 pub returns-in-Err-commit_session-clause-any : goal.returns-in-Err-commit_session-clause-any
 returns-in-Err-commit_session-clause-any g c buffer = (
   commit_may _ _ (Destroy c.args.name.now) c.args.ledger.now c.commit_session.new.ledger c.in-Err-commit_session.stop tt tt tt c.in-Err-commit_session.ensures.goes.unput,
   (c.take_out.new.table, takes_none_any (g.P.Platform.tells × IsMounted (g.P.Platform.history c.args.platform.now).present c.args.first) (g.P.Platform.history c.take_out.new.platform).present (sizes (blocks_of c.args.first) (g.P.Platform.head c.take_out.new.platform) (g.P.Platform.capacity c.take_out.new.platform)) c.args.table.now c.take_out.new.table c.args.name.now buffer c.in-Ok.refused c.in_default.is (c.in-Ok.ensures.any buffer)),
 )
+
+pub returns-in-Some-clause-drew : goal.returns-in-Some-clause-drew
+returns-in-Some-clause-drew g c buffer =
+    takes_some_drew (tally (g.T.Tape.drawn c.args.tape.now) (g.P.Platform.head c.args.platform.now)) (tally (g.T.Tape.drawn c.take_out.new.tape) (g.P.Platform.head c.take_out.new.platform)) c.args.name.now buffer c.in-Ok.refused c.in-Some.reply c.in-Some.is (c.in-Ok.ensures.drew buffer)
+
+pub returns-in-Ok-commit_session-clause-drew : goal.returns-in-Ok-commit_session-clause-drew
+returns-in-Ok-commit_session-clause-drew g c buffer =
+    let one = takes_none_drew (tally (g.T.Tape.drawn c.args.tape.now) (g.P.Platform.head c.args.platform.now)) (tally (g.T.Tape.drawn c.take_out.new.tape) (g.P.Platform.head c.take_out.new.platform)) c.args.name.now buffer c.in-Ok.refused c.in_default.is (c.in-Ok.ensures.drew buffer) in
+    destroy_drew g.P.Platform g.T.Tape c.args.platform.now c.take_out.new.platform c.commit_session.new.platform c.args.tape.now c.take_out.new.tape c.commit_session.new.tape c.args.name.now c.in-Ok-commit_session.done.reply c.reply_to_destroy.result buffer c.reply_to_destroy.ensures
+    one c.in-Ok-commit_session.ensures.goes.drew (short_head g.P.Platform _ _ _ _ _ _ _ _ c.in-Ok-commit_session.done.reply c.in-Ok-commit_session.ensures.answers)

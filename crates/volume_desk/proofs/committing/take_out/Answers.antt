@@ -1,4 +1,4 @@
-use Rattle.std.proofs.Common.{◌≡◌, ◌≢◌, ◌≤◌, ◌+◌, inl, inr, refl, arith}
+use Rattle.std.proofs.Common.{◌≡◌, ◌≢◌, ◌≤◌, ◌+◌, [], inl, inr, refl, arith}
 use Rattle.std.specs.List.{remove}
 use Rattle.std.proofs.lemmas.Option.{slice_get_within}
 use Rattle.device_session.specs.Open.{blocks_of}
@@ -9,6 +9,7 @@ use Rattle.volume_desk.proofs.CauseLaws.{call_may}
 use Rattle.volume_terms.proofs.TableLaws.{inside_of}
 use Rattle.session_calls.proofs.CallLaws.{calls_done, calls_none, calls_stopped}
 use Rattle.volume_desk.proofs.DeskLaws.{changed_none, held_changed, named_at}
+use Rattle.volume_desk.proofs.DrawingLaws.{seals_none}
 use Rattle.volume_desk.proofs.committing.take_out.Goals as goal
 
 pub returns-in_default-clause-calls : goal.returns-in_default-clause-calls
@@ -89,3 +90,12 @@ returns-in-Err-clause-any g c buffer =
     let found = c.in-Some.ensures.found in
     let may = call_may (g.P.Platform.tells × IsMounted (g.P.Platform.history c.args.platform.now).present c.args.session.now) _ (Destroy c.args.name.now) c.in-Err.stop tt tt (λ addr met. met) c.in-Err.ensures.calls.stops (λ known. c.in-Err.ensures.damage known.0 known.1) in
     (may, (c.remove.new.self, (c.in-Some.volume, found.1, (c.in-Some.at, found.0, c.remove.ensures.removed))))
+
+pub returns-in_default-clause-drew : goal.returns-in_default-clause-drew
+returns-in_default-clause-drew g c buffer = ([], refl, seals_none (g.T.Tape.drawn c.args.tape.now) (g.P.Platform.head c.args.platform.now) (g.P.Platform.head c.args.platform.now) refl)
+
+pub returns-then-head-capacity-clause-drew : goal.returns-then-head-capacity-clause-drew
+returns-then-head-capacity-clause-drew g c buffer = ([], refl, seals_none (g.T.Tape.drawn c.args.tape.now) (g.P.Platform.head c.args.platform.now) (g.P.Platform.head c.args.platform.now) refl)
+
+pub returns-in-Ok-clause-drew : goal.returns-in-Ok-clause-drew
+returns-in-Ok-clause-drew g c buffer = c.in-Ok.ensures.drew

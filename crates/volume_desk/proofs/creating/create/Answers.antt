@@ -1,4 +1,4 @@
-use Rattle.std.proofs.Common.{◌≡◌, ◌≢◌, ◌≤◌, ℕ, inl, inr, refl, sym, subst, ◌∙◌, arith}
+use Rattle.std.proofs.Common.{◌≡◌, ◌≢◌, ◌≤◌, ℕ, [], ◌∷◌, inl, inr, refl, sym, subst, ◌∙◌, arith}
 use Rattle.std.proofs.lemmas.Bool.{false≢true}
 use Rattle.device_session.specs.Open.{blocks_of}
 use Rattle.session_calls.specs.Along.{drawn_by}
@@ -8,6 +8,7 @@ use Rattle.volume_terms.specs.Volumes.{IsCount, changed}
 use Rattle.session_calls.proofs.CallLaws.{calls_none}
 use Rattle.volume_desk.proofs.CauseLaws.{call_may}
 use Rattle.volume_desk.proofs.DeskLaws.{changed_none, held_changed, is_new, no_room, out_of_range}
+use Rattle.volume_desk.proofs.DrawingLaws.{seals_none}
 use Rattle.volume_desk.proofs.TurnLaws.{blocks_held}
 use Rattle.volume_desk.proofs.creating.create.Goals as goal
 
@@ -76,23 +77,18 @@ returns-in-Err-clause-turns g c told entry buffer held = (
 )
 
 pub returns-then-has_volume-clause-any : goal.returns-then-has_volume-clause-any
-returns-then-has_volume-clause-any g c buffer = inl (c.has_volume.ensures.there c.if-has_volume.true, refl)
+returns-then-has_volume-clause-any g c buffer = (inl (c.has_volume.ensures.there c.if-has_volume.true, refl), tt)
 
 pub returns-then-not-is_count-clause-any : goal.returns-then-not-is_count-clause-any
 returns-then-not-is_count-clause-any g c buffer =
-    inl (
-      (
-        c.if-has_volume.ensures.lacks refl,
-        out_of_range (blocks_of c.args.session.now) c.args.count (λ fits. absurd (false≢true (c.if-not-is_count.ensures.1 (subst (λ (b : ℕ). IsCount b c.args.count) (sym c.blocks-2.ensures) fits)))),
-      ),
-      refl,
-    )
+    let out = out_of_range (blocks_of c.args.session.now) c.args.count (λ fits. absurd (false≢true (c.if-not-is_count.ensures.1 (subst (λ (b : ℕ). IsCount b c.args.count) (sym c.blocks-2.ensures) fits)))) in
+    (inl ((c.if-has_volume.ensures.lacks refl, out), refl), tt)
 
 pub returns-in_default-clause-any : goal.returns-in_default-clause-any
 returns-in_default-clause-any g c buffer =
     let fits = subst (λ (b : ℕ). IsCount b c.args.count) c.blocks-2.ensures (c.if-not-is_count.ensures.0 refl) in
     let none = no_room (blocks_of c.args.session.now) c.blocks-3.result c.args.count c.args.table.now c.duplicate-next.result c.blocks-3.ensures c.duplicate-next.ensures c.in_default.ensures.none in
-    inl ((c.if-has_volume.ensures.lacks refl, fits, none), refl)
+    (inl ((c.if-has_volume.ensures.lacks refl, fits, none), refl), tt)
 
 pub returns-then-head-capacity-clause-any : goal.returns-then-head-capacity-clause-any
 returns-then-head-capacity-clause-any g c buffer =
@@ -101,7 +97,7 @@ returns-then-head-capacity-clause-any g c buffer =
     let new = is_new (blocks_of c.args.session.now) c.blocks-3.result c.args.count c.args.table.now c.duplicate-next.result c.put.new.self c.args.name.now c.in-Some.volume c.blocks-3.ensures c.duplicate-next.ensures placed.0 placed.1 placed.2
     c.in-Some.ensures.inserted c.in-Some.ensures.table in
     let full : g.P.Platform.capacity c.args.platform.now ≤ g.P.Platform.head c.args.platform.now = omega (arith, c.if-head-capacity.true, c.head.ensures, c.capacity.ensures) in
-    inr (c.put.new.self, (c.if-has_volume.ensures.lacks refl, fits, c.in-Some.volume, new), inr (full, refl, refl))
+    (inr (c.put.new.self, (c.if-has_volume.ensures.lacks refl, fits, c.in-Some.volume, new), inr (full, refl, refl)), tt)
 
 pub returns-in-Ok-clause-any : goal.returns-in-Ok-clause-any
 returns-in-Ok-clause-any g c buffer =
@@ -109,7 +105,7 @@ returns-in-Ok-clause-any g c buffer =
     let placed = c.in-Some.ensures.placed in
     let new = is_new (blocks_of c.args.session.now) c.blocks-3.result c.args.count c.args.table.now c.duplicate-next.result c.put.new.self c.args.name.now c.in-Some.volume c.blocks-3.ensures c.duplicate-next.ensures placed.0 placed.1 placed.2
     c.in-Some.ensures.inserted c.in-Some.ensures.table in
-    inr (c.put.new.self, (c.if-has_volume.ensures.lacks refl, fits, c.in-Some.volume, new), inl (tt, refl))
+    (inr (c.put.new.self, (c.if-has_volume.ensures.lacks refl, fits, c.in-Some.volume, new), inl (tt, refl)), tt)
 
 pub returns-in-Err-clause-any : goal.returns-in-Err-clause-any
 returns-in-Err-clause-any g c buffer =
@@ -119,3 +115,18 @@ returns-in-Err-clause-any g c buffer =
     c.in-Some.ensures.inserted c.in-Some.ensures.table in
     let may = call_may (g.P.Platform.tells × IsMounted (g.P.Platform.history c.args.platform.now).present c.args.session.now) _ (Create c.args.name.now c.args.count) c.in-Err.stop tt tt (λ addr met. met) c.in-Err.ensures.calls.stops (λ known. c.in-Err.ensures.damage known.0 known.1) in
     (may, (c.put.new.self, (c.if-has_volume.ensures.lacks refl, fits, c.in-Some.volume, new)))
+
+pub returns-then-has_volume-clause-drew : goal.returns-then-has_volume-clause-drew
+returns-then-has_volume-clause-drew g c buffer = ([], refl, seals_none (g.T.Tape.drawn c.args.tape.now) (g.P.Platform.head c.args.platform.now) (g.P.Platform.head c.args.platform.now) refl)
+
+pub returns-then-not-is_count-clause-drew : goal.returns-then-not-is_count-clause-drew
+returns-then-not-is_count-clause-drew g c buffer = ([], refl, seals_none (g.T.Tape.drawn c.args.tape.now) (g.P.Platform.head c.args.platform.now) (g.P.Platform.head c.args.platform.now) refl)
+
+pub returns-in_default-clause-drew : goal.returns-in_default-clause-drew
+returns-in_default-clause-drew g c buffer = ([], refl, seals_none (g.T.Tape.drawn c.args.tape.now) (g.P.Platform.head c.args.platform.now) (g.P.Platform.head c.args.platform.now) refl)
+
+pub returns-then-head-capacity-clause-drew : goal.returns-then-head-capacity-clause-drew
+returns-then-head-capacity-clause-drew g c buffer = ([], refl, seals_none (g.T.Tape.drawn c.args.tape.now) (g.P.Platform.head c.args.platform.now) (g.P.Platform.head c.args.platform.now) refl)
+
+pub returns-in-Ok-clause-drew : goal.returns-in-Ok-clause-drew
+returns-in-Ok-clause-drew g c buffer = let one = c.in-Ok.ensures.drew in (one.0 ∷ [], refl, one.1)

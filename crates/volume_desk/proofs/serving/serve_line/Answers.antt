@@ -1,11 +1,14 @@
 use Rattle.std.proofs.Common.{◌+◌}
 use Rattle.device_session.specs.Open.{blocks_of}
 use Rattle.session_calls.specs.Damage.{IsMounted}
-use Rattle.volume_lines.specs.Lines.{asked}
+use Rattle.volume_lines.specs.Lines.{Commit, Destroy, asked}
+use Rattle.volume_lines.specs.Replies.{said}
 use Rattle.volume_desk.specs.Causes.{answer_in, sizes}
+use Rattle.volume_desk.specs.Drawing.{tally}
+use Rattle.volume_desk.proofs.DrawingLaws.{answered_drew, spends_as, spends_some}
 use Rattle.volume_lines.specs.declared.lines.Line.TheVariants as parsed
 use Rattle.session_calls.proofs.CarryLaws.{carries_along, carries_end, carries_going}
-use Rattle.volume_desk.proofs.CauseLaws.{any_as, stops_known}
+use Rattle.volume_desk.proofs.CauseLaws.{any_as, gives_known, stops_known}
 use Rattle.volume_desk.proofs.TurnLaws.{changed_served, serves_as, stopped_kept}
 use Rattle.volume_desk.proofs.serving.serve_line.Goals as goal
 
@@ -37,13 +40,36 @@ returns-in-Err-clause-serves g c told entry held =
 
 pub returns-in-Commit-clause-any : goal.returns-in-Commit-clause-any
 returns-in-Commit-clause-any g c =
-    any_as g.P.Platform.tells (g.P.Platform.history c.commit.new.platform).present (sizes (blocks_of c.args.first) (g.P.Platform.head c.commit.new.platform) (g.P.Platform.capacity c.commit.new.platform)) c.args.desk.now.table c.args.desk.now.table c.args.line.now parsed.Commit c.args.desk.now.buffer _ (answer_in c.commit.result) c.in-Commit.is (c.commit.ensures.any c.args.desk.now.table _)
+    any_as g.P.Platform.tells c.args.first (g.P.Platform.history c.args.platform.now).present (g.P.Platform.history c.commit.new.platform).present (sizes (blocks_of c.args.first) (g.P.Platform.head c.commit.new.platform) (g.P.Platform.capacity c.commit.new.platform)) c.args.desk.now.table c.args.desk.now.table c.args.line.now parsed.Commit c.args.desk.now.buffer _ (answer_in c.commit.result) c.in-Commit.is (c.commit.ensures.any c.args.desk.now.table _)
 
 pub returns-in-Destroy-clause-any : goal.returns-in-Destroy-clause-any
 returns-in-Destroy-clause-any g c =
-    any_as g.P.Platform.tells (g.P.Platform.history c.destroy.new.platform).present (sizes (blocks_of c.args.first) (g.P.Platform.head c.destroy.new.platform) (g.P.Platform.capacity c.destroy.new.platform)) c.args.desk.now.table c.destroy.new.table c.args.line.now (parsed.Destroy c.in-Destroy.name) c.args.desk.now.buffer _ (answer_in c.destroy.result) c.in-Destroy.is (c.destroy.ensures.any _)
+    any_as g.P.Platform.tells c.args.first (g.P.Platform.history c.args.platform.now).present (g.P.Platform.history c.destroy.new.platform).present (sizes (blocks_of c.args.first) (g.P.Platform.head c.destroy.new.platform) (g.P.Platform.capacity c.destroy.new.platform)) c.args.desk.now.table c.destroy.new.table c.args.line.now (parsed.Destroy c.in-Destroy.name) c.args.desk.now.buffer _ (answer_in c.destroy.result) c.in-Destroy.is (c.destroy.ensures.any _)
+
+pub returns-in-Ok-clause-any : goal.returns-in-Ok-clause-any
+returns-in-Ok-clause-any g c =
+    let image = (g.P.Platform.history c.args.platform.now).present in (
+      c.in-Ok.ensures.any.0,
+      gives_known (g.P.Platform.tells × IsMounted image c.args.first) g.P.Platform.tells c.args.first image c.args.desk.now.table (asked c.args.line.now c.args.desk.now.buffer) (said c.in-Ok.reply c.serve_blocks.new.desk.buffer) (λ told. (told, c.requires.ready.mounted told)) c.in-Ok.ensures.any.1,
+    )
 
 pub returns-in-Err-clause-any : goal.returns-in-Err-clause-any
 returns-in-Err-clause-any g c =
     stops_known (g.P.Platform.tells × IsMounted (g.P.Platform.history c.args.platform.now).present c.args.first) g.P.Platform.tells (g.P.Platform.history c.serve_blocks.new.platform).present (blocks_of c.args.first) c.args.desk.now.table (asked c.args.line.now c.args.desk.now.buffer) c.in-Err.stop
     (λ told. (told, c.requires.ready.mounted told)) c.in-Err.ensures.any
+
+pub returns-in-Commit-clause-spends : goal.returns-in-Commit-clause-spends
+returns-in-Commit-clause-spends g c =
+    spends_as c.args.tape.now c.commit.new.tape (tally (g.T.Tape.drawn c.args.tape.now) (g.P.Platform.head c.args.platform.now)) (tally (g.T.Tape.drawn c.commit.new.tape) (g.P.Platform.head c.commit.new.platform)) c.args.line.now parsed.Commit c.args.desk.now.buffer _ (answer_in c.commit.result) c.in-Commit.is
+    (spends_some _ _ _ _ Commit _ (answer_in c.commit.result) tt (answered_drew _ Commit _ _ c.commit.result (c.commit.ensures.drew c.args.desk.now.buffer)))
+
+pub returns-in-Destroy-clause-spends : goal.returns-in-Destroy-clause-spends
+returns-in-Destroy-clause-spends g c =
+    spends_as c.args.tape.now c.destroy.new.tape (tally (g.T.Tape.drawn c.args.tape.now) (g.P.Platform.head c.args.platform.now)) (tally (g.T.Tape.drawn c.destroy.new.tape) (g.P.Platform.head c.destroy.new.platform)) c.args.line.now (parsed.Destroy c.in-Destroy.name) c.args.desk.now.buffer _ (answer_in c.destroy.result) c.in-Destroy.is
+    (spends_some _ _ _ _ (Destroy c.in-Destroy.name) _ (answer_in c.destroy.result) tt (answered_drew _ (Destroy c.in-Destroy.name) _ _ c.destroy.result (c.destroy.ensures.drew c.args.desk.now.buffer)))
+
+pub returns-in-Ok-clause-spends : goal.returns-in-Ok-clause-spends
+returns-in-Ok-clause-spends g c = c.in-Ok.ensures.spends
+
+pub returns-in-Err-clause-spends : goal.returns-in-Err-clause-spends
+returns-in-Err-clause-spends g c = c.in-Err.ensures.spends

@@ -1,4 +1,5 @@
-use Rattle.std.proofs.Common.{inl, refl, ◌∙◌, ap, Ok}
+use Rattle.std.proofs.Common.{ℕ, inl, refl, ◌∙◌, ap, Ok}
+use Rattle.volume_desk.specs.Drawing.{tally}
 use Rattle.session_calls.proofs.SpanLaws.{spans_look, spans_mounted}
 use Rattle.volumes.proofs.StartLaws.{found_full, found_none, found_served, idle_since, serves_since, silent_none, silent_stop, since_mount}
 use Rattle.volumes.proofs.EndLaws.{damage_behind, looked_behind, looked_none, looked_stop}
@@ -23,7 +24,7 @@ returns-in-Err-clause-spans g c =
 pub returns-in-Ok-Some-clause-serves : goal.returns-in-Ok-Some-clause-serves
 returns-in-Ok-Some-clause-serves g c =
     let looks = c.mount_session.ensures.looks in
-    serves_since g.P.Platform.tells _ _ _ _ _ _ _ _ _ _ looks.capacity looks.image
+    serves_since g.P.Platform.tells _ _ _ _ _ _ _ _ _ _ looks.capacity (ap (λ (n : ℕ). tally (g.T.Tape.drawn c.args.tape.now) n) looks.head) looks.time looks.image
     (since_mount g.P.Platform c.args.platform.now c.mount_session.new.platform _ _ c.in-Ok-Some.session c.mount_session.result (c.in-Ok-Some.is ∙ ap Ok c.in-Ok-Some.field-0-is) refl refl refl refl looks c.mount_session.ensures.finds c.mount_session.ensures.leads)
     c.serve_volumes.ensures.serves
 

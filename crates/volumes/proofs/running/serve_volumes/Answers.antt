@@ -50,10 +50,10 @@ pub returns-in-Ok-serve_input-clause-serves : goal.returns-in-Ok-serve_input-cla
 returns-in-Ok-serve_input-clause-serves g c =
     let along = c.read_table.ensures.along no_draw in
     let ran = c.in-Ok-serve_input.ensures.ran in
-    inr (Ok tt, refl, answers_behind g.P.Platform.tells _ _ _ c.args.first c.read_table.new.session ran.0 c.in-Ok.table _ (Ok tt) _ _ _ _ (omega (arith, along.rises, along.adds)) along.capacity (omega (arith, along.needs)) along.cell c.in-Ok.ensures.table c.in-Ok.ensures.finds (λ told. spelled_of _ c.args.first c.in-Ok.table (c.requires.mounted told) (c.in-Ok.ensures.spelled told (c.requires.mounted told))) along.blocks ran.1)
+    inr (Ok tt, refl, answers_behind g.P.Platform.tells _ _ _ c.args.first c.read_table.new.session ran.0 c.in-Ok.table _ (Ok tt) _ _ _ _ (omega (arith, along.rises, along.adds)) refl along.capacity (omega (arith, along.needs)) along.cell c.in-Ok.ensures.table c.in-Ok.ensures.finds (λ told. spelled_of _ c.args.first c.in-Ok.table (c.requires.mounted told) (c.in-Ok.ensures.spelled told (c.requires.mounted told))) along.blocks ran.1)
 
 pub returns-in-Err-serve_input-clause-serves : goal.returns-in-Err-serve_input-clause-serves
 returns-in-Err-serve_input-clause-serves g c =
     let along = c.read_table.ensures.along no_draw in
     let ran = c.in-Err-serve_input.ensures.ran in
-    inr (Err c.in-Err-serve_input.stop, refl, answers_behind g.P.Platform.tells _ _ _ c.args.first c.read_table.new.session ran.0 c.in-Ok.table _ (Err c.in-Err-serve_input.stop) _ _ _ _ (omega (arith, along.rises, along.adds)) along.capacity (omega (arith, along.needs)) along.cell c.in-Ok.ensures.table c.in-Ok.ensures.finds (λ told. spelled_of _ c.args.first c.in-Ok.table (c.requires.mounted told) (c.in-Ok.ensures.spelled told (c.requires.mounted told))) along.blocks ran.1)
+    inr (Err c.in-Err-serve_input.stop, refl, answers_behind g.P.Platform.tells _ _ _ c.args.first c.read_table.new.session ran.0 c.in-Ok.table _ (Err c.in-Err-serve_input.stop) _ _ _ _ (omega (arith, along.rises, along.adds)) refl along.capacity (omega (arith, along.needs)) along.cell c.in-Ok.ensures.table c.in-Ok.ensures.finds (λ told. spelled_of _ c.args.first c.in-Ok.table (c.requires.mounted told) (c.in-Ok.ensures.spelled told (c.requires.mounted told))) along.blocks ran.1)
