@@ -3,11 +3,10 @@
 //! Bodies that are proved and that these tests refuse: an opening that tries no lock, or changes a file before it has both; one that
 //! takes another folder for that of the root record or of the medium; a method of `StdFiles` that makes another call of the system
 //! than it notes, or none.
-use crate::doubles::CallLog;
-use crate::folders::{
-    APART, CELL, FOLDER, left, length_and_mode, make_apart, make_folder, open, view,
+use folder_doubles::{
+    APART, CELL, CallLog, FOLDER, first_unlike, left, length_and_mode, make_apart, make_folder,
+    open, view,
 };
-use crate::script::first_unlike;
 use folder_platform::OpenRefusal;
 use sdbt_base::{RECORD, ROOT};
 use std::test::Fail;

@@ -1,9 +1,8 @@
 //! What no clause says: which bytes stand in the files of a folder, and what they are read as.
-use crate::doubles::{CallLog, ENDLESS};
-use crate::folders::{
-    APART, CELL, FOLDER, fill_apart, length_and_mode, make_apart, make_folder, open,
+use folder_doubles::{
+    APART, CELL, CallLog, ENDLESS, FOLDER, fill_apart, first_unlike, length_and_mode, make_apart,
+    make_folder, open,
 };
-use crate::script::first_unlike;
 use folder_files::open_in_folders;
 use folder_platform::OpenRefusal;
 use platform::Platform;

@@ -1,6 +1,5 @@
 //! The platform over files in memory that answer as the model of a file system does.
-use crate::doubles::CallLog;
-use crate::script::first_unlike;
+use folder_doubles::{CallLog, first_unlike};
 use folder_files::open_honest;
 use std::test::Fail;
 

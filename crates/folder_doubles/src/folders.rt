@@ -6,15 +6,17 @@ use sdbt_base::ROOT;
 use std::os::unix::fs::PermissionsExt;
 use std::{fs, io};
 
-pub(crate) const FOLDER: &str = "folder_tests_test";
+/// The folder of a root record and a medium that stand together.
+pub const FOLDER: &str = "folder_tests_test";
 
-/// A folder for a root record, and one for a medium.
-pub(crate) const CELL: &str = "folder_tests_test_cell";
+/// A folder for a root record.
+pub const CELL: &str = "folder_tests_test_cell";
 
-pub(crate) const APART: &str = "folder_tests_test_apart";
+/// A folder for the medium to it.
+pub const APART: &str = "folder_tests_test_apart";
 
 /// A new folder with these files in it, and a `root.new`.
-pub(crate) fn make_folder(rt: &HostRuntime, media: &[u8], root: &[u8]) -> io::Result<()> {
+pub fn make_folder(rt: &HostRuntime, media: &[u8], root: &[u8]) -> io::Result<()> {
     let _ = fs::remove_dir_all(rt, FOLDER);
     fs::create_dir(rt, FOLDER)?;
     fs::write(rt, "folder_tests_test/media", media)?;
@@ -23,7 +25,7 @@ pub(crate) fn make_folder(rt: &HostRuntime, media: &[u8], root: &[u8]) -> io::Re
 }
 
 /// Two new folders: in one a medium with a torn last page, in the other a `root.new`.
-pub(crate) fn make_apart(rt: &HostRuntime) -> io::Result<()> {
+pub fn make_apart(rt: &HostRuntime) -> io::Result<()> {
     for folder in [CELL, APART] {
         let _ = fs::remove_dir_all(rt, folder);
         fs::create_dir(rt, folder)?;
@@ -32,19 +34,19 @@ pub(crate) fn make_apart(rt: &HostRuntime) -> io::Result<()> {
 }
 
 /// Puts these two files into their folders.
-pub(crate) fn fill_apart(rt: &HostRuntime) -> io::Result<()> {
+pub fn fill_apart(rt: &HostRuntime) -> io::Result<()> {
     fs::write(rt, "folder_tests_test_apart/media", [7; 100].as_slice())?;
     fs::write(rt, "folder_tests_test_cell/root.new", [5; ROOT].as_slice())
 }
 
 /// The length of a file, and who may read and write it.
-pub(crate) fn length_and_mode(rt: &HostRuntime, path: &str) -> io::Result<(u64, u32)> {
+pub fn length_and_mode(rt: &HostRuntime, path: &str) -> io::Result<(u64, u32)> {
     let metadata = fs::metadata(rt, path)?;
     Ok((metadata.len(), metadata.permissions().mode() & 0o777))
 }
 
 /// The first byte of the root record, 0 if it can't be read, and whether there is a `root.new`.
-pub(crate) fn left(rt: &HostRuntime) -> io::Result<(u8, bool)> {
+pub fn left(rt: &HostRuntime) -> io::Result<(u8, bool)> {
     let root = match fs::read(rt, "folder_tests_test/root") {
         Ok(root) => root.first().copied().unwrap_or(0),
         Err(_) => 0,
@@ -54,7 +56,7 @@ pub(crate) fn left(rt: &HostRuntime) -> io::Result<(u8, bool)> {
 }
 
 /// The platform over doubles of the files of these folders, for the root record and the medium.
-pub(crate) fn open<'a>(
+pub fn open<'a>(
     rt: &HostRuntime,
     log: &'a CallLog,
     cell: &str,
@@ -65,7 +67,7 @@ pub(crate) fn open<'a>(
 }
 
 /// The same platform, which is only looked at.
-pub(crate) fn view<'a>(
+pub fn view<'a>(
     rt: &HostRuntime,
     log: &'a CallLog,
     cell: &str,

@@ -72,7 +72,7 @@ fn is_so<P: Platform>(platform: &mut P, alloc: Global, log: &CallLog, line: &str
 }
 
 /// The place of the first line of a script that does not come true, or `None`.
-pub(crate) fn first_unlike<P: Platform>(
+pub fn first_unlike<P: Platform>(
     platform: &mut P,
     alloc: Global,
     log: &CallLog,
