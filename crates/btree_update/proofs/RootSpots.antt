@@ -1,5 +1,5 @@
 -- What a look-up of a block looks at below a root.
-use Rattle.std.proofs.Common.{◌≡◌, ℕ, suc, ◌-◌, ◌≤◌, ◌<◌, List, Option, None, Some, inl, subst, arith}
+use Rattle.std.proofs.Common.{◌≡◌, ℕ, suc, ◌-◌, ◌≤◌, ◌<◌, List, Option, inl, subst, arith}
 use Rattle.node_codec.specs.declared.body.Entry.{Entry}
 use Rattle.page_store.specs.Places.{FitsAt}
 use Rattle.node_cache.specs.Cached.{Cached}

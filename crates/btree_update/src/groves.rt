@@ -179,14 +179,7 @@ impl Grove {
         ensures found { (pages : List (List ℕ)) → StandsOver pages cache.now → IsTrue result → GroveFinds pages block self.now None }
         ensures maps { (pages : List (List ℕ)) → StandsOver pages cache.now → IsTrue result → (mapped : List Mapped) → GroveMaps pages self.now mapped → LacksBlock block mapped }
     {
-        lacks_root(
-            cache,
-            self.order,
-            block,
-            &self.top,
-            self.level,
-            self.blocks,
-        )
+        lacks_root(cache, self.order, block, &self.top, self.level, self.blocks)
     }
 
     /// Reads what an update of a block may need, through the cache, and takes all memory that it may take; the tree is the same.

@@ -18,7 +18,7 @@ pub(crate) fn lacks_root(
     level: u8,
     high: u64,
 ) -> bool
-    requires can { (head : ℕ) × CanHoldRoot order level block high head top.now }
+    requires { (head : ℕ) × CanHoldRoot order level block high head top.now }
     ensures { IsTrue result ↔ RootFinds (CachedFits cache.now.nodes) order block (level - 1) high top.now None }
 {
     match top {
@@ -42,7 +42,7 @@ pub(crate) fn lacks_root(
 
 /// The same from where a search in memory ended.
 fn lacks_from(cache: &NodeCache, order: u16, block: u64, spot: Spot) -> bool
-    requires can { (head : ℕ) × CanGoOn order block head spot }
+    requires { (head : ℕ) × CanGoOn order block head spot }
     ensures { IsTrue result ↔ FindsFrom (CachedFits cache.now.nodes) order block spot None }
 {
     match spot {

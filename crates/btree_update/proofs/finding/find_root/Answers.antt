@@ -1,24 +1,17 @@
-use Rattle.std.proofs.Common.{◌≡◌, ◌<◌, ◌≤◌, ◌-◌, ◌^◌, ℕ, suc, List, IfOk, sym, subst, arith}
+use Rattle.std.proofs.Common.{◌<◌, ◌≤◌, ◌-◌, ◌^◌, ℕ, IfOk, sym, subst, arith}
 use Rattle.page_store.specs.Places.{FitsAt}
 use Rattle.btree_walk.specs.Sights.{CachedFits}
 use Rattle.btree_walk.proofs.OnLaws.{IfOk_map, entry_below}
 use Rattle.btree_walk.proofs.MappedLaws.{finds_page, stops_page}
-use Rattle.btree_twigs.specs.declared.twigs.Child.{Child}
 use Rattle.btree_twigs.specs.declared.twigs.Child.TheVariants as made
-use Rattle.btree_twigs.specs.declared.twigs.Twig.{Twig}
-use Rattle.btree_twigs.specs.declared.twigs.Spot.{Spot}
 use Rattle.btree_twigs.specs.Stubs.{stubs, stubs_below}
-use Rattle.btree_twigs.specs.Shape.{IsTwig}
-use Rattle.btree_twigs.specs.Search.{IsSpot}
-use Rattle.btree_twigs.specs.Top.{top_least}
-use Rattle.btree_update.specs.GroveTree.{want_at, top_want}
-use Rattle.btree_update.specs.Roots.{IsRootBy}
+use Rattle.btree_update.specs.GroveTree.{want_at}
 use Rattle.btree_update.specs.Held.{bound}
 use Rattle.btree_update.specs.Holding.{CanHoldRoot}
 use Rattle.btree_update.specs.Finding.{FindsBelow, ComesToWrong, RootFinds, RootFindsBy, RootStops, RootStopsBy, RootKeeps}
 use Rattle.btree_update.proofs.RootHolds.{root_grown, root_lt}
 use Rattle.btree_update.proofs.RootSpots.{spot_is, root_want_is}
-use Rattle.btree_update.proofs.FoundLaws.{looks_more, up_twig, goes_on, from_level, want_is}
+use Rattle.btree_update.proofs.FoundLaws.{looks_more, up_twig, goes_on, from_level}
 use Rattle.btree_update.proofs.KeptWay.{finds_there, OnOk_from, OnOk_map}
 use Rattle.btree_update.specs.Among.{HaveNodes, HaveSpot}
 use Rattle.btree_update.proofs.AmongLaws.{grown_among, kept_among, spot_among}

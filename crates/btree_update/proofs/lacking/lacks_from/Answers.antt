@@ -1,5 +1,4 @@
 use Rattle.std.proofs.Common.{◌≡◌, Some, None, refl, sym, subst, arith}
-use Rattle.node_codec.specs.declared.body.Entry.{Entry}
 use Rattle.btree_walk.specs.Sights.{CachedFits}
 use Rattle.btree_update.specs.Finding.{FindsFrom, CanGoOn}
 use Rattle.btree_update.proofs.lacking.lacks_from.Goals as goal
