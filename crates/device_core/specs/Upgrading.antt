@@ -10,12 +10,13 @@ use Rattle.platform.specs.Image.{Image}
 use Rattle.platform.specs.History.{History, CellStays}
 use Rattle.root_codec.specs.declared.root.Root.{Root}
 use Rattle.root_codec.specs.RootRecord.{FitsRoot, root_bytes}
+use Rattle.page_store.specs.Places.{root_want}
 use Rattle.page_store.specs.Roots.{IsRootWithin, IsBadCell}
 use Rattle.page_store.specs.Stands.{Stands, StandsBy}
 use Rattle.page_store.specs.Tree.{Parts, Tree, Wrong}
 use Rattle.cert_maker.specs.Cert.{Cert}
 use Rattle.device_terms.specs.Certifying.{AddsSynced, IsOfTrees, PutsEntry}
-use Rattle.btree_walk.specs.Nodes.{Node, NodesOf}
+use Rattle.btree_walk.specs.Nodes.{Node, NodesOf, CutShort}
 use Rattle.tree_build.specs.Building.{DrewFew}
 use Rattle.tree_build.specs.Shape.{built}
 use Rattle.device_core.specs.Publishing.{IsUnmade}
@@ -83,9 +84,24 @@ pub record SpendsOn {S R : Type 0} (P : PlatformGhosts S) (T : TapeGhosts R) (pl
   pub draws : DrewFew (needed_of_root root) (T.drawn tape) (T.drawn tape_now)
   pub reads : P.tells → (nodes : List Node) × NodesOf (P.history platform).present.readable root nodes × (P.reads platform_now ≤ P.reads platform + (2 * length nodes + root.mapped))
 
--- so it is; or no key was drawn, and there is no upgrade
+-- of the tree of a root record nothing was read; or a walk over its nodes was cut short, and read none twice; or each node was read, and then each once more at
+-- most, or by a second walk that was cut short
+abbrev pub ReadsCut : List (List ℕ) → Root → ℕ → ℕ → Type 0
+ReadsCut pages root reads reads_now =
+    (reads_now ≡ reads) ⊎ CutShort pages (root_want root) root.key reads reads_now
+    ⊎ ((nodes : List Node) × NodesOf pages root nodes × ((reads_now ≤ reads + 2 * length nodes) ⊎ CutShort pages (root_want root) root.key (reads + length nodes) reads_now))
+
+-- no page was read, or an upgrade of the root record in the cell began, and read so of its tree
+abbrev pub ReadsFew : {S : Type 0} → PlatformGhosts S → S → S → Type 0
+ReadsFew P platform platform_now =
+    (P.tells → P.reads platform_now ≡ P.reads platform)
+    ⊎ ((root : Root) × Begins P.tells (P.history platform).present (P.head platform) (P.capacity platform) root
+    × (P.tells → ReadsCut (P.history platform).present.readable root (P.reads platform) (P.reads platform_now)))
+
+-- so it is; or no key was drawn, there is no upgrade, and each node was read twice at most, and no data record
 abbrev pub SpendsUpgrade : {S R : Type 0} → PlatformGhosts S → TapeGhosts R → S → S → R → R → Type 0 → Type 0
-SpendsUpgrade P T platform platform_now tape tape_now Done = ((T.drawn tape_now ≡ T.drawn tape) × (Done → ⊥)) ⊎ SpendsOn P T platform platform_now tape tape_now
+SpendsUpgrade P T platform platform_now tape tape_now Done =
+    ((T.drawn tape_now ≡ T.drawn tape) × (Done → ⊥) × ReadsFew P platform platform_now) ⊎ SpendsOn P T platform platform_now tape tape_now
 
 -- the ledger is as it was; or it got something, and before that the pages that an upgrade of the root record in the cell needs were added and all pages were synced
 abbrev pub PutsUpgrade : {S W : Type 0} → PlatformGhosts S → S → S → W → W → Type 0

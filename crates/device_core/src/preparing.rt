@@ -1,8 +1,8 @@
 //! All memory of an upgrade, before it draws a key.
-ghost use Rattle.std.specs.Prelude.{◌≡◌, ◌≤◌, ◌+◌, IfOk, vec_len, vec_capacity};
+ghost use Rattle.std.specs.Prelude.{◌≡◌, ◌≤◌, ◌+◌, IfOk, OnErr, vec_len, vec_capacity};
 ghost use Rattle.page_store.specs.Roots.{IsRootWithin};
 ghost use Rattle.btree_walk.specs.Looks.{OnlyLooks};
-ghost use Rattle.device_core.specs.Upgrading.{needed_of_root};
+ghost use Rattle.device_core.specs.Upgrading.{needed_of_root, ReadsCut};
 ghost use Rattle.device_core.specs.Surveying.{IsSurveyCause, ReadsTwice};
 ghost use Rattle.device_core.specs.Preparing.{IsPrepared};
 
@@ -43,6 +43,7 @@ pub(crate) fn prepare<P: Platform>(
     ensures prepared { IfOk result (IsPrepared P.tells (P.history platform.old).present.readable (P.head platform.old) root.now) }
     ensures cause { IsSurveyCause P.Platform platform.old platform.new root.now result }
     ensures reads { P.tells → IfOk result (λ _. ReadsTwice (P.history platform.old).present.readable root.now (P.reads platform.old) (P.reads platform.new)) }
+    ensures cut { P.tells → OnErr result (ReadsCut (P.history platform.old).present.readable root.now (P.reads platform.old) (P.reads platform.new)) }
     ensures looks { OnlyLooks P.Platform platform.old platform.new }
 {
     let mut source = Buffers::new(alloc)?;

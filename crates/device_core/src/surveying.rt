@@ -1,11 +1,11 @@
 //! What an upgrade reads of a device before it draws a key.
-ghost use Rattle.std.specs.Prelude.{◌≡◌, ◌↔◌, ◌<◌, All, IfOk, IsTrue, map};
+ghost use Rattle.std.specs.Prelude.{◌≡◌, ◌↔◌, ◌<◌, All, IfOk, OnErr, IsTrue, map};
 ghost use Rattle.std.specs.List.Sorted.{IsStrictlyIncreasing};
 ghost use Rattle.root_codec.specs.RootRecord.{FitsRoot};
 ghost use Rattle.page_store.specs.Reading.{ReadsCell};
 ghost use Rattle.page_store.specs.Roots.{IsRootWithin};
 ghost use Rattle.btree_walk.specs.Looks.{OnlyLooks};
-ghost use Rattle.device_core.specs.Upgrading.{needed_of_root, order_above};
+ghost use Rattle.device_core.specs.Upgrading.{needed_of_root, order_above, ReadsCut};
 ghost use Rattle.device_core.specs.Surveying.{IsBeginCause, IsListing, IsSurvey, IsSurveyCause, ReadsTwice};
 
 use crate::refusals::UpgradeRefusal;
@@ -75,6 +75,7 @@ pub(crate) fn list_records<P: Platform>(
     ensures listed { IfOk result (IsSurvey P.tells (P.history platform.old).present.readable root.now) }
     ensures cause { IsSurveyCause P.Platform platform.old platform.new root.now result }
     ensures reads { P.tells → IfOk result (λ _. ReadsTwice (P.history platform.old).present.readable root.now (P.reads platform.old) (P.reads platform.new)) }
+    ensures cut { P.tells → OnErr result (ReadsCut (P.history platform.old).present.readable root.now (P.reads platform.old) (P.reads platform.new)) }
     ensures looks { OnlyLooks P.Platform platform.old platform.new }
 {
     let list = entries(alloc, platform, root, buffers)?;

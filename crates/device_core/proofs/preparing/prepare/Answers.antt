@@ -1,9 +1,11 @@
-use Rattle.std.proofs.Common.{◌≡◌, ◌∙◌, ℕ, List, ap, sym, subst, arith, length}
+use Rattle.std.proofs.Common.{◌≡◌, ◌∙◌, ℕ, List, ap, sym, subst, inl, inr, arith, length}
+use Rattle.std.proofs.lemmas.Result.{err_from_is_err_and}
 use Rattle.node_codec.specs.declared.body.Entry.{Entry}
 use Rattle.tree_build.specs.Shape.{shape_of}
 use Rattle.tree_build.proofs.ShapeLaws.{shape_many}
-use Rattle.device_core.specs.Upgrading.{order_above}
-use Rattle.device_core.specs.Surveying.{AreOf}
+use Rattle.root_codec.specs.declared.root.Root.{Root}
+use Rattle.device_core.specs.Upgrading.{order_above, ReadsCut}
+use Rattle.device_core.specs.Surveying.{AreOf, ReadsTwice}
 use Rattle.device_core.specs.UpgradeCalls.{IsUpgradeEntry}
 use Rattle.device_core.proofs.BeginLaws.{shaped_root}
 use Rattle.device_core.proofs.preparing.prepare.Goals as goal
@@ -38,3 +40,29 @@ returns-clause-prepared g c =
       line = subst (λ (n : ℕ). IsUpgradeEntry root n items addrs c.in_ok-line.line) head
           (subst (λ (es : List Entry). IsUpgradeEntry root c.head.result es addrs c.in_ok-line.line) (c.deref.ensures.value ∙ sym same) c.in_ok-line.ensures);
     }
+
+-- ---- where a walk was not done
+
+pub returns-in_err-items-clause-cut : goal.returns-in_err-items-clause-cut
+returns-in_err-items-clause-cut g c =
+    let p = err_from_is_err_and c.from_residual-in_err-items.result c.from_residual-in_err-items.ensures.1 in
+    rw p.1 c.in_err-items.ensures.cut
+
+-- or both were done, and no memory was given behind them
+twice_read : (pages : List (List ℕ)) (root : Root) (reads now : ℕ) → ReadsTwice pages root reads now → ReadsCut pages root reads now
+twice_read pages root reads now twice = inr (inr (twice.nodes, twice.are, inl (omega (arith, twice.read))))
+
+pub returns-in_err-shape-clause-cut : goal.returns-in_err-shape-clause-cut
+returns-in_err-shape-clause-cut g c =
+    let p = err_from_is_err_and c.from_residual-in_err-shape.result c.from_residual-in_err-shape.ensures.1 in
+    rw p.1 (λ told. twice_read _ _ _ _ (c.in_ok-items.ensures.reads told))
+
+pub returns-in_err-line-clause-cut : goal.returns-in_err-line-clause-cut
+returns-in_err-line-clause-cut g c =
+    let p = err_from_is_err_and c.from_residual-in_err-line.result c.from_residual-in_err-line.ensures.1 in
+    rw p.1 (λ told. twice_read _ _ _ _ (c.in_ok-items.ensures.reads told))
+
+pub returns-in_err-items-2-clause-cut : goal.returns-in_err-items-2-clause-cut
+returns-in_err-items-2-clause-cut g c =
+    let p = err_from_is_err_and c.from_residual-in_err-items-2.result c.from_residual-in_err-items-2.ensures.1 in
+    rw p.1 (λ told. twice_read _ _ _ _ (c.in_ok-items.ensures.reads told))

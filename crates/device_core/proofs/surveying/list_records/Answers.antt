@@ -1,11 +1,11 @@
-use Rattle.std.proofs.Common.{◌≡◌, ◌∙◌, length, List, Err, ap, sym, subst, arith}
+use Rattle.std.proofs.Common.{◌≡◌, ◌∙◌, ℕ, length, List, Err, ap, sym, subst, inl, inr, arith}
 use Rattle.std.specs.Prelude.{IsTrue}
 use Rattle.std.proofs.lemmas.Grind.{common_steps}
 use Rattle.std.proofs.lemmas.Result.{err_from_is_err_and}
 use Rattle.platform.specs.Image.{Image}
 use Rattle.node_codec.specs.declared.body.Entry.{Entry}
 use Rattle.page_store.specs.Places.{root_want}
-use Rattle.btree_walk.specs.Nodes.{NodesOf}
+use Rattle.btree_walk.specs.Nodes.{NodesOf, CutShort}
 use Rattle.btree_walk.proofs.OneWalkLaws.{one_nodes}
 use Rattle.device_core.specs.Surveying.{IsListing}
 use Rattle.device_core.specs.declared.surveying.Survey.{Survey}
@@ -47,3 +47,25 @@ returns-clause-reads g c = λ told.
     let fits = c.requires.within.in_range in
     let one : lists.nodes ≡ again.nodes = one_nodes pages root.order root.level (root_want root) root.key lists.nodes again.nodes (omega (arith, fits.addr, fits.head)) lists.are are in
     record { nodes = lists.nodes; are = lists.are; read = omega (arith, lists.reads, again.reads, ap length one) }
+
+-- ---- what a walk that was cut short has read
+
+pub returns-in_err-list-clause-cut : goal.returns-in_err-list-clause-cut
+returns-in_err-list-clause-cut g c =
+    let p = err_from_is_err_and c.from_residual.result c.from_residual.ensures.1 in
+    rw p.1 (λ told. inr (inl (c.in_err-list.ensures.cut told)))
+
+pub returns-then-not-is_listing-clause-cut : goal.returns-then-not-is_listing-clause-cut
+returns-then-not-is_listing-clause-cut g c = λ told.
+    let lists = c.in_ok-list.ensures.listed told in
+    inr (inr (lists.nodes, lists.are, inl (omega (arith, lists.reads))))
+
+pub returns-in_err-nodes-clause-cut : goal.returns-in_err-nodes-clause-cut
+returns-in_err-nodes-clause-cut g c =
+    let p = err_from_is_err_and c.from_residual-in_err-nodes.result c.from_residual-in_err-nodes.ensures.1 in
+    let P = g.P.Platform in
+    let root = c.args.root.now in
+    rw p.1 (λ told.
+    let lists = c.in_ok-list.ensures.listed told in
+    let cut = subst (λ (i : Image). CutShort i.readable (root_want root) root.key (P.reads c.entries.new.platform) (P.reads c.addresses.new.platform)) (c.entries.ensures.looks.image told) (c.in_err-nodes.ensures.cut told) in
+    inr (inr (lists.nodes, lists.are, inr (subst (λ (n : ℕ). CutShort (P.history c.args.platform.now).present.readable (root_want root) root.key n (P.reads c.addresses.new.platform)) lists.reads cut))))

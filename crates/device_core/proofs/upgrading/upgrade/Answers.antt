@@ -13,7 +13,7 @@ use Rattle.device_terms.proofs.StandingLaws.{during_leaves}
 use Rattle.device_terms.proofs.PuttingLaws.{puts_behind}
 use Rattle.device_core.specs.Rewriting.{Rewrites}
 use Rattle.device_core.specs.Publishing.{IsPublishCause}
-use Rattle.device_core.specs.Upgrading.{IsUpgradedRoot, PutsUpgrade, SpendsOn, StandsFrom, needed_of_root}
+use Rattle.device_core.specs.Upgrading.{IsUpgradedRoot, PutsUpgrade, ReadsCut, SpendsOn, StandsFrom, needed_of_root}
 use Rattle.device_core.specs.declared.preparing.Prepared.{Prepared}
 use Rattle.device_core.specs.declared.publishing.PublishFault.{PublishFault}
 use Rattle.device_core.specs.declared.publishing.PublishFault.TheVariants as publish
@@ -238,12 +238,25 @@ prepare-requires-clause-room g c =
 pub returns-in_err-root-clause-spends : goal.returns-in_err-root-clause-spends
 returns-in_err-root-clause-spends g c =
     let p = err_from_is_err_and c.from_residual.result c.from_residual.ensures.1 in
-    inl (refl, never_ok c.from_residual.result p.0 p.1)
+    inl (refl, never_ok c.from_residual.result p.0 p.1, inl c.begin.ensures.reads_cell.reads)
 
 pub returns-in_err-prepared-clause-spends : goal.returns-in_err-prepared-clause-spends
 returns-in_err-prepared-clause-spends g c =
     let p = err_from_is_err_and c.from_residual-in_err-prepared.result c.from_residual-in_err-prepared.ensures.1 in
-    inl (refl, never_ok c.from_residual-in_err-prepared.result p.0 p.1)
+    let P = g.P.Platform in
+    let root = c.in_ok-root.root in
+    let cell = c.begin.ensures.reads_cell in
+    inl (
+      refl,
+      never_ok c.from_residual-in_err-prepared.result p.0 p.1,
+      inr (
+        root,
+        c.in_ok-root.ensures.cause.0,
+        λ told.
+            let cut = subst (λ (i : Image). ReadsCut i.readable root (P.reads c.begin.new.platform) (P.reads c.prepare.new.platform)) (cell.image told) (c.in_err-prepared.ensures.cut told) in
+            subst (λ (n : ℕ). ReadsCut (P.history c.args.platform.now).present.readable root n (P.reads c.prepare.new.platform)) (cell.reads told) cut,
+      ),
+    )
 
 -- what was read and drawn up to the making of the new tree
 spent : (g : Over) (c : After-rewrite g) → SpendsOn g.P.Platform g.T.Tape c.args.platform.now c.rewrite.new.platform c.args.tape.now c.rewrite.new.tape
