@@ -1,6 +1,5 @@
 -- What a cache keeps, over pages.
-use Rattle.std.specs.Prelude.{OnOk}
-use Rattle.std.proofs.Common.{◌≡◌, ◌⊎◌, ℕ, ◌+◌, ◌<◌, ◌≤◌, ◌-◌, ◌^◌, List, Option, Result, Contains, length, sym, ap, subst, ◌∙◌, inl, inr}
+use Rattle.std.proofs.Common.{◌≡◌, ◌⊎◌, ℕ, ◌<◌, ◌≤◌, ◌-◌, ◌^◌, List, Contains, sym, ap, subst, ◌∙◌, inl, inr}
 use Rattle.platform.specs.declared.platforms.Platform.{Ghosts}
 use Rattle.page_store.specs.Tree.{Place}
 use Rattle.btree_walk.specs.Among.{IsAmong, KeepsBut}
@@ -9,7 +8,6 @@ use Rattle.btree_twigs.specs.declared.twigs.Child.TheVariants as made
 use Rattle.btree_twigs.specs.declared.twigs.Twig.{Twig}
 use Rattle.btree_twigs.specs.Stubs.{stubs, stubs_below}
 use Rattle.btree_update.specs.Among.{HaveNodes, CachesAmong}
-use Rattle.btree_update.specs.Warm.{CachesWay}
 use Rattle.btree_update.specs.Holding.{IsNodeOf}
 use Rattle.btree_update.proofs.AmongLaws.{kept_among, read_among, below_among}
 use Rattle.std.proofs.lemmas.List.Elements.{All-weaker, All-contains}
@@ -89,13 +87,3 @@ nodes_below_read pages places level high low addr key want twig c addr_is is one
 pub refused_bad : (fetch : FetchRefusal) (addr : ℕ) → refused fetch ≡ ready.BadRecord addr → fetch ≡ fetches.BadRecord addr
 refused_bad (fetches.BadRecord other) addr is = let same : other ≡ addr = cc in ap fetches.BadRecord same
 refused_bad fetches.PlatformFault addr is = absurd cc
-
--- ---- with what is read
-
-module _ {S T E : Type 0} (P : Ghosts S) (Such : List (List ℕ) → List Place → Type 0) (Keeps : List CachedNode → Type 0) (most : ℕ) (platform after : S) (old new : Cached) (helpers helpers_now : List (Option Twig)) (told : Result T E) where
-  pub among_of : CachesWay P Such Keeps most platform after old new helpers helpers_now told → CachesAmong P Such platform old new
-  among_of c = record { forgets = c.forgets; stands = c.stands; among = c.among }
-
-  pub way_of : CachesAmong P Such platform old new → (P.tells → Keeps old.nodes → OnOk told (P.reads after + length helpers ≤ P.reads platform + length helpers_now)) → (P.tells → Keeps old.nodes → P.reads after ≤ P.reads platform + most) →
-      CachesWay P Such Keeps most platform after old new helpers helpers_now told
-  way_of c warm few = record { forgets = c.forgets; stands = c.stands; among = c.among; warm = warm; few = few }

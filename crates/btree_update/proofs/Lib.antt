@@ -29,4 +29,5 @@ pub mod ManyLaws
 pub mod AscendLaws
 pub mod KeptWay
 pub mod WarmLaws
+pub mod EarlyLaws
 pub mod FewLaws

@@ -4,9 +4,9 @@ use Rattle.std.specs.List.{AllByRecursion}
 use Rattle.std.specs.Prelude.{Contains}
 use Rattle.std.proofs.lemmas.List.Elements.{All-from_recursion, Contains-append_right}
 use Rattle.node_codec.specs.declared.body.Entry.{Entry}
-use Rattle.node_codec.specs.Record.{NodeRecord}
+use Rattle.node_codec.specs.Record.{Record, NodeRecord}
 use Rattle.page_store.specs.declared.wants.Want.{Want}
-use Rattle.page_store.specs.Places.{FitsAt, child_want}
+use Rattle.page_store.specs.Places.{child_want}
 use Rattle.page_store.specs.Tree.{bound_of}
 use Rattle.btree_walk.specs.Ways.{IsWay, IsEntryOf}
 use Rattle.btree_walk.specs.Finds.{Finds}
@@ -80,8 +80,8 @@ has_place level high block (e ∷ es) (f ∷ fs) back from to is before after =
     let rest : stubs_at (suc level) high es ≡ fs ++ back = cc in
     has_place level high block es fs back (subst (λ (s : Stub). s.high ≤ block) here before.0) to rest before.1 after
 
-module _ (pages : List (List ℕ)) (order block : ℕ) where
-  leaf_entry : (high : ℕ) (es : List Entry) (spot : Spot) (found : Option Entry) → IsSpot block (stubs_at 0 high es) spot → FindsFrom (FitsAt pages) order block spot found → IsEntryOf es block found
+module _ (Fits : Want → List ℕ → Record → Type 0) (order block : ℕ) where
+  leaf_entry : (high : ℕ) (es : List Entry) (spot : Spot) (found : Option Entry) → IsSpot block (stubs_at 0 high es) spot → FindsFrom Fits order block spot found → IsEntryOf es block found
   leaf_entry high es (Found addr key) found is f =
       let p = place_of 0 high es is.front is.back (datum block addr key) is.all in
       let entry : Entry = record { low = block; addr = addr; key = key } in
@@ -97,22 +97,22 @@ module _ (pages : List (List ℕ)) (order block : ℕ) where
       absurd (omega (arith, is.0, zero_is))
 
   -- what is found from the place of an entry on is found from the entry on
-  from_place : (level high : ℕ) (e : Entry) (s : Stub) (found : Option Entry) → s ≡ place_at (suc level) high e → FindsBelow (FitsAt pages) block (want_of order s) s.key found →
-      (path : List ℕ) × Finds (FitsAt pages) order block found level (child_want order (suc level) e high) e.key path
+  from_place : (level high : ℕ) (e : Entry) (s : Stub) (found : Option Entry) → s ≡ place_at (suc level) high e → FindsBelow Fits block (want_of order s) s.key found →
+      (path : List ℕ) × Finds Fits order block found level (child_want order (suc level) e high) e.key path
   from_place level high e s found is f =
-      let here = subst (λ (s : Stub). FindsBelow (FitsAt pages) block (want_of order s) s.key found) is f in
+      let here = subst (λ (s : Stub). FindsBelow Fits block (want_of order s) s.key found) is f in
       let one : suc level - 1 ≡ level = omega arith in
-      (here.0, subst (λ n. Finds (FitsAt pages) order block found n (child_want order (suc level) e high) e.key here.0) one here.1)
+      (here.0, subst (λ n. Finds Fits order block found n (child_want order (suc level) e high) e.key here.0) one here.1)
 
   -- a node that fits, and what is found among its places
-  pub node_finds : (level : ℕ) (want : Want) (key : List ℕ) (es : List Entry) (found : Option Entry) → FitsAt pages want key (NodeRecord (suc level) es) → (1 ≤ level → bound_of es want.high ≤ block) → block < want.high →
-      FindsAmong (FitsAt pages) order block (stubs_at level want.high es) found → (path : List ℕ) × Finds (FitsAt pages) order block found level want key path
+  pub node_finds : (level : ℕ) (want : Want) (key : List ℕ) (es : List Entry) (found : Option Entry) → Fits want key (NodeRecord (suc level) es) → (1 ≤ level → bound_of es want.high ≤ block) → block < want.high →
+      FindsAmong Fits order block (stubs_at level want.high es) found → (path : List ℕ) × Finds Fits order block found level want key path
   unfolding Finds
   node_finds zero want key es found fits from to f =
       (want.addr ∷ [], record { entries = es; fits = fits; is = leaf_entry want.high es f.spot found f.is f.finds; path_is = refl })
   node_finds (suc level) want key es found fits from to f = by f.spot f.is f.finds
     where
-      by : (spot : Spot) → IsSpot block (stubs_at (suc level) want.high es) spot → FindsFrom (FitsAt pages) order block spot found → (path : List ℕ) × Finds (FitsAt pages) order block found (suc level) want key path
+      by : (spot : Spot) → IsSpot block (stubs_at (suc level) want.high es) spot → FindsFrom Fits order block spot found → (path : List ℕ) × Finds Fits order block found (suc level) want key path
       by (Found addr key') is f =
           let p = place_of (suc level) want.high es is.front is.back (datum block addr key') is.all in
           let level_is : 0 ≡ suc level = ap (λ (s : Stub). s.level) p.is in

@@ -1,13 +1,11 @@
 -- Where the cache keeps the way to a block, and what is read then.
 use Rattle.std.proofs.lemmas.List.{map-append}
-use Rattle.std.proofs.Common.{◌≡◌, ℕ, zero, suc, ◌+◌, ◌-◌, ◌/◌, ◌<◌, ◌≤◌, List, [], ◌∷◌, ◌++◌, Option, length, map, refl, sym, ap, subst, ◌∙◌, arith}
-use Rattle.std.specs.List.{AllByRecursion}
+use Rattle.std.proofs.Common.{◌≡◌, ℕ, zero, suc, ◌-◌, ◌/◌, ◌<◌, ◌≤◌, List, [], ◌∷◌, ◌++◌, Option, sym, ap, subst, ◌∙◌, arith}
 use Rattle.node_codec.specs.declared.body.Entry.{Entry}
 use Rattle.node_codec.specs.declared.body.NodeBody.{NodeBody}
-use Rattle.node_codec.specs.Record.{Record, NodeRecord}
+use Rattle.node_codec.specs.Record.{Record}
 use Rattle.page_store.specs.declared.wants.Want.{Want}
 use Rattle.page_store.specs.Places.{child_want}
-use Rattle.page_store.specs.Tree.{bound_of}
 use Rattle.node_cache.specs.declared.slots.CachedNode.{CachedNode}
 use Rattle.node_cache.specs.Cached.{Cached, cached_node, IsCached}
 use Rattle.btree_walk.specs.Sights.{CachedFits, StillKeeps}
@@ -29,9 +27,9 @@ use Rattle.btree_twigs.proofs.Children.{tiles_child, low_of_kept}
 use Rattle.btree_twigs.proofs.Finds.{tiles_before, tiles_after, at_one}
 use Rattle.btree_update.specs.GroveTree.{want_at}
 use Rattle.btree_update.specs.Reading.{kept_of, all_kept}
-use Rattle.btree_update.specs.Held.{stub_at, OnWay}
+use Rattle.btree_update.specs.Held.{stub_at}
 use Rattle.btree_update.specs.Holding.{CanHoldBelow}
-use Rattle.btree_update.specs.Finding.{FindsBelow, FindsAmong, ChildFindsBy, ChildFinds}
+use Rattle.btree_update.specs.Finding.{FindsAmong, ChildFindsBy, ChildFinds}
 use Rattle.btree_update.specs.Warm.{KeepsFromChild, KeepsBelow}
 use Rattle.btree_update.proofs.Readings.{start_is}
 use Rattle.btree_update.proofs.HoldLaws.{same_way}

@@ -212,8 +212,10 @@ impl Grove {
         ensures sound { IsSound self.new }
         ensures tree { KeepsTree self.old self.new }
         // What is cached is of the places that lead down from the nodes that the tree names. Where the cache keeps the way, no more
-        // pages are read than neighbours are held beside it, and one for each level above the leaves at most.
-        ensures caches { CachesWay P.Platform (λ pages. HaveNodes pages (places_of self.old)) (λ kept. KeepsWay kept block self.old) (self.old.level - 1)
+        // pages are read than neighbours are held beside it, and one for each level above the leaves at most. After an `Ok` it keeps the
+        // way, where it has room for a node and a neighbour of each level, and no page among such places has two keys.
+        ensures caches { CachesWay P.Platform (λ pages. HaveNodes pages (places_of self.old)) (λ kept. KeepsWay kept block self.old)
+            (λ _ kept. KeepsWay kept block self.old) (self.old.level - 1) (2 * self.old.level - 1)
             platform.old platform.new reader.old.cache reader.new.cache [] self.new.beside.items result }
         ensures looks { Looks P.Platform (2 * self.old.level) platform.old platform.new }
         ensures cause { TellsOf ReadyRefusal.PlatformFault result (P.faults platform.old) (P.faults platform.new) }

@@ -1,4 +1,4 @@
-ghost use Rattle.std.specs.Prelude.{◌≡◌, ◌<◌, ◌≤◌, ◌+◌, ◌-◌, ◌*◌, length, ℕ, List, [], ◌∷◌, ◌++◌, IfOk, IsErrOf};
+ghost use Rattle.std.specs.Prelude.{◌≡◌, ◌<◌, ◌≤◌, ◌+◌, ◌-◌, ◌*◌, length, ℕ, List, [], ◌∷◌, ◌++◌, IfOk, IsErrOf, take};
 ghost use Rattle.btree_update.specs.declared.refusals.ReadyRefusal.{ReadyRefusal};
 ghost use Rattle.sdbt_base.specs.Faults.{TellsOf};
 ghost use Rattle.btree_walk.specs.Looks.{Looks};
@@ -14,7 +14,7 @@ ghost use Rattle.btree_update.specs.Wrong.{WrongUnder, WrongFrom};
 ghost use Rattle.btree_update.specs.Beside.{IsLeft, HelpsBelow, LeftOf, IsMappedBy};
 ghost use Rattle.btree_update.specs.Holding.{CanHold, CanHoldBelow, HoldsFew};
 ghost use Rattle.btree_update.specs.Finding.{FindsAmong, ChildFinds, IsFoundBy};
-ghost use Rattle.btree_update.specs.Warm.{KeepsFromChild, KeepsBelow, CachesWay};
+ghost use Rattle.btree_update.specs.Warm.{KeepsFromChild, KeepsBelow, FillsFromChild, FillsBelow, CachesWay};
 
 use crate::reading::read_node;
 use crate::refusals::ReadyRefusal;
@@ -57,8 +57,9 @@ pub(crate) fn hold_way<P: Platform>(
         IfOk result (λ left. (mapped : List Mapped) → MapsFrom (P.history platform.old).present.readable order least (level - 1) high child.now mapped → IsMappedBy block mapped left) }
     ensures finds { P.tells → StandsOver (P.history platform.old).present.readable reader.old.cache →
         IfOk result (IsFoundBy (ChildFinds (FitsAt (P.history platform.old).present.readable) order least block (level - 1) high child.now)) }
-    // What is cached is of the places below the child. Where the cache keeps the way, nothing is read on it.
-    ensures caches { CachesWay P.Platform (λ pages. HaveNodes pages (stubs level high child.now)) (λ kept. KeepsFromChild kept order least block (level - 1) high child.now) (level - 1)
+    // What is cached is of the places below the child. Where the cache keeps the way, nothing is read on it; and it keeps it then.
+    ensures caches { CachesWay P.Platform (λ pages. HaveNodes pages (stubs level high child.now)) (λ kept. KeepsFromChild kept order least block (level - 1) high child.now)
+        (λ places kept. FillsFromChild places (take (2 * level - 1) kept) order least block (level - 1) high child.now) (level - 1) (2 * level - 1)
         platform.old platform.new reader.old.cache reader.new.cache beside.old.items beside.new.items result }
     ensures looks { Looks P.Platform (2 * level - 1) platform.old platform.new }
     ensures cause { TellsOf ReadyRefusal.PlatformFault result (P.faults platform.old) (P.faults platform.new) }
@@ -133,7 +134,8 @@ pub(crate) fn hold_below<P: Platform>(
         IfOk result (λ left. (mapped : List Mapped) → Maps (P.history platform.old).present.readable order (stubs_below level high twig.now) mapped → IsMappedBy block mapped left) }
     ensures finds { P.tells → StandsOver (P.history platform.old).present.readable reader.old.cache →
         IfOk result (IsFoundBy (FindsAmong (FitsAt (P.history platform.old).present.readable) order block (stubs_below level high twig.now))) }
-    ensures caches { CachesWay P.Platform (λ pages. HaveNodes pages (stubs_below level high twig.now)) (λ kept. KeepsBelow kept order block level high twig.now) level
+    ensures caches { CachesWay P.Platform (λ pages. HaveNodes pages (stubs_below level high twig.now)) (λ kept. KeepsBelow kept order block level high twig.now)
+        (λ places kept. FillsBelow places (take (2 * level) kept) order block level high twig.now) level (2 * level)
         platform.old platform.new reader.old.cache reader.new.cache beside.old.items beside.new.items result }
     ensures looks { Looks P.Platform (2 * level) platform.old platform.new }
     ensures cause { TellsOf ReadyRefusal.PlatformFault result (P.faults platform.old) (P.faults platform.new) }

@@ -9,6 +9,7 @@ ghost use Rattle.sdbt_base.specs.Faults.{TellsOf};
 ghost use Rattle.btree_walk.specs.Looks.{Looks};
 ghost use Rattle.btree_walk.specs.Sights.{StandsOver};
 ghost use Rattle.btree_update.specs.Among.{HaveNodes, CachesAmong};
+ghost use Rattle.btree_update.specs.Warm.{StayEarly, OnceDone};
 ghost use Rattle.btree_update.specs.Held.{AnyRead, IsReadAs};
 ghost use Rattle.btree_update.specs.Holding.{CanHoldBelow, HoldsFew};
 ghost use Rattle.btree_update.specs.Wrong.{IsWrongBeside, IsWrongChild};
@@ -70,6 +71,7 @@ pub(crate) fn hold_beside<P: Platform>(
         → IsWrongBeside low_in (IsWrongChild (P.history platform.old).present.readable order addr level) high front c back }
     ensures few { IfOk result (λ _. HoldsFew P.Platform 0 1 platform.old platform.new [] [] beside.old.items beside.new.items) }
     ensures caches { CachesAmong P.Platform (λ pages. HaveNodes pages (stubs_below level high twig.now)) platform.old reader.old.cache reader.new.cache }
+    ensures early { OnceDone P.Platform (λ pages. HaveNodes pages (stubs_below level high twig.now)) platform.old reader.old.cache result (λ pages places. StayEarly pages places 1 reader.old.cache reader.new.cache) }
     ensures looks { Looks P.Platform 1 platform.old platform.new }
     ensures cause { TellsOf ReadyRefusal.PlatformFault result (P.faults platform.old) (P.faults platform.new) }
 {
@@ -166,6 +168,7 @@ fn read_help<P: Platform>(
     ensures bad { P.tells → StandsOver (P.history platform.old).present.readable reader.old.cache → (addr : ℕ) → IsErrOf result (ReadyRefusal.BadRecord addr) →
         IsWrongChild (P.history platform.old).present.readable order addr level high child.now }
     ensures caches { CachesAmong P.Platform (λ pages. HaveNodes pages (stubs level high child.now)) platform.old reader.old.cache reader.new.cache }
+    ensures early { OnceDone P.Platform (λ pages. HaveNodes pages (stubs level high child.now)) platform.old reader.old.cache result (λ pages places. StayEarly pages places 1 reader.old.cache reader.new.cache) }
     ensures looks { Looks P.Platform 1 platform.old platform.new }
     ensures cause { TellsOf ReadyRefusal.PlatformFault result (P.faults platform.old) (P.faults platform.new) }
 {

@@ -41,7 +41,19 @@ use Rattle.node_cache.specs.Cached.{IsCached}
 use Rattle.node_codec.specs.declared.body.NodeBody.{NodeBody}
 use Rattle.btree_update.specs.Warm.{KeepsFromChild, KeepsBelow}
 use Rattle.btree_update.proofs.WarmLaws.{below_grown, first_cached, below_kept}
-use Rattle.btree_update.proofs.KeptWay.{OnOk_from}
+use Rattle.std.proofs.Common.{None, Ok, Result, ◌≤◌, ◌*◌}
+use Rattle.std.proofs.lemmas.List.Elements.{All-contains}
+use Rattle.node_cache.specs.Cached.{cached_node}
+use Rattle.btree_walk.specs.Sights.{IsOfPage}
+use Rattle.btree_walk.proofs.RecentLaws.{early_kept, first_made}
+use Rattle.btree_update.specs.declared.refusals.ReadyRefusal.{ReadyRefusal}
+use Rattle.btree_update.specs.declared.siblings.Left.{Left}
+use Rattle.btree_update.specs.Finding.{ChildFindsBy}
+use Rattle.btree_update.specs.Warm.{FitsAmong, FillsFromChild, FillsBelow, StayEarly}
+use Rattle.btree_update.proofs.AmongLaws.{kept_among}
+use Rattle.btree_update.proofs.WayFinds.{read_finds, any_found}
+use Rattle.btree_update.proofs.EarlyLaws.{later, stay_read, stay_same, stay_then, among_each, child_each, names_below, fits_stays, fits_later, read_cached, once_on}
+use Rattle.btree_update.proofs.KeptWay.{OnOk_from, OnOk_map}
 use Rattle.btree_walk.proofs.ForgetLaws.{forgets_same}
 use Rattle.btree_update.proofs.holding.+hold.Goals as goal
 
@@ -405,7 +417,7 @@ hold_way-returns-in-Grown-clause-mapped g t c = λ tells stands.
 pub hold_below-returns-then-at-eq0-clause-finds : goal.hold_below-returns-then-at-eq0-clause-finds
 hold_below-returns-then-at-eq0-clause-finds g t c = λ tells stands.
     (let at = c.requires.can in
-    first_finds (g.P.Platform.history c.args.platform.now).present.readable c.args.order c.args.level at.least at.low c.args.high c.args.block c.args.twig.now at.shaped
+    first_finds (FitsAt (g.P.Platform.history c.args.platform.now).present.readable) c.args.order c.args.level at.least at.low c.args.high c.args.block c.args.twig.now at.shaped
     (nothing_before c.args.block c.args.high c.place-at.result _ (children_of c.args.twig.now) c.deref.ensures.value c.if-at-eq0.true c.place-at.ensures.after at.to))
 
 pub hold_below-returns-then-level-eq0-clause-finds : goal.hold_below-returns-then-level-eq0-clause-finds
@@ -413,7 +425,7 @@ hold_below-returns-then-level-eq0-clause-finds g t c = λ tells stands.
     (let at = c.requires.can in
     let w = on_way c.args.order c.args.block c.args.level c.args.high c.place-at.result (children_of c.args.twig.now) c.deref.result.now c.index-child.result.now c.deref.ensures.value c.if-at-eq0.false
     c.place-at.ensures.within c.place-at.ensures.before c.place-at.ensures.after at.to c.index-child.ensures in
-    leaf_finds (g.P.Platform.history c.args.platform.now).present.readable c.args.order c.args.level at.least at.low c.args.high c.args.block c.place-at.result c.args.twig.now c.index-child.result.now c.if-level-eq0.true at.shaped w c.left_of_leaf.result
+    leaf_finds (FitsAt (g.P.Platform.history c.args.platform.now).present.readable) c.args.order c.args.level at.least at.low c.args.high c.args.block c.place-at.result c.args.twig.now c.index-child.result.now c.if-level-eq0.true at.shaped w c.left_of_leaf.result
     (c.low_of.result == c.args.block) (λ e. sym c.low_of.ensures ∙ eqb-true c.low_of.result c.args.block e) (λ e. eq-eqb c.low_of.result c.args.block (c.low_of.ensures ∙ e))
     (leaf_not c.args.order (length (children_of c.args.twig.now)) (c.low_of.result == c.args.block) c.left_of_leaf.result c.left_of_leaf.ensures.mapped) c.left_of_leaf.ensures.unmapped)
 
@@ -427,9 +439,9 @@ hold_below-returns-clause-finds g t c = λ tells stands.
     let pages = (g.P.Platform.history c.args.platform.now).present.readable in
     let Finds = FindsAmong (FitsAt pages) c.args.order c.args.block (stubs_below c.args.level c.args.high c.args.twig.now) in
     let one = found_as (ChildFinds (FitsAt pages) c.args.order (c.args.order / 2) c.args.block (c.args.level - 1) c.end_of-end.result c.index-child.result.now) Finds c.in_ok-left.left
-    (λ found f. way_finds pages c.args.order c.args.level at.least at.low c.args.high c.args.block c.args.twig.now at.shaped c.place-at.result c.index-child.result.now w found
+    (λ found f. way_finds (FitsAt pages) c.args.order c.args.level at.least at.low c.args.high c.args.block c.args.twig.now at.shaped c.place-at.result c.index-child.result.now w found
     (subst (λ m. FindsAmong (FitsAt pages) c.args.order c.args.block (stubs c.args.level m c.index-child.result.now) found) e
-    (child_finds pages c.args.order c.args.block c.args.level (c.args.level - 1) c.end_of-end.result c.index-child.result.now found (above c.args.level c.if-level-eq0.false) w.from (subst (λ m. c.args.block < m) (sym e) w.to) f)))
+    (child_finds (FitsAt pages) c.args.order c.args.block c.args.level (c.args.level - 1) c.end_of-end.result c.index-child.result.now found (above c.args.level c.if-level-eq0.false) w.from (subst (λ m. c.args.block < m) (sym e) w.to) f)))
     (c.in_ok-left.ensures.finds tells stands) in
     IfOk_map _ _ c.hold_beside.result
     (λ after h. beside_found Finds AnyRead c.args.order (c.args.level - 1) (length cs) c.args.high (take w.at cs) c.index-child.result.now (drop (suc w.at) cs) c.hold_way.new.beside.items c.hold_beside.new.beside.items c.in_ok-left.left after h one)
@@ -465,10 +477,38 @@ way_kept kept order level block high n end twig c w some is keeps =
     subst (λ m. KeepsFromChild kept order (order / 2) block (level - 1) m c) (sym is) there
 
 pub hold_below-returns-then-at-eq0-clause-caches : goal.hold_below-returns-then-at-eq0-clause-caches
-hold_below-returns-then-at-eq0-clause-caches g t c = record { forgets = forgets_same _ _ refl; stands = λ tells stands. stands; among = λ tells stands places such kept. kept; warm = λ tells keeps. omega arith; few = λ tells keeps. omega arith }
+hold_below-returns-then-at-eq0-clause-caches g t c = record {
+  forgets = forgets_same _ _ refl;
+  stands = λ tells stands. stands;
+  among = λ tells stands places such kept. kept;
+  warm = λ tells keeps. omega arith;
+  few = λ tells keeps. omega arith;
+  early = λ tells stands places such one. stay_same _ places (2 * c.args.level) c.args.reader.now.cache;
+  fills = λ tells stands places such one room.
+      (let at = c.requires.can in (
+        None,
+        first_finds (FitsAmong places (take (2 * c.args.level) c.args.reader.now.cache.nodes)) c.args.order c.args.level at.least at.low c.args.high c.args.block c.args.twig.now at.shaped
+            (nothing_before c.args.block c.args.high c.place-at.result _ (children_of c.args.twig.now) c.deref.ensures.value c.if-at-eq0.true c.place-at.ensures.after at.to),
+      ));
+}
 
 pub hold_below-returns-then-level-eq0-clause-caches : goal.hold_below-returns-then-level-eq0-clause-caches
-hold_below-returns-then-level-eq0-clause-caches g t c = record { forgets = forgets_same _ _ refl; stands = λ tells stands. stands; among = λ tells stands places such kept. kept; warm = λ tells keeps. omega arith; few = λ tells keeps. omega arith }
+hold_below-returns-then-level-eq0-clause-caches g t c = record {
+  forgets = forgets_same _ _ refl;
+  stands = λ tells stands. stands;
+  among = λ tells stands places such kept. kept;
+  warm = λ tells keeps. omega arith;
+  few = λ tells keeps. omega arith;
+  early = λ tells stands places such one. stay_same _ places (2 * c.args.level) c.args.reader.now.cache;
+  fills = λ tells stands places such one room.
+      (let at = c.requires.can in
+      let w = on_way c.args.order c.args.block c.args.level c.args.high c.place-at.result (children_of c.args.twig.now) c.deref.result.now c.index-child.result.now c.deref.ensures.value c.if-at-eq0.false
+      c.place-at.ensures.within c.place-at.ensures.before c.place-at.ensures.after at.to c.index-child.ensures in
+      any_found (FindsAmong (FitsAmong places (take (2 * c.args.level) c.args.reader.now.cache.nodes)) c.args.order c.args.block (stubs_below c.args.level c.args.high c.args.twig.now)) c.left_of_leaf.result
+      (leaf_finds (FitsAmong places (take (2 * c.args.level) c.args.reader.now.cache.nodes)) c.args.order c.args.level at.least at.low c.args.high c.args.block c.place-at.result c.args.twig.now c.index-child.result.now c.if-level-eq0.true at.shaped w c.left_of_leaf.result
+      (c.low_of.result == c.args.block) (λ e. sym c.low_of.ensures ∙ eqb-true c.low_of.result c.args.block e) (λ e. eq-eqb c.low_of.result c.args.block (c.low_of.ensures ∙ e))
+      (leaf_not c.args.order (length (children_of c.args.twig.now)) (c.low_of.result == c.args.block) c.left_of_leaf.result c.left_of_leaf.ensures.mapped) c.left_of_leaf.ensures.unmapped));
+}
 
 pub hold_below-returns-in_err-left-clause-caches : goal.hold_below-returns-in_err-left-clause-caches
 hold_below-returns-in_err-left-clause-caches g t c =
@@ -482,7 +522,7 @@ hold_below-returns-in_err-left-clause-caches g t c =
     let one = caches_fewer g.P.Platform below child c.args.platform.now c.args.reader.now.cache c.hold_way.new.reader.cache (λ pages places such. on_way_among pages places c.args.order c.args.block c.args.level c.args.high c.place-at.result c.end_of-end.result c.args.twig.now c.index-child.result.now w e such)
     (record { forgets = way.forgets; stands = way.stands; among = way.among }) in
     let kept : KeepsBelow c.args.reader.now.cache.nodes c.args.order c.args.block c.args.level c.args.high c.args.twig.now → KeepsFromChild c.args.reader.now.cache.nodes c.args.order (c.args.order / 2) c.args.block (c.args.level - 1) c.end_of-end.result c.index-child.result.now = λ keeps. way_kept c.args.reader.now.cache.nodes c.args.order c.args.level c.args.block c.args.high c.place-at.result c.end_of-end.result c.args.twig.now c.index-child.result.now w c.if-level-eq0.false e keeps in
-    rw (p.1, p.2) (record { forgets = one.forgets; stands = one.stands; among = one.among; warm = λ tells keeps. tt; few = λ tells keeps. omega (arith, way.few tells (kept keeps)) })
+    rw (p.1, p.2) (record { forgets = one.forgets; stands = one.stands; among = one.among; warm = λ tells keeps. tt; early = λ tells stands places such one. tt; fills = λ tells stands places such one. tt; few = λ tells keeps. omega (arith, way.few tells (kept keeps)) })
 
 pub hold_below-returns-clause-caches : goal.hold_below-returns-clause-caches
 hold_below-returns-clause-caches g t c =
@@ -496,12 +536,40 @@ hold_below-returns-clause-caches g t c =
     (record { forgets = way.forgets; stands = way.stands; among = way.among }) in
     let all = caches_then g.P.Platform below below c.args.platform.now c.hold_way.new.platform c.args.reader.now.cache c.hold_way.new.reader.cache c.hold_beside.new.reader.cache c.in_ok-left.ensures.looks.image (λ tells stands places such. such) one c.hold_beside.ensures.caches in
     let kept : KeepsBelow c.args.reader.now.cache.nodes c.args.order c.args.block c.args.level c.args.high c.args.twig.now → KeepsFromChild c.args.reader.now.cache.nodes c.args.order (c.args.order / 2) c.args.block (c.args.level - 1) c.end_of-end.result c.index-child.result.now = λ keeps. way_kept c.args.reader.now.cache.nodes c.args.order c.args.level c.args.block c.args.high c.place-at.result c.end_of-end.result c.args.twig.now c.index-child.result.now w c.if-level-eq0.false e keeps in
+    let old = c.args.reader.now.cache in
+    let mid = c.hold_way.new.reader.cache in
+    let new = c.hold_beside.new.reader.cache in
+    let last = once_on g.P.Platform below c.args.platform.now c.hold_way.new.platform mid c.hold_beside.result (λ pages places. StayEarly pages places 1 mid new) c.in_ok-left.ensures.looks.image c.hold_beside.ensures.early in
     record {
       forgets = all.forgets;
       stands = all.stands;
       among = all.among;
       warm = λ tells keeps. OnOk_from _ _ c.hold_beside.result (λ left few. omega (arith, way.warm tells (kept keeps), few.reads tells)) c.hold_beside.ensures.few;
       few = λ tells keeps. omega (arith, way.few tells (kept keeps), c.hold_beside.ensures.looks.reads_most tells, c.if-level-eq0.false);
+      early = λ tells stands places such one.
+          (let pages = (g.P.Platform.history c.args.platform.now).present.readable in
+          let child = on_way_among pages places c.args.order c.args.block c.args.level c.args.high c.place-at.result c.end_of-end.result c.args.twig.now c.index-child.result.now w e such in
+          OnOk_map (StayEarly pages places 1 mid new) (StayEarly pages places (2 * c.args.level) old new) c.hold_beside.result
+          (λ next. stay_then pages places (2 * c.args.level - 1) 1 (2 * c.args.level) old mid new (omega (arith, c.if-level-eq0.false)) way.capacity (way.early tells stands places child one) next)
+          (last tells (way.stands tells stands) places such one));
+      fills = λ tells stands places such one.
+          (let pages = (g.P.Platform.history c.args.platform.now).present.readable in
+          let child = on_way_among pages places c.args.order c.args.block c.args.level c.args.high c.place-at.result c.end_of-end.result c.args.twig.now c.index-child.result.now w e such in
+          let Was = FitsAmong places (take (2 * c.args.level - 1) mid.nodes) in
+          let Is = FitsAmong places (take (2 * c.args.level) new.nodes) in
+          let at = c.requires.can in
+          OnOk_map (StayEarly pages places 1 mid new) (2 * c.args.level ≤ old.capacity → FillsBelow places (take (2 * c.args.level) new.nodes) c.args.order c.args.block c.args.level c.args.high c.args.twig.now) c.hold_beside.result
+          (λ next room.
+          let f = way.fills tells stands places child one (omega (arith, room)) in
+          let moved = child_each Was Is c.args.order c.args.block (names_below places (take (2 * c.args.level - 1) mid.nodes))
+          (fits_stays pages places (2 * c.args.level - 1) 1 (2 * c.args.level) mid new (way.stands tells stands) next (omega (arith, c.if-level-eq0.false)) (omega (arith, room, way.capacity)))
+          (c.args.order / 2) (c.args.level - 1) c.end_of-end.result c.index-child.result.now f.0 f.1 in (
+            f.0,
+            way_finds Is c.args.order c.args.level at.least at.low c.args.high c.args.block c.args.twig.now at.shaped c.place-at.result c.index-child.result.now w f.0
+                (subst (λ m. FindsAmong Is c.args.order c.args.block (stubs c.args.level m c.index-child.result.now) f.0) e
+                (child_finds Is c.args.order c.args.block c.args.level (c.args.level - 1) c.end_of-end.result c.index-child.result.now f.0 (above c.args.level c.if-level-eq0.false) w.from (subst (λ m. c.args.block < m) (sym e) w.to) moved)),
+          ))
+          (last tells (way.stands tells stands) places such one));
     }
 
 pub hold_way-returns-in-Grown-clause-caches : goal.hold_way-returns-in-Grown-clause-caches
@@ -513,7 +581,37 @@ hold_way-returns-in-Grown-clause-caches g t c =
     let can = way_grown c.args.order c.args.least c.args.level c.args.block c.args.high head c.in-Grown.low c.in-Grown.twig (subst (CanHold c.args.order c.args.least c.args.level c.args.block c.args.high head) c.in-Grown.is c.requires.can) in
     let kept : KeepsFromChild c.args.reader.now.cache.nodes c.args.order c.args.least c.args.block (c.args.level - 1) c.args.high c.args.child.now → KeepsBelow c.args.reader.now.cache.nodes c.args.order c.args.block (c.args.level - 1) c.args.high c.in-Grown.twig = λ keeps. below_grown c.args.reader.now.cache.nodes c.args.order c.args.least c.args.block (c.args.level - 1) c.args.high head c.in-Grown.low c.in-Grown.twig can
     (subst (KeepsFromChild c.args.reader.now.cache.nodes c.args.order c.args.least c.args.block (c.args.level - 1) c.args.high) c.in-Grown.is keeps) in
-    record { forgets = one.forgets; stands = one.stands; among = one.among; warm = λ tells keeps. way.warm tells (kept keeps); few = λ tells keeps. way.few tells (kept keeps) }
+    let old = c.args.reader.now.cache in
+    let new = c.hold_below.new.reader.cache in
+    let such_below : (pages : List (List ℕ)) (places : List Place) → HaveNodes pages (stubs c.args.level c.args.high c.args.child.now) places → HaveNodes pages (stubs_below (c.args.level - 1) c.args.high c.in-Grown.twig) places
+    = λ pages places such. (such.0, grown_among places c.args.level c.args.high c.in-Grown.low c.in-Grown.twig c.args.child.now c.in-Grown.is c.requires.can.one such.1) in
+    record {
+      forgets = one.forgets;
+      stands = one.stands;
+      among = one.among;
+      warm = λ tells keeps. way.warm tells (kept keeps);
+      few = λ tells keeps. way.few tells (kept keeps);
+      early = λ tells stands places such one'.
+          (let pages = (g.P.Platform.history c.args.platform.now).present.readable in
+          OnOk_map (StayEarly pages places (2 * (c.args.level - 1)) old new) (StayEarly pages places (2 * c.args.level - 1) old new) c.hold_below.result
+          (λ next. stay_then pages places 0 (2 * (c.args.level - 1)) (2 * c.args.level - 1) old old new (omega (arith, c.requires.can.one)) refl (stay_same pages places 0 old) next)
+          (way.early tells stands places (such_below pages places such) one'));
+      fills = λ tells stands places such one'.
+          (let pages = (g.P.Platform.history c.args.platform.now).present.readable in
+          let twig = c.in-Grown.twig in
+          let Was = FitsAmong places (take (2 * (c.args.level - 1)) new.nodes) in
+          let Is = FitsAmong places (take (2 * c.args.level - 1) new.nodes) in
+          OnOk_map (2 * (c.args.level - 1) ≤ old.capacity → FillsBelow places (take (2 * (c.args.level - 1)) new.nodes) c.args.order c.args.block (c.args.level - 1) c.args.high twig)
+          (2 * c.args.level - 1 ≤ old.capacity → FillsFromChild places (take (2 * c.args.level - 1) new.nodes) c.args.order c.args.least c.args.block (c.args.level - 1) c.args.high c.args.child.now) c.hold_below.result
+          (λ fills room.
+          let f = fills (omega (arith, room, c.requires.can.one)) in
+          let moved = among_each Was Is c.args.order c.args.block (names_below places (take (2 * (c.args.level - 1)) new.nodes)) (fits_later places (2 * (c.args.level - 1)) (2 * c.args.level - 1) new.nodes (omega (arith, c.requires.can.one))) (stubs_below (c.args.level - 1) c.args.high twig) f.0 f.1 in (
+            f.0,
+            subst (λ x. ChildFinds Is c.args.order c.args.least c.args.block (c.args.level - 1) c.args.high x f.0) (sym c.in-Grown.is)
+                (subst (λ y. ChildFindsBy Is c.args.order c.args.least c.args.block (c.args.level - 1) c.args.high y f.0) (sym (made.outs-Grown c.in-Grown.low twig)) moved),
+          ))
+          (way.fills tells stands places (such_below pages places such) one'));
+    }
 
 pub hold_way-returns-in_err-twig-in-Kept-clause-caches : goal.hold_way-returns-in_err-twig-in-Kept-clause-caches
 hold_way-returns-in_err-twig-in-Kept-clause-caches g t c =
@@ -526,6 +624,8 @@ hold_way-returns-in_err-twig-in-Kept-clause-caches g t c =
       stands = one.stands;
       among = one.among;
       warm = λ tells keeps. tt;
+      early = λ tells stands places such one. tt;
+      fills = λ tells stands places such one. tt;
       few = λ tells keeps. (let node = first keeps in omega (arith, ap g.P.Platform.reads (c.in_err-twig-in-Kept.ensures.cached node.0 node.1).0));
     })
 
@@ -547,7 +647,7 @@ hold_way-returns-in_err-left-in-Kept-clause-caches g t c =
     let kept : KeepsFromChild c.args.reader.now.cache.nodes c.args.order c.args.least c.args.block (c.args.level - 1) c.args.high c.args.child.now → KeepsBelow c.read_node.new.reader.cache.nodes c.args.order c.args.block (c.args.level - 1) c.args.high twig = λ keeps. below_kept c.args.order c.args.least c.args.block (c.args.level - 1) c.args.high head c.in-Kept.low c.in-Kept.addr c.in-Kept.key twig old c.read_node.new.reader.cache can
     (λ node here. (let at = read.cached node here in (at.2, at.4))) (child keeps) in
     let same : KeepsFromChild c.args.reader.now.cache.nodes c.args.order c.args.least c.args.block (c.args.level - 1) c.args.high c.args.child.now → g.P.Platform.reads c.read_node.new.platform ≡ g.P.Platform.reads c.args.platform.now = λ keeps. (let node = first_cached old.nodes c.args.order c.args.least c.args.block (c.args.level - 1) c.args.high c.in-Kept.low c.in-Kept.addr c.in-Kept.key (child keeps) in ap g.P.Platform.reads (read.cached node.0 node.1).0) in
-    rw (p.1, p.2) (record { forgets = all.forgets; stands = all.stands; among = all.among; warm = λ tells keeps. tt; few = λ tells keeps. omega (arith, way.few tells (kept keeps), same keeps) })
+    rw (p.1, p.2) (record { forgets = all.forgets; stands = all.stands; among = all.among; warm = λ tells keeps. tt; early = λ tells stands places such one. tt; fills = λ tells stands places such one. tt; few = λ tells keeps. omega (arith, way.few tells (kept keeps), same keeps) })
 
 pub hold_way-returns-in_err-hold-in-Kept-clause-caches : goal.hold_way-returns-in_err-hold-in-Kept-clause-caches
 hold_way-returns-in_err-hold-in-Kept-clause-caches g t c =
@@ -567,7 +667,7 @@ hold_way-returns-in_err-hold-in-Kept-clause-caches g t c =
     let kept : KeepsFromChild c.args.reader.now.cache.nodes c.args.order c.args.least c.args.block (c.args.level - 1) c.args.high c.args.child.now → KeepsBelow c.read_node.new.reader.cache.nodes c.args.order c.args.block (c.args.level - 1) c.args.high twig = λ keeps. below_kept c.args.order c.args.least c.args.block (c.args.level - 1) c.args.high head c.in-Kept.low c.in-Kept.addr c.in-Kept.key twig old c.read_node.new.reader.cache can
     (λ node here. (let at = read.cached node here in (at.2, at.4))) (child keeps) in
     let same : KeepsFromChild c.args.reader.now.cache.nodes c.args.order c.args.least c.args.block (c.args.level - 1) c.args.high c.args.child.now → g.P.Platform.reads c.read_node.new.platform ≡ g.P.Platform.reads c.args.platform.now = λ keeps. (let node = first_cached old.nodes c.args.order c.args.least c.args.block (c.args.level - 1) c.args.high c.in-Kept.low c.in-Kept.addr c.in-Kept.key (child keeps) in ap g.P.Platform.reads (read.cached node.0 node.1).0) in
-    rw (p.1, p.2) (record { forgets = all.forgets; stands = all.stands; among = all.among; warm = λ tells keeps. tt; few = λ tells keeps. omega (arith, way.few tells (kept keeps), same keeps) })
+    rw (p.1, p.2) (record { forgets = all.forgets; stands = all.stands; among = all.among; warm = λ tells keeps. tt; early = λ tells stands places such one. tt; fills = λ tells stands places such one. tt; few = λ tells keeps. omega (arith, way.few tells (kept keeps), same keeps) })
 
 pub hold_way-returns-in_ok-hold-in-Kept-clause-caches : goal.hold_way-returns-in_ok-hold-in-Kept-clause-caches
 hold_way-returns-in_ok-hold-in-Kept-clause-caches g t c =
@@ -586,4 +686,51 @@ hold_way-returns-in_ok-hold-in-Kept-clause-caches g t c =
     let kept : KeepsFromChild c.args.reader.now.cache.nodes c.args.order c.args.least c.args.block (c.args.level - 1) c.args.high c.args.child.now → KeepsBelow c.read_node.new.reader.cache.nodes c.args.order c.args.block (c.args.level - 1) c.args.high twig = λ keeps. below_kept c.args.order c.args.least c.args.block (c.args.level - 1) c.args.high head c.in-Kept.low c.in-Kept.addr c.in-Kept.key twig old c.read_node.new.reader.cache can
     (λ node here. (let at = read.cached node here in (at.2, at.4))) (child keeps) in
     let same : KeepsFromChild c.args.reader.now.cache.nodes c.args.order c.args.least c.args.block (c.args.level - 1) c.args.high c.args.child.now → g.P.Platform.reads c.read_node.new.platform ≡ g.P.Platform.reads c.args.platform.now = λ keeps. (let node = first_cached old.nodes c.args.order c.args.least c.args.block (c.args.level - 1) c.args.high c.in-Kept.low c.in-Kept.addr c.in-Kept.key (child keeps) in ap g.P.Platform.reads (read.cached node.0 node.1).0) in
-    record { forgets = all.forgets; stands = all.stands; among = all.among; warm = λ tells keeps. omega (arith, way.warm tells (kept keeps), same keeps); few = λ tells keeps. omega (arith, way.few tells (kept keeps), same keeps) }
+    let mid = c.read_node.new.reader.cache in
+    let new = c.hold_below-in-Kept.new.reader.cache in
+    let k = cached_node c.in-Kept.addr c.in-Kept.key read.fills.0 in
+    let below = λ (pages : List (List ℕ)). HaveNodes pages (stubs_below (c.args.level - 1) c.args.high twig) in
+    let left = c.in_ok-left-in-Kept.left in
+    let told : Result Left ReadyRefusal = Ok left in
+    let lt = way_lt c.args.order c.args.least c.args.level c.args.block c.args.high head c.in-Kept.low c.in-Kept.addr c.in-Kept.key at in
+    let small : c.in-Kept.addr < 2 ^ 64 = omega (arith, lt, g.met.P.Platform.has_room c.args.platform.now, g.met.P.Platform.is_limited c.args.platform.now) in
+    let early_below = once_on g.P.Platform below c.args.platform.now c.read_node.new.platform mid told (λ pages places. StayEarly pages places (2 * (c.args.level - 1)) mid new) read.looks.image way.early in
+    let fills_below = once_on g.P.Platform below c.args.platform.now c.read_node.new.platform mid told
+    (λ pages places. 2 * (c.args.level - 1) ≤ mid.capacity → FillsBelow places (take (2 * (c.args.level - 1)) new.nodes) c.args.order c.args.block (c.args.level - 1) c.args.high twig) read.looks.image way.fills in
+    let such_below : g.P.Platform.tells → StandsOver (g.P.Platform.history c.args.platform.now).present.readable old → (places : List Place) → HaveNodes (g.P.Platform.history c.args.platform.now).present.readable (stubs c.args.level c.args.high c.args.child.now) places →
+    HaveNodes (g.P.Platform.history c.args.platform.now).present.readable (stubs_below (c.args.level - 1) c.args.high twig) places
+    = λ tells stands places such. nodes_below_read _ places c.args.level c.args.high c.in-Kept.low c.in-Kept.addr c.in-Kept.key _ twig c.args.child.now refl c.in-Kept.is c.requires.can.one (read.reads tells stands) such in
+    record {
+      forgets = all.forgets;
+      stands = all.stands;
+      among = all.among;
+      warm = λ tells keeps. omega (arith, way.warm tells (kept keeps), same keeps);
+      few = λ tells keeps. omega (arith, way.few tells (kept keeps), same keeps);
+      early = λ tells stands places such one'.
+          (let pages = (g.P.Platform.history c.args.platform.now).present.readable in
+          let stands' = read.stands tells stands in
+          let here = kept_among places c.args.level c.args.high c.in-Kept.low c.in-Kept.addr c.in-Kept.key c.args.child.now c.in-Kept.is c.requires.can.one such.1 in
+          stay_then pages places 1 (2 * (c.args.level - 1)) (2 * c.args.level - 1) old mid new (omega (arith, c.requires.can.one)) read.capacity (stay_read pages places k old mid small one' here stands' read.fills.2)
+          (early_below tells stands' places (such_below tells stands places such) one'));
+      fills = λ tells stands places such one' room.
+          (let pages = (g.P.Platform.history c.args.platform.now).present.readable in
+          let stands' = read.stands tells stands in
+          let here = kept_among places c.args.level c.args.high c.in-Kept.low c.in-Kept.addr c.in-Kept.key c.args.child.now c.in-Kept.is c.requires.can.one such.1 in
+          let l = above_it c.args.level at.one in
+          let fits = subst (λ k. IsNodeFor (want_at c.args.order k c.in-Kept.low c.args.high c.in-Kept.addr c.args.least) c.in-Kept.key twig) l read.fits in
+          let node = subst (λ k. IsNodeOf pages (want_at c.args.order k c.in-Kept.low c.args.high c.in-Kept.addr c.args.least) c.in-Kept.key twig) l (read.reads tells stands) in
+          let first = first_made k old mid read.fills.2 (omega (arith, room, c.requires.can.one)) in
+          let page = All-contains (IsOfPage pages) mid.nodes k stands' (early_kept 1 mid.nodes k first) in
+          let such' = such_below tells stands places such in
+          let stay = early_below tells stands' places such' one' in
+          let kept = later (1 + 2 * (c.args.level - 1)) (2 * c.args.level - 1) new.nodes k (omega (arith, c.requires.can.one)) (stay 1 k here page (omega (arith, room, read.capacity, c.requires.can.one)) first) in
+          let r = read_cached pages (take (2 * c.args.level - 1) new.nodes) (c.args.level - 1) c.in-Kept.low c.args.high c.in-Kept.addr c.args.least c.args.order c.in-Kept.key twig read.fills.0 small fits node page kept in
+          let Was = FitsAmong places (take (2 * (c.args.level - 1)) new.nodes) in
+          let Is = FitsAmong places (take (2 * c.args.level - 1) new.nodes) in
+          let f = fills_below tells stands' places such' one' (omega (arith, room, read.capacity, c.requires.can.one)) in
+          let moved = among_each Was Is c.args.order c.args.block (names_below places (take (2 * (c.args.level - 1)) new.nodes)) (fits_later places (2 * (c.args.level - 1)) (2 * c.args.level - 1) new.nodes (omega (arith, c.requires.can.one))) (stubs_below (c.args.level - 1) c.args.high twig) f.0 f.1 in (
+            f.0,
+            subst (λ x. ChildFinds Is c.args.order c.args.least c.args.block (c.args.level - 1) c.args.high x f.0) (sym c.in-Kept.is)
+                (read_finds Is c.args.order c.args.least c.args.block (c.args.level - 1) c.args.high head c.in-Kept.low c.in-Kept.addr c.in-Kept.key twig r.0 f.0 can r.2 (r.1, here) moved),
+          ));
+    }

@@ -26,7 +26,7 @@ use Rattle.btree_update.proofs.reading.read_node.Goals as goal
 
 -- a node that fits, in memory
 node_for : (want : Want) (key : List ℕ) (node : NodeBody) (twig : Twig) (version : ℕ) → (version ≡ version_of key) × (length key ≡ key_size version) → NodeFits want key node →
-    (level_of twig ≡ node.level) × (children_of twig ≡ all_kept node.entries.items) × (64 < vec_capacity (out-Twig twig).children) → IsNodeFor want key twig
+    (level_of twig ≡ node.level) × (children_of twig ≡ all_kept node.entries.items) × (vec_capacity (out-Twig twig).children ≡ 65) → IsNodeFor want key twig
 node_for want key node twig version is fits made = record {
   entries = node.entries.items;
   sized = is.1 ∙ ap key_size is.0;

@@ -21,6 +21,7 @@ use Rattle.btree_twigs.specs.Stubs.{stubs_below}
 use Rattle.btree_update.specs.Among.{HaveNodes}
 use Rattle.btree_update.proofs.AmongLaws.{child_among}
 use Rattle.btree_update.proofs.CacheLaws.{caches_fewer}
+use Rattle.btree_update.proofs.EarlyLaws.{stay_same}
 use Rattle.btree_update.proofs.siblings.hold_beside.Goals as goal
 
 end_is : (high i end : ℕ) (ds cs : List Child) → ds ≡ cs → end ≡ start_by low_of (drop (i + 1) ds) high → end ≡ start_by low_of (drop (suc i) cs) high
@@ -145,3 +146,18 @@ returns-in_ok-keep-in-Enough-clause-few g c = few_one g.P.Platform c.args.platfo
 pub returns-in_ok-keep-in-Short-clause-few : goal.returns-in_ok-keep-in-Short-clause-few
 returns-in_ok-keep-in-Short-clause-few g c =
     few_one g.P.Platform c.args.platform.now c.read_help.new.platform c.args.beside.now.items c.keep-in-Short.new.beside.items c.in_ok-help-in-Short.help.node c.in_ok-keep-in-Short.ensures.kept c.in_ok-help-in-Short.ensures.looks.reads_most
+
+-- ---- what stays cached
+
+pub returns-in-Unmapped-clause-early : goal.returns-in-Unmapped-clause-early
+returns-in-Unmapped-clause-early g c = λ tells stands places such one. stay_same _ places 1 c.args.reader.now.cache
+
+pub returns-in_ok-keep-in-Enough-clause-early : goal.returns-in_ok-keep-in-Enough-clause-early
+returns-in_ok-keep-in-Enough-clause-early g c = λ tells stands places such one. stay_same _ places 1 c.args.reader.now.cache
+
+pub returns-in_ok-keep-in-Short-clause-early : goal.returns-in_ok-keep-in-Short-clause-early
+returns-in_ok-keep-in-Short-clause-early g c = λ tells stands places such one.
+    (let lt : c.beside_of-other.result < length (children_of c.args.twig.now) = omega (arith, c.beside_of-other.ensures.within, c.len.ensures) in
+    let split = split_here (children_of c.args.twig.now) c.beside_of-other.result c.index.result.now lt c.index.ensures in
+    c.in_ok-help-in-Short.ensures.early tells stands places
+    (beside_among _ places c.args.level c.args.high c.beside_of-other.result c.end_of-end.result c.args.twig.now c.deref.result.now c.index.result.now split c.deref.ensures.value c.end_of-end.ensures such) one)

@@ -11,6 +11,9 @@ use Rattle.btree_update.specs.Beside.{CanRead, loses_for, LendsFrom}
 use Rattle.btree_update.proofs.HoldLaws.{read_as}
 use Rattle.btree_update.proofs.BesideLaws.{want_beside, spares_of, beside_lt, node_at, lends_kept}
 use Rattle.btree_update.proofs.CacheLaws.{caches_read}
+use Rattle.node_cache.specs.Cached.{cached_node}
+use Rattle.btree_update.proofs.AmongLaws.{kept_among}
+use Rattle.btree_update.proofs.EarlyLaws.{stay_read, stay_same}
 use Rattle.btree_update.proofs.siblings.read_help.Goals as goal
 
 pub read_node-requires-clause-within : goal.read_node-requires-clause-within
@@ -66,3 +69,16 @@ pub returns-in_ok-twig-in-Kept-clause-caches : goal.returns-in_ok-twig-in-Kept-c
 returns-in_ok-twig-in-Kept-clause-caches g c =
     let l = c.requires.can.level_is in
     caches_read g.P.Platform c.args.level c.args.high c.in-Kept.low c.in-Kept.addr c.in-Kept.key c.args.child.now c.args.platform.now c.args.reader.now.cache c.read_node.new.reader.cache c.in-Kept.is (omega (arith, l)) c.in_ok-twig-in-Kept.ensures.forgets c.in_ok-twig-in-Kept.ensures.stands c.in_ok-twig-in-Kept.ensures.but
+
+pub returns-in-Grown-clause-early : goal.returns-in-Grown-clause-early
+returns-in-Grown-clause-early g c = λ tells stands places such one. stay_same _ places 1 c.args.reader.now.cache
+
+pub returns-in_ok-twig-in-Kept-clause-early : goal.returns-in_ok-twig-in-Kept-clause-early
+returns-in_ok-twig-in-Kept-clause-early g c = λ tells stands places such one.
+    (let at = subst (CanRead c.args.order c.args.level c.args.high (g.P.Platform.head c.args.platform.now)) c.in-Kept.is c.requires.can in
+    let read = c.in_ok-twig-in-Kept.ensures in
+    let l = c.requires.can.level_is in
+    let lt = beside_lt c.args.order c.args.level c.args.high (g.P.Platform.head c.args.platform.now) c.in-Kept.low c.in-Kept.addr c.in-Kept.key at in
+    let small : c.in-Kept.addr < 2 ^ 64 = omega (arith, lt, g.met.P.Platform.has_room c.args.platform.now, g.met.P.Platform.is_limited c.args.platform.now) in
+    let here = kept_among places c.args.level c.args.high c.in-Kept.low c.in-Kept.addr c.in-Kept.key c.args.child.now c.in-Kept.is (omega (arith, l)) such.1 in
+    stay_read (g.P.Platform.history c.args.platform.now).present.readable places (cached_node c.in-Kept.addr c.in-Kept.key read.fills.0) c.args.reader.now.cache c.read_node.new.reader.cache small one here (read.stands tells stands) read.fills.2)

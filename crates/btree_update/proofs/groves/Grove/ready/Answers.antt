@@ -16,15 +16,16 @@ use Rattle.btree_update.proofs.GroveLaws.{sound_as, above_it}
 use Rattle.btree_update.proofs.MappedLaws.{told}
 use Rattle.page_store.specs.Places.{FitsAt}
 use Rattle.btree_update.specs.Finding.{ChildFinds, GroveFinds, IsFoundBy}
-use Rattle.btree_update.proofs.WayFinds.{found_as, told_found, root_finds}
-use Rattle.std.proofs.Common.{length}
+use Rattle.btree_update.proofs.WayFinds.{found_as, told_found}
+use Rattle.std.proofs.Common.{length, take, ◌*◌}
 use Rattle.node_cache.specs.declared.slots.CachedNode.{CachedNode}
 use Rattle.btree_walk.specs.Sights.{CachedFits}
 use Rattle.btree_twigs.specs.declared.twigs.Child.{Child}
 use Rattle.btree_update.specs.Roots.{IsRoot}
 use Rattle.btree_update.specs.Finding.{RootKeeps}
-use Rattle.btree_update.specs.Warm.{KeepsFromChild}
-use Rattle.btree_update.proofs.WayFinds.{from_root}
+use Rattle.btree_update.specs.Warm.{KeepsFromChild, FitsAmong}
+use Rattle.btree_update.proofs.WayFinds.{from_root, to_root}
+use Rattle.btree_update.proofs.EarlyLaws.{child_each, names_below, fits_kept}
 use Rattle.btree_update.proofs.groves.Grove.ready.Goals as goal
 
 pub hold_way-requires : goal.hold_way-requires
@@ -114,7 +115,7 @@ returns-clause-finds g c = λ tells stands.
     let Finds = ChildFinds (FitsAt pages) grove.order (top_least (grove.level - 1)) c.args.block (grove.level - 1) grove.blocks grove.top in
     let left = subst (λ l. IsFoundBy (ChildFinds (FitsAt pages) grove.order l c.args.block (grove.level - 1) grove.blocks grove.top) c.in_ok-left.left) c.least_of_root-least.ensures (c.in_ok-left.ensures.finds tells stands) in
     told_found (GroveFinds pages c.args.block grove) c.in_ok-left.left c.is_mapped.result c.is_mapped.ensures
-    (found_as Finds (GroveFinds pages c.args.block grove) c.in_ok-left.left (λ found f. root_finds pages grove.order c.args.block (grove.level - 1) grove.blocks grove.top found c.requires.sound.shaped f) left))
+    (found_as Finds (GroveFinds pages c.args.block grove) c.in_ok-left.left (λ found f. to_root (FitsAt pages) grove.order c.args.block (grove.level - 1) grove.blocks grove.top found c.requires.sound.shaped f) left))
 
 -- ---- where the cache keeps the way
 
@@ -127,7 +128,7 @@ returns-in_err-left-clause-caches g c =
     let grove = c.args.self.now in
     let way = c.in_err-left.ensures.caches in
     let kept = kept_child c.args.reader.now.cache.nodes grove.order c.least_of_root-least.result c.args.block grove.level grove.blocks grove.top c.requires.sound.shaped c.least_of_root-least.ensures in
-    rw (p.1, p.2) (record { forgets = way.forgets; stands = way.stands; among = way.among; warm = λ tells keeps. tt; few = λ tells keeps. way.few tells (kept keeps) })
+    rw (p.1, p.2) (record { forgets = way.forgets; stands = way.stands; among = way.among; warm = λ tells keeps. tt; early = λ tells stands places such one. tt; fills = λ tells stands places such one. tt; few = λ tells keeps. way.few tells (kept keeps) })
 
 pub returns-in_err-make_spares-clause-caches : goal.returns-in_err-make_spares-clause-caches
 returns-in_err-make_spares-clause-caches g c =
@@ -135,7 +136,7 @@ returns-in_err-make_spares-clause-caches g c =
     let grove = c.args.self.now in
     let way = c.in_ok-left.ensures.caches in
     let kept = kept_child c.args.reader.now.cache.nodes grove.order c.least_of_root-least.result c.args.block grove.level grove.blocks grove.top c.requires.sound.shaped c.least_of_root-least.ensures in
-    rw (p.1, p.2) (record { forgets = way.forgets; stands = way.stands; among = way.among; warm = λ tells keeps. tt; few = λ tells keeps. way.few tells (kept keeps) })
+    rw (p.1, p.2) (record { forgets = way.forgets; stands = way.stands; among = way.among; warm = λ tells keeps. tt; early = λ tells stands places such one. tt; fills = λ tells stands places such one. tt; few = λ tells keeps. way.few tells (kept keeps) })
 
 pub returns-in_err-make_room-clause-caches : goal.returns-in_err-make_room-clause-caches
 returns-in_err-make_room-clause-caches g c =
@@ -143,7 +144,7 @@ returns-in_err-make_room-clause-caches g c =
     let grove = c.args.self.now in
     let way = c.in_ok-left.ensures.caches in
     let kept = kept_child c.args.reader.now.cache.nodes grove.order c.least_of_root-least.result c.args.block grove.level grove.blocks grove.top c.requires.sound.shaped c.least_of_root-least.ensures in
-    rw (p.1, p.2) (record { forgets = way.forgets; stands = way.stands; among = way.among; warm = λ tells keeps. tt; few = λ tells keeps. way.few tells (kept keeps) })
+    rw (p.1, p.2) (record { forgets = way.forgets; stands = way.stands; among = way.among; warm = λ tells keeps. tt; early = λ tells stands places such one. tt; fills = λ tells stands places such one. tt; few = λ tells keeps. way.few tells (kept keeps) })
 
 pub returns-clause-caches : goal.returns-clause-caches
 returns-clause-caches g c =
@@ -158,4 +159,14 @@ returns-clause-caches g c =
           (let none : length c.let_go_held.new.beside.items ≡ 0 = ap length c.let_go_held.ensures.1 in
           omega (arith, way.warm tells (kept keeps), none));
       few = λ tells keeps. way.few tells (kept keeps);
+      early = λ tells stands places such one. way.early tells stands places such one;
+      fills = λ tells stands places such one room.
+          (let new = c.hold_way.new.reader.cache.nodes in
+          let Was = FitsAmong places (take (2 * grove.level - 1) new) in
+          let f = way.fills tells stands places such one room in
+          let moved = child_each Was (CachedFits new) grove.order c.args.block (names_below places (take (2 * grove.level - 1) new)) (fits_kept places (2 * grove.level - 1) new) c.least_of_root-least.result (grove.level - 1) grove.blocks grove.top f.0 f.1 in (
+            f.0,
+            to_root (CachedFits new) grove.order c.args.block (grove.level - 1) grove.blocks grove.top f.0 c.requires.sound.shaped
+                (subst (λ l. ChildFinds (CachedFits new) grove.order l c.args.block (grove.level - 1) grove.blocks grove.top f.0) c.least_of_root-least.ensures moved),
+          ));
     }
