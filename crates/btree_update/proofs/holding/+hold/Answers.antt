@@ -550,7 +550,7 @@ hold_below-returns-clause-caches g t c =
           (let pages = (g.P.Platform.history c.args.platform.now).present.readable in
           let child = on_way_among pages places c.args.order c.args.block c.args.level c.args.high c.place-at.result c.end_of-end.result c.args.twig.now c.index-child.result.now w e such in
           OnOk_map (StayEarly pages places 1 mid new) (StayEarly pages places (2 * c.args.level) old new) c.hold_beside.result
-          (λ next. stay_then pages places (2 * c.args.level - 1) 1 (2 * c.args.level) old mid new (omega (arith, c.if-level-eq0.false)) way.capacity (way.early tells stands places child one) next)
+          (λ next. stay_then pages places (2 * c.args.level - 1) 1 (2 * c.args.level) old mid new (omega (arith, c.if-level-eq0.false)) way.forgets.capacity (way.early tells stands places child one) next)
           (last tells (way.stands tells stands) places such one));
       fills = λ tells stands places such one.
           (let pages = (g.P.Platform.history c.args.platform.now).present.readable in
@@ -562,7 +562,7 @@ hold_below-returns-clause-caches g t c =
           (λ next room.
           let f = way.fills tells stands places child one (omega (arith, room)) in
           let moved = child_each Was Is c.args.order c.args.block (names_below places (take (2 * c.args.level - 1) mid.nodes))
-          (fits_stays pages places (2 * c.args.level - 1) 1 (2 * c.args.level) mid new (way.stands tells stands) next (omega (arith, c.if-level-eq0.false)) (omega (arith, room, way.capacity)))
+          (fits_stays pages places (2 * c.args.level - 1) 1 (2 * c.args.level) mid new (way.stands tells stands) next (omega (arith, c.if-level-eq0.false)) (omega (arith, room, way.forgets.capacity)))
           (c.args.order / 2) (c.args.level - 1) c.end_of-end.result c.index-child.result.now f.0 f.1 in (
             f.0,
             way_finds Is c.args.order c.args.level at.least at.low c.args.high c.args.block c.args.twig.now at.shaped c.place-at.result c.index-child.result.now w f.0
@@ -710,7 +710,7 @@ hold_way-returns-in_ok-hold-in-Kept-clause-caches g t c =
           (let pages = (g.P.Platform.history c.args.platform.now).present.readable in
           let stands' = read.stands tells stands in
           let here = kept_among places c.args.level c.args.high c.in-Kept.low c.in-Kept.addr c.in-Kept.key c.args.child.now c.in-Kept.is c.requires.can.one such.1 in
-          stay_then pages places 1 (2 * (c.args.level - 1)) (2 * c.args.level - 1) old mid new (omega (arith, c.requires.can.one)) read.capacity (stay_read pages places k old mid small one' here stands' read.fills.2)
+          stay_then pages places 1 (2 * (c.args.level - 1)) (2 * c.args.level - 1) old mid new (omega (arith, c.requires.can.one)) read.forgets.capacity (stay_read pages places k old mid small one' here stands' read.fills.2)
           (early_below tells stands' places (such_below tells stands places such) one'));
       fills = λ tells stands places such one' room.
           (let pages = (g.P.Platform.history c.args.platform.now).present.readable in
@@ -723,11 +723,11 @@ hold_way-returns-in_ok-hold-in-Kept-clause-caches g t c =
           let page = All-contains (IsOfPage pages) mid.nodes k stands' (early_kept 1 mid.nodes k first) in
           let such' = such_below tells stands places such in
           let stay = early_below tells stands' places such' one' in
-          let kept = later (1 + 2 * (c.args.level - 1)) (2 * c.args.level - 1) new.nodes k (omega (arith, c.requires.can.one)) (stay 1 k here page (omega (arith, room, read.capacity, c.requires.can.one)) first) in
+          let kept = later (1 + 2 * (c.args.level - 1)) (2 * c.args.level - 1) new.nodes k (omega (arith, c.requires.can.one)) (stay 1 k here page (omega (arith, room, read.forgets.capacity, c.requires.can.one)) first) in
           let r = read_cached pages (take (2 * c.args.level - 1) new.nodes) (c.args.level - 1) c.in-Kept.low c.args.high c.in-Kept.addr c.args.least c.args.order c.in-Kept.key twig read.fills.0 small fits node page kept in
           let Was = FitsAmong places (take (2 * (c.args.level - 1)) new.nodes) in
           let Is = FitsAmong places (take (2 * c.args.level - 1) new.nodes) in
-          let f = fills_below tells stands' places such' one' (omega (arith, room, read.capacity, c.requires.can.one)) in
+          let f = fills_below tells stands' places such' one' (omega (arith, room, read.forgets.capacity, c.requires.can.one)) in
           let moved = among_each Was Is c.args.order c.args.block (names_below places (take (2 * (c.args.level - 1)) new.nodes)) (fits_later places (2 * (c.args.level - 1)) (2 * c.args.level - 1) new.nodes (omega (arith, c.requires.can.one))) (stubs_below (c.args.level - 1) c.args.high twig) f.0 f.1 in (
             f.0,
             subst (λ x. ChildFinds Is c.args.order c.args.least c.args.block (c.args.level - 1) c.args.high x f.0) (sym c.in-Kept.is)
