@@ -1,7 +1,7 @@
 //! What is looked at before anything is served.
-ghost use Rattle.std.specs.Prelude.{◌≡◌, ◌≤◌, ◌⊎◌, IfErr, IfOk, OnOk, IsErrOf};
+ghost use Rattle.std.specs.Prelude.{◌≡◌, ◌⊎◌, IfErr, IfOk, OnOk, IsErrOf};
 ghost use Rattle.sdbt_base.specs.Faults.{TellsOf};
-ghost use Rattle.platform.specs.History.{Steps};
+ghost use Rattle.page_store.specs.Reading.{ReadsCell};
 ghost use Rattle.device_terms.specs.Served.{IsServedImage};
 ghost use Rattle.session_calls.specs.Cells.{IsInCell};
 
@@ -17,12 +17,7 @@ pub fn check_cell<P: Platform>(platform: &mut P) -> Result<Option<Root>, DeviceS
     ensures bad_root { P.tells → IsErrOf result DeviceStop.BadRoot → IsServedImage (P.history platform.old).present → ⊥ }
     ensures stops { IfErr result (λ stop. (stop ≡ DeviceStop.BadRoot) ⊎ (stop ≡ DeviceStop.Platform)) }
     ensures cause { TellsOf DeviceStop.Platform result (P.faults platform.old) (P.faults platform.new) }
-    ensures image { P.tells → (P.history platform.new).present ≡ (P.history platform.old).present }
-    ensures time { P.tells → Steps (P.history platform.old) (P.history platform.new) }
-    ensures head { P.head platform.new ≡ P.head platform.old }
-    ensures capacity { P.capacity platform.new ≡ P.capacity platform.old }
-    ensures reads { P.tells → P.reads platform.new ≡ P.reads platform.old }
-    ensures count { P.faults platform.old ≤ P.faults platform.new }
+    ensures reads_cell { ReadsCell P.Platform platform.old platform.new }
 {
     match current(platform) {
         Ok(found) => Ok(found),

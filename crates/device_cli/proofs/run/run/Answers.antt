@@ -27,13 +27,13 @@ returns-in-Err-clause-ran g c =
     let written = O.written in
     let old : World = world_by P g.T.Tape None c.args.platform.now c.args.tape.now in
     let new : World = world_by P g.T.Tape None c.check_cell.new.platform c.args.tape.now in
-    let later : IsLater old new = record { capacity = c.check_cell.ensures.capacity; rises = omega (arith, c.check_cell.ensures.head); within = g.met.P.Platform.has_room c.check_cell.new.platform } in
+    let later : IsLater old new = record { capacity = c.check_cell.ensures.reads_cell.capacity; rises = omega (arith, c.check_cell.ensures.reads_cell.head); within = g.met.P.Platform.has_room c.check_cell.new.platform } in
     let stops_at = early c.in-Err.stop c.in-Err.ensures.stops in (
       None,
       Ran-ended P.tells _ old new (O.faults c.last_line.new.output ≡ O.faults c.args.output.now) (Rose (O.faults c.args.output.now) (O.faults c.last_line.new.output)) c.in-Err.stop c.last_line.result
           (g.I.Source.left c.args.input.now) (g.I.Source.left c.args.input.now) (written c.args.output.now) (written c.args.output.now) (written c.last_line.new.output)
-          (Ran-refused P.tells _ old new c.in-Err.stop (g.I.Source.left c.args.input.now) (written c.args.output.now) stops_at refl later c.check_cell.ensures.head c.check_cell.ensures.reads refl (λ told. (c.check_cell.ensures.time told).extends)
-          (λ told entry rep. still_after old new entry refl (c.check_cell.ensures.image told) (c.check_cell.ensures.time told) c.check_cell.ensures.head rep)
+          (Ran-refused P.tells _ old new c.in-Err.stop (g.I.Source.left c.args.input.now) (written c.args.output.now) stops_at refl later c.check_cell.ensures.reads_cell.head c.check_cell.ensures.reads_cell.reads refl (λ told. (c.check_cell.ensures.reads_cell.time told).extends)
+          (λ told entry rep. still_after old new entry refl (c.check_cell.ensures.reads_cell.image told) (c.check_cell.ensures.reads_cell.time told) c.check_cell.ensures.reads_cell.head rep)
           (λ told entry rep. sound_of c.in-Err.stop stops_at (λ e. c.in-Err.ensures.bad_root told (cc) rep.served)))
           c.last_line.ensures.stop,
     )
@@ -47,13 +47,13 @@ returns-in-Device-clause-ran g c =
     let old : World = world_by P g.T.Tape None c.args.platform.now c.args.tape.now in
     let mid : World = world_by P g.T.Tape c.new-desk.result.session c.check_cell.new.platform c.args.tape.now in
     let new : World = world_by P g.T.Tape c.serve_input.new.desk.session c.serve_input.new.platform c.serve_input.new.tape in
-    let later : IsLater old mid = record { capacity = c.check_cell.ensures.capacity; rises = omega (arith, c.check_cell.ensures.head); within = g.met.P.Platform.has_room c.check_cell.new.platform } in (
+    let later : IsLater old mid = record { capacity = c.check_cell.ensures.reads_cell.capacity; rises = omega (arith, c.check_cell.ensures.reads_cell.head); within = g.met.P.Platform.has_room c.check_cell.new.platform } in (
       c.serve_input.new.desk.session,
       Ran-ended P.tells _ old new (O.faults c.last_line-in-Device.new.output ≡ O.faults c.serve_input.new.output) (Rose (O.faults c.serve_input.new.output) (O.faults c.last_line-in-Device.new.output)) c.in-Device.stop c.last_line-in-Device.result
           (left c.args.input.now) (left c.serve_input.new.input) (written c.args.output.now) (written c.serve_input.new.output) (written c.last_line-in-Device.new.output)
           (Ran-begun P.tells _ old new no_line _ _ _ _ _ (Ran-after P.tells old mid new no_line (Err (stops.Device c.in-Device.stop)) (left c.args.input.now) (left c.serve_input.new.input) (written c.args.output.now) (written c.serve_input.new.output)
-          later c.check_cell.ensures.head c.check_cell.ensures.reads c.new-desk.ensures.session refl (λ told. (c.check_cell.ensures.time told).extends)
-          (λ told entry rep. still_after old mid entry c.new-desk.ensures.session (c.check_cell.ensures.image told) (c.check_cell.ensures.time told) c.check_cell.ensures.head rep)
+          later c.check_cell.ensures.reads_cell.head c.check_cell.ensures.reads_cell.reads c.new-desk.ensures.session refl (λ told. (c.check_cell.ensures.reads_cell.time told).extends)
+          (λ told entry rep. still_after old mid entry c.new-desk.ensures.session (c.check_cell.ensures.reads_cell.image told) (c.check_cell.ensures.reads_cell.time told) c.check_cell.ensures.reads_cell.head rep)
           (rw c.in-Device.is at c.in-Err-serve_input.ensures.ran)))
           c.last_line-in-Device.ensures.stop,
     )
@@ -66,13 +66,13 @@ returns-clause-ran g c =
     let old : World = world_by P g.T.Tape None c.args.platform.now c.args.tape.now in
     let mid : World = world_by P g.T.Tape c.new-desk.result.session c.check_cell.new.platform c.args.tape.now in
     let new : World = world_by P g.T.Tape c.serve_input.new.desk.session c.serve_input.new.platform c.serve_input.new.tape in
-    let later : IsLater old mid = record { capacity = c.check_cell.ensures.capacity; rises = omega (arith, c.check_cell.ensures.head); within = g.met.P.Platform.has_room c.check_cell.new.platform } in (
+    let later : IsLater old mid = record { capacity = c.check_cell.ensures.reads_cell.capacity; rises = omega (arith, c.check_cell.ensures.reads_cell.head); within = g.met.P.Platform.has_room c.check_cell.new.platform } in (
       c.serve_input.new.desk.session,
       Ran-other P.tells _ old new (Err c.in-Err-serve_input.stop) (left c.args.input.now) (left c.serve_input.new.input) (written c.args.output.now) (written c.serve_input.new.output)
           (λ stop e. c.in_default-stop.not-Device stop (cc))
           (Ran-begun P.tells _ old new no_line _ _ _ _ _ (Ran-after P.tells old mid new no_line (Err c.in-Err-serve_input.stop) (left c.args.input.now) (left c.serve_input.new.input) (written c.args.output.now) (written c.serve_input.new.output)
-          later c.check_cell.ensures.head c.check_cell.ensures.reads c.new-desk.ensures.session refl (λ told. (c.check_cell.ensures.time told).extends)
-          (λ told entry rep. still_after old mid entry c.new-desk.ensures.session (c.check_cell.ensures.image told) (c.check_cell.ensures.time told) c.check_cell.ensures.head rep)
+          later c.check_cell.ensures.reads_cell.head c.check_cell.ensures.reads_cell.reads c.new-desk.ensures.session refl (λ told. (c.check_cell.ensures.reads_cell.time told).extends)
+          (λ told entry rep. still_after old mid entry c.new-desk.ensures.session (c.check_cell.ensures.reads_cell.image told) (c.check_cell.ensures.reads_cell.time told) c.check_cell.ensures.reads_cell.head rep)
           c.in-Err-serve_input.ensures.ran)),
     )
 
@@ -84,45 +84,45 @@ returns-in_default-clause-ran g c =
     let old : World = world_by P g.T.Tape None c.args.platform.now c.args.tape.now in
     let mid : World = world_by P g.T.Tape c.new-desk.result.session c.check_cell.new.platform c.args.tape.now in
     let new : World = world_by P g.T.Tape c.serve_input.new.desk.session c.serve_input.new.platform c.serve_input.new.tape in
-    let later : IsLater old mid = record { capacity = c.check_cell.ensures.capacity; rises = omega (arith, c.check_cell.ensures.head); within = g.met.P.Platform.has_room c.check_cell.new.platform } in (
+    let later : IsLater old mid = record { capacity = c.check_cell.ensures.reads_cell.capacity; rises = omega (arith, c.check_cell.ensures.reads_cell.head); within = g.met.P.Platform.has_room c.check_cell.new.platform } in (
       c.serve_input.new.desk.session,
       Ran-other P.tells _ old new (Ok tt) (left c.args.input.now) (left c.serve_input.new.input) (written c.args.output.now) (written c.serve_input.new.output)
           (λ stop e. cc)
           (Ran-begun P.tells _ old new no_line _ _ _ _ _ (Ran-after P.tells old mid new no_line (Ok tt) (left c.args.input.now) (left c.serve_input.new.input) (written c.args.output.now) (written c.serve_input.new.output)
-          later c.check_cell.ensures.head c.check_cell.ensures.reads c.new-desk.ensures.session refl (λ told. (c.check_cell.ensures.time told).extends)
-          (λ told entry rep. still_after old mid entry c.new-desk.ensures.session (c.check_cell.ensures.image told) (c.check_cell.ensures.time told) c.check_cell.ensures.head rep)
+          later c.check_cell.ensures.reads_cell.head c.check_cell.ensures.reads_cell.reads c.new-desk.ensures.session refl (λ told. (c.check_cell.ensures.reads_cell.time told).extends)
+          (λ told entry rep. still_after old mid entry c.new-desk.ensures.session (c.check_cell.ensures.reads_cell.image told) (c.check_cell.ensures.reads_cell.time told) c.check_cell.ensures.reads_cell.head rep)
           c.in_default.ensures.ran)),
     )
 
 pub returns-in-Err-clause-keeps : goal.returns-in-Err-clause-keeps
-returns-in-Err-clause-keeps g c = on_look _ _ _ None _ _ _ _ c.check_cell.ensures.image (λ told. one_look _ _ (c.check_cell.ensures.time told) (c.check_cell.ensures.image told)) (λ told keys kept h. tt)
+returns-in-Err-clause-keeps g c = on_look _ _ _ None _ _ _ _ c.check_cell.ensures.reads_cell.image (λ told. one_look _ _ (c.check_cell.ensures.reads_cell.time told) (c.check_cell.ensures.reads_cell.image told)) (λ told keys kept h. tt)
 
 pub returns-in-Device-clause-keeps : goal.returns-in-Device-clause-keeps
 returns-in-Device-clause-keeps g c =
     let P = g.P.Platform in
     let none = c.new-desk.ensures.session in
     let looked = on_look P.tells (g.T.Tape.drawn c.args.tape.now) (g.L.Sink.written c.args.ledger.now) None (P.history c.args.platform.now) (P.history c.check_cell.new.platform) (Unit {0}) (IsListed c.new-desk.result.session (P.history c.check_cell.new.platform).present)
-    c.check_cell.ensures.image (λ told. one_look _ _ (c.check_cell.ensures.time told) (c.check_cell.ensures.image told))
-    (λ told keys kept h. listed_none None c.new-desk.result.session _ keys none (listed_image None _ _ keys (c.check_cell.ensures.image told) h)) in
-    on_then _ _ _ _ _ _ _ None c.new-desk.result.session _ _ _ _ _ _ tt looked (on_done _ _ _ _ _ c.new-desk.result.session _ _ _ _ _ _ c.serve_input.ensures.keeps (λ never. absurd cc) (λ keys h. tt)) (λ told entry at. (entry, at_looked _ _ c.new-desk.result.session entry none (c.check_cell.ensures.image told) at))
+    c.check_cell.ensures.reads_cell.image (λ told. one_look _ _ (c.check_cell.ensures.reads_cell.time told) (c.check_cell.ensures.reads_cell.image told))
+    (λ told keys kept h. listed_none None c.new-desk.result.session _ keys none (listed_image None _ _ keys (c.check_cell.ensures.reads_cell.image told) h)) in
+    on_then _ _ _ _ _ _ _ None c.new-desk.result.session _ _ _ _ _ _ tt looked (on_done _ _ _ _ _ c.new-desk.result.session _ _ _ _ _ _ c.serve_input.ensures.keeps (λ never. absurd cc) (λ keys h. tt)) (λ told entry at. (entry, at_looked _ _ c.new-desk.result.session entry none (c.check_cell.ensures.reads_cell.image told) at))
 
 pub returns-clause-keeps : goal.returns-clause-keeps
 returns-clause-keeps g c =
     let P = g.P.Platform in
     let none = c.new-desk.ensures.session in
     let looked = on_look P.tells (g.T.Tape.drawn c.args.tape.now) (g.L.Sink.written c.args.ledger.now) None (P.history c.args.platform.now) (P.history c.check_cell.new.platform) (Unit {0}) (IsListed c.new-desk.result.session (P.history c.check_cell.new.platform).present)
-    c.check_cell.ensures.image (λ told. one_look _ _ (c.check_cell.ensures.time told) (c.check_cell.ensures.image told))
-    (λ told keys kept h. listed_none None c.new-desk.result.session _ keys none (listed_image None _ _ keys (c.check_cell.ensures.image told) h)) in
-    on_then _ _ _ _ _ _ _ None c.new-desk.result.session _ _ _ _ _ _ tt looked (on_done _ _ _ _ _ c.new-desk.result.session _ _ _ _ _ _ c.serve_input.ensures.keeps (λ never. absurd cc) (λ keys h. tt)) (λ told entry at. (entry, at_looked _ _ c.new-desk.result.session entry none (c.check_cell.ensures.image told) at))
+    c.check_cell.ensures.reads_cell.image (λ told. one_look _ _ (c.check_cell.ensures.reads_cell.time told) (c.check_cell.ensures.reads_cell.image told))
+    (λ told keys kept h. listed_none None c.new-desk.result.session _ keys none (listed_image None _ _ keys (c.check_cell.ensures.reads_cell.image told) h)) in
+    on_then _ _ _ _ _ _ _ None c.new-desk.result.session _ _ _ _ _ _ tt looked (on_done _ _ _ _ _ c.new-desk.result.session _ _ _ _ _ _ c.serve_input.ensures.keeps (λ never. absurd cc) (λ keys h. tt)) (λ told entry at. (entry, at_looked _ _ c.new-desk.result.session entry none (c.check_cell.ensures.reads_cell.image told) at))
 
 pub returns-in_default-clause-keeps : goal.returns-in_default-clause-keeps
 returns-in_default-clause-keeps g c =
     let P = g.P.Platform in
     let none = c.new-desk.ensures.session in
     let looked = on_look P.tells (g.T.Tape.drawn c.args.tape.now) (g.L.Sink.written c.args.ledger.now) None (P.history c.args.platform.now) (P.history c.check_cell.new.platform) (Unit {0}) (IsListed c.new-desk.result.session (P.history c.check_cell.new.platform).present)
-    c.check_cell.ensures.image (λ told. one_look _ _ (c.check_cell.ensures.time told) (c.check_cell.ensures.image told))
-    (λ told keys kept h. listed_none None c.new-desk.result.session _ keys none (listed_image None _ _ keys (c.check_cell.ensures.image told) h)) in
-    on_then _ _ _ _ _ _ _ None c.new-desk.result.session _ _ _ _ _ _ tt looked (on_done _ _ _ _ _ c.new-desk.result.session _ _ _ _ _ _ c.in_default.ensures.keeps (λ ok. refl) (λ keys h. tt)) (λ told entry at. (entry, at_looked _ _ c.new-desk.result.session entry none (c.check_cell.ensures.image told) at))
+    c.check_cell.ensures.reads_cell.image (λ told. one_look _ _ (c.check_cell.ensures.reads_cell.time told) (c.check_cell.ensures.reads_cell.image told))
+    (λ told keys kept h. listed_none None c.new-desk.result.session _ keys none (listed_image None _ _ keys (c.check_cell.ensures.reads_cell.image told) h)) in
+    on_then _ _ _ _ _ _ _ None c.new-desk.result.session _ _ _ _ _ _ tt looked (on_done _ _ _ _ _ c.new-desk.result.session _ _ _ _ _ _ c.in_default.ensures.keeps (λ ok. refl) (λ keys h. tt)) (λ told entry at. (entry, at_looked _ _ c.new-desk.result.session entry none (c.check_cell.ensures.reads_cell.image told) at))
 
 -- a stop that is none of the device's has another status
 not_eight : (stop : Stop) → ((device_stop : DeviceStop) → stop ≡ stops.Device device_stop → ⊥) → status_of stop ≡ 8 → ⊥
