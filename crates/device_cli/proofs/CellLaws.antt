@@ -18,21 +18,9 @@ use Rattle.device_cli.specs.Represents.{Stood}
 use Rattle.device_cli.specs.World.{World, needed_of}
 use Rattle.session_calls.specs.declared.stops.DeviceStop.{DeviceStop}
 
--- no time has passed
-pub serves_now : (history : History) → IsServedImage history.present → During history history IsServedImage
-serves_now history served = During-start history IsServedImage served
-
 -- at the end of that time too
 pub served_at : (old new : History) → During old new IsServedImage → IsServedImage new.present
 served_at old new during = During-now old new IsServedImage during
-
--- one time after another
-pub serves_then : (first second third : History) → During first second IsServedImage → During second third IsServedImage → During first third IsServedImage
-serves_then first second third one two = During-then first second third IsServedImage one two
-
--- a look at the platform
-pub serves_looked : (old new : History) → Steps old new → new.present ≡ old.present → IsServedImage old.present → During old new IsServedImage
-serves_looked old new steps same served = During-step old new IsServedImage steps served (subst IsServedImage (sym same) served)
 
 -- a look at the platform leaves a run without a session in its state
 pub at_looked : (old new : Image) (held : Option Session) (entry : State) → held ≡ None → new ≡ old → IsAt old None entry → IsAt new held entry
@@ -43,7 +31,7 @@ pub handled_through : (tells : Type 0) (old new : World) (last : DeviceStop → 
     → tells → (entry : State) → Stood old entry → (now : State) × Stood new now
 handled_through tells old new last lines written written_now h told entry at =
     let a = h.replied.answered told entry (needed_of old.session) at (omega arith) in
-    (a.now, a.ends.0)
+    (a.now.state, a.ends.0)
 
 pending_text : (pending : Option (List ℕ)) → (text : List ℕ) × IsPending pending text
 pending_text None = (replicate 8301 zero, omega (arith, length-replicate {A = ℕ} 8301 zero))

@@ -12,7 +12,7 @@ use Rattle.script_lang.specs.Answers.{Answers, answer}
 use Rattle.device_terms.specs.Served.{IsServedImage}
 use Rattle.device_cli.specs.World.{World}
 use Rattle.device_cli.specs.Represents.{StandsFor}
-use Rattle.device_cli.specs.Pages.{updates_after, upgrade_of, upgrade_lines, most_upgrade, TurnOn, AnswersOn}
+use Rattle.device_cli.specs.Pages.{upgrade_of, upgrade_lines, most_upgrade, Standing, standing, TurnOn, AnswersOn}
 use Rattle.device_cli.specs.Seen.{mapped_of}
 use Rattle.device_cli.specs.Run.{IsStatus, Took}
 use Rattle.line_run.specs.Stops.{HasCause, TookUntil, Ending, exit_of}
@@ -32,25 +32,26 @@ times_less n a b less = grind (arith, common_steps)
 not_less : (free needed : ℕ) → needed ≤ free → nat_lt free needed ≡ false
 not_less free needed h = grind (arith, common_steps)
 
-turn_room : (capacity : ℕ) (old : State) (pages updates : ℕ) (line : List ℕ) (reply : Reply) (new : State) (pages_now most : ℕ) → upgrade_of old ≤ most → pages + 41 * updates + 1 + spelled line * most ≤ capacity
-    → TurnOn capacity old pages updates line reply new pages_now → reply ≢ Full
-turn_room capacity old pages updates line reply new pages_now most few room (inl (command, spells, needed, needs, (counted, is), added)) e =
-    let more : spelled line * upgrade_of old ≤ spelled line * most = times_less (spelled line) (upgrade_of old) most few in
-    let free : nat_lt (capacity - pages) needed ≡ false = not_less (capacity - pages) needed (omega (arith, room, needs.within, needed_most line command (41 * updates) (upgrade_of old) spells, more)) in
-    answer_room counted old command
-    (subst (λ (b : Bool). (answer b counted old command).0 ≡ Full) free (sym (ap (λ (p : Reply × State). p.0) is) ∙ e))
-turn_room capacity old pages updates line reply new pages_now most few room (inr (bad, is, same, added)) e = cc
+turn_room : (capacity : ℕ) (old : Standing) (line : List ℕ) (reply : Reply) (new : Standing) (most : ℕ) → upgrade_of old.state ≤ most → old.pages + 41 * old.updates + 1 + spelled line * most ≤ capacity
+    → TurnOn capacity old line reply new → reply ≢ Full
+turn_room capacity old line reply new most few room (inl (command, spells, needed, needs, (counted, is), added, updated)) e =
+    let more : spelled line * upgrade_of old.state ≤ spelled line * most = times_less (spelled line) (upgrade_of old.state) most few in
+    let free : nat_lt (capacity - old.pages) needed ≡ false =
+        not_less (capacity - old.pages) needed (omega (arith, room, needs.within, needed_most line command (41 * old.updates) (upgrade_of old.state) spells, more)) in
+    answer_room counted old.state command
+    (subst (λ (b : Bool). (answer b counted old.state command).0 ≡ Full) free (sym (ap (λ (p : Reply × State). p.0) is) ∙ e))
+turn_room capacity old line reply new most few room (inr (bad, is, same)) e = cc
 
 -- with 42 pages for each line, and as many for each upgrade as one needs at most
-roomy : (capacity : ℕ) (old : State) (pages updates : ℕ) (lines : List (List ℕ)) (replies : List Reply) (new : State) (pages_now mapped most : ℕ) → IsWithin old mapped → most_upgrade (mapped + length lines) ≤ most
-    → pages + 41 * updates + 42 * length lines + upgrade_lines lines * most ≤ capacity → AnswersOn capacity old pages updates lines replies new pages_now → All (λ r. r ≢ Full) replies
-roomy capacity old pages updates lines [] new pages_now mapped most held within room h = All-nil (λ (r : Reply). r ≢ Full)
-roomy capacity old pages updates [] (reply ∷ replies) new pages_now mapped most held within room h = absurd h
-roomy capacity old pages updates (line ∷ lines) (reply ∷ replies) new pages_now mapped most held within room (mid, between, turn, rest) =
-    let few : upgrade_of old ≤ most = omega (arith, needs_within old mapped held, within) in
-    All-cons (λ (r : Reply). r ≢ Full) reply replies (turn_room capacity old pages updates line reply mid between most few (omega (arith, room)) turn)
-    (roomy capacity mid between (updates_after reply updates) lines replies new pages_now (mapped + 1) most (turn_within capacity old pages updates line reply mid between mapped held turn) (omega (arith, within))
-    (omega (arith, room, line_bound capacity old pages updates line reply mid between most few turn)) rest)
+roomy : (capacity : ℕ) (old : Standing) (lines : List (List ℕ)) (replies : List Reply) (new : Standing) (mapped most : ℕ) → IsWithin old.state mapped → most_upgrade (mapped + length lines) ≤ most
+    → old.pages + 41 * old.updates + 42 * length lines + upgrade_lines lines * most ≤ capacity → AnswersOn capacity old lines replies new → All (λ r. r ≢ Full) replies
+roomy capacity old lines [] new mapped most held within room h = All-nil (λ (r : Reply). r ≢ Full)
+roomy capacity old [] (reply ∷ replies) new mapped most held within room h = absurd h
+roomy capacity old (line ∷ lines) (reply ∷ replies) new mapped most held within room (mid, turn, rest) =
+    let few : upgrade_of old.state ≤ most = omega (arith, needs_within old.state mapped held, within) in
+    All-cons (λ (r : Reply). r ≢ Full) reply replies (turn_room capacity old line reply mid most few (omega (arith, room)) turn)
+    (roomy capacity mid lines replies new (mapped + 1) most (turn_within capacity old line reply mid mapped held turn) (omega (arith, within))
+    (omega (arith, room, line_bound capacity old line reply mid most few turn)) rest)
 
 -- what was taken of a text, where nothing is left, is all of it
 all_taken : (text taken : List ℕ) (left left_now : Option (List ℕ)) → left ≡ Some text → Gave left taken left_now → IsAtEnd left_now → taken ≡ text
@@ -76,15 +77,17 @@ complete_at tells old new left left_now written written_now text there script fr
     let taken : script.taken ≡ text = all_taken text script.taken left left_now ample.text_is script.gave all.0 in
     let lines : script.lines ≡ lines_of text = all.1 ∙ ap (λ (t : List ℕ). lines_of t) taken in
     let none : script.part ≡ [] = script.no_part (λ e. omega (arith, e)) (λ e. omega (arith, e)) (λ e. omega (arith, e)) in
+    let entry = standing (closed there) old.head 0 in
+    let now = standing from.now from.pages from.updates in
     record {
       replies = script.replies;
       got = subst (λ (bytes : List ℕ). Got written bytes written_now)
           (ap (λ (part : List ℕ). flat_map line_of script.replies ++ part) none ∙ append-nil (flat_map line_of script.replies)) script.got;
       now = from.now;
       answers = subst (λ (l : List (List ℕ)). Answers (closed there) l script.replies from.now) lines
-          (answers_of old.capacity (closed there) old.head 0 script.lines script.replies from.now from.pages from.answers);
+          (answers_of old.capacity entry script.lines script.replies now from.answers);
       each = all.2 ∙ ap (λ (l : List (List ℕ)). length l) lines;
-      roomy = roomy old.capacity (closed there) old.head 0 script.lines script.replies from.now from.pages (mapped_of there) (most_upgrade (mapped_of there + length script.lines))
+      roomy = roomy old.capacity entry script.lines script.replies now (mapped_of there) (most_upgrade (mapped_of there + length script.lines))
           (within_closed old.history.present there stands) (omega arith)
           (subst (λ (l : List (List ℕ)). old.head + 41 * 0 + 42 * length l + upgrade_lines l * most_upgrade (mapped_of there + length l) ≤ old.capacity) (sym lines) (omega (arith, ample.room))) from.answers;
     }

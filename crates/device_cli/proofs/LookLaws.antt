@@ -91,10 +91,6 @@ pub has_room : (session : Session) (before : Option ℕ) → IsWarmFor (Some ses
 has_room session None warm = warm
 has_room session (Some block) warm = warm.0
 
--- a session that was mounted with room for 256 nodes
-pub warm_mounted : (session : Session) → room_of session ≡ 256 → IsWarmFor (Some session) None
-warm_mounted session is = omega (arith, is)
-
 -- what a read costs behind another one
 pub read_cost : {S : Type 0} (P : Ghosts S) (block : ℕ) (platform after : S) (session now : Session) (result : Result (Unit {0}) DeviceStop) (before : Option ℕ) → P.tells → session.grove.level ≤ 20
     → block < blocks_of session → IsWarmFor (Some session) before → ReadsPages P block platform after session now result → P.reads after ≤ P.reads platform + most_for before block

@@ -17,6 +17,7 @@ use Rattle.device_cli.proofs.ReplyLaws.{so_none}
 use Rattle.script_lang.specs.Replies.{line_of, Reply}
 use Rattle.device_cli.specs.Run.{Took}
 use Rattle.line_run.specs.Stops.{TookUntil, Ending, IsSound, exit_of}
+use Rattle.device_cli.specs.Pages.{Standing, standing}
 use Rattle.device_cli.specs.Replied.{IsEndingAt, IsAhead, Answered}
 use Rattle.line_run.specs.Puts.{IsBehind, no_line, damage_line}
 use Rattle.device_cli.specs.Ran.{Ran}
@@ -105,10 +106,10 @@ Ran-other tells Before old new ending left left_now a b other r = let p = r.hand
 }
 
 -- after a stop of the device what stands behind the replies says nothing of the device
-Answered-part : (old new : World) (stop : DeviceStop) (entry : State) (updates : ℕ) (lines : List (List ℕ)) (replies : List Reply) (part other : List ℕ)
-    → Answered old new (Err (stops.Device stop)) entry updates lines replies part → Answered old new (Err (stops.Device stop)) entry updates lines replies other
-Answered-part old new stop entry updates lines replies part other f =
-    record { now = f.now; pages = f.pages; answers = f.answers; seen = f.seen; ends = f.ends; near = f.near; ahead = f.ahead; is_ahead = f.is_ahead; marks = f.marks; are = f.are; made = f.made }
+Answered-part : (old new : World) (stop : DeviceStop) (entry : Standing) (lines : List (List ℕ)) (replies : List Reply) (part other : List ℕ)
+    → Answered old new (Err (stops.Device stop)) entry lines replies part → Answered old new (Err (stops.Device stop)) entry lines replies other
+Answered-part old new stop entry lines replies part other f =
+    record { now = f.now; answers = f.answers; seen = f.seen; ends = f.ends; near = f.near; ahead = f.ahead; is_ahead = f.is_ahead; marks = f.marks; are = f.are; made = f.made }
 
 -- a stop of the device, and then its last line
 pub Ran-last : (tells Before : Type 0) (old new : World) (stop : DeviceStop) (left left_now a b c : Option (List ℕ))
@@ -135,7 +136,7 @@ Ran-last tells Before old new stop left left_now a b c r got = let p = r.handled
       full = p.full;
       enough = p.enough;
       looks = p.looks;
-      answered = λ told entry updates rep enough. Answered-part old new stop entry updates r.lines p.replies p.part (damage_line stop) (p.answered told entry updates rep enough);
+      answered = λ told entry updates rep enough. Answered-part old new stop (standing entry old.head updates) r.lines p.replies p.part (damage_line stop) (p.answered told entry updates rep enough);
     };
   };
   prompt = r.prompt;
@@ -211,10 +212,9 @@ Ran-refused tells Before old new stop left written which before later same unrea
       enough = λ updates enough. tt;
       looks = looks_none tells old new _ (λ ok. absurd cc) unread;
       answered = λ told entry updates rep enough. record {
-        now = entry;
-        pages = old.head;
-        answers = (refl, refl);
-        seen = (refl, refl);
+        now = standing entry old.head updates;
+        answers = refl;
+        seen = refl;
         ends = sound told entry rep;
         near = inl same;
         ahead = [];

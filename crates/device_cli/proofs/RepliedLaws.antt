@@ -31,7 +31,7 @@ use Rattle.device_course.specs.Course.{Made}
 use Rattle.device_course.proofs.MadeLaws.{shut, made_none, made_one, made_stopped, made_then, made_closed}
 use Rattle.device_cli.specs.Represents.{Stood, StandsFor}
 use Rattle.device_cli.specs.Added.{left_by, LacksPages, LeavesFew, HasAdded, IsNear}
-use Rattle.device_cli.specs.Pages.{needed_for, updates_after, updates_of, upgrade_of, TurnOn, AnswersOn, IsShort, IfNext}
+use Rattle.device_cli.specs.Pages.{needed_for, updates_after, updates_of, upgrade_of, Standing, standing, TurnOn, AnswersOn, IsShort, IfNext}
 use Rattle.device_cli.specs.Replied.{AreMany, IsStopAt, IsEndingAt, IsAhead, AreMarks, EndsIn, Answered, Replied, Handled, Halts, Serves}
 use Rattle.line_run.specs.Puts.{no_line, IsBehind, HasPut}
 use Rattle.device_cli.specs.Causes.{MayStop, SoOn}
@@ -44,7 +44,7 @@ use Rattle.line_run.specs.declared.stop.Stop.{Stop}
 use Rattle.line_run.specs.declared.stop.Stop.TheVariants as stops
 use Rattle.session_calls.specs.declared.stops.DeviceStop.{DeviceStop}
 use Rattle.session_calls.specs.declared.stops.DeviceStop.TheVariants as device
-use Rattle.device_cli.proofs.PageLaws.{turn_of, near_turn, answers_of, AnswersOn-append, AnswersOn-longer, updates_of-append, AreShort-later, AreShort-append, AreShort-longer}
+use Rattle.device_cli.proofs.PageLaws.{turn_of, near_turn, answers_of, updates_on, AnswersOn-append, AnswersOn-longer, updates_of-append, AreShort-later, AreShort-append, AreShort-longer}
 use Rattle.device_cli.proofs.PassLaws.{AreMarks-none, AreMarks-one, AreMarks-then, AreMarks-longer}
 
 -- no command needs more where a commit doesn't
@@ -83,12 +83,11 @@ Replied-idle tells old new last later same unread held undrawn extends still = r
   enough = λ updates enough. subst (λ (session : Option Session). AreEnough session updates) (sym held) enough;
   looks = looks_idle tells old new _ held unread;
   answered = λ told entry updates rep enough. let both = still told entry rep in record {
-    now = entry;
-    pages = new.head;
-    answers = (refl, same);
-    seen = (refl, same);
-    ends = (both.0, refl);
-    near = refl;
+    now = standing entry old.head updates;
+    answers = refl;
+    seen = refl;
+    ends = (both.0, same);
+    near = same;
     ahead = [];
     is_ahead = refl;
     marks = [];
@@ -108,7 +107,7 @@ Replied-nothing tells w last fits = Replied-idle tells w w last (IsLater-refl w 
 -- what the serving of a line did from a state: a reply that belongs to it, and the state after it
 abbrev pub Turned : World → World → State → ℕ → List ℕ → Reply → Type 0
 Turned old new entry updates line reply =
-    (now : State) × TurnOn old.capacity entry old.head updates line reply now new.head × Stood new now × Turns old.history new.history (Leaves entry.device) (Leaves now.device)
+    (now : State) × TurnOn old.capacity (standing entry old.head updates) line reply (standing now new.head (updates_after reply updates)) × Stood new now × Turns old.history new.history (Leaves entry.device) (Leaves now.device)
     × Saw new.history (moment old.history) entry.device old.head reply
 
 -- the device after it was made
@@ -150,12 +149,12 @@ Replied-line tells old new last line reply later drew so full enough looks turne
   looks = looks;
   answered = λ told entry updates rep paid.
       let t = turned told entry updates rep paid in
-      let turn = turn_of old.capacity entry old.head updates line reply t.0 new.head t.1 in
+      let now = standing t.0 new.head (updates_after reply updates) in
+      let turn = turn_of old.capacity (standing entry old.head updates) line reply now t.1 in
       record {
-        now = t.0;
-        pages = new.head;
-        answers = (t.0, new.head, t.1, (refl, refl));
-        seen = (t.4, t.0, new.head, t.1, (refl, refl));
+        now = now;
+        answers = (now, t.1, refl);
+        seen = (t.4, now, t.1, refl);
         ends = (t.2, refl);
         near = refl;
         ahead = [];
@@ -185,14 +184,14 @@ Replied-part tells old new last line reply n later drew extends looks turned = r
   looks = looks;
   answered = λ told entry updates rep enough.
       let t = turned told entry updates rep enough in
-      let turn = turn_of old.capacity entry old.head updates line reply t.0 new.head t.1 in
+      let now = standing t.0 new.head (updates_after reply updates) in
+      let turn = turn_of old.capacity (standing entry old.head updates) line reply now t.1 in
       record {
-        now = entry;
-        pages = old.head;
-        answers = (refl, refl);
-        seen = (refl, refl);
-        ends = (reply, t.0, (t.0, new.head, t.1, (refl, refl)), (n, refl), t.2.there.device);
-        near = near_turn old.capacity entry old.head updates line reply t.0 new.head t.1;
+        now = standing entry old.head updates;
+        answers = refl;
+        seen = refl;
+        ends = (reply, now, (now, t.1, refl), refl, (n, refl), t.2.there.device);
+        near = near_turn old.capacity (standing entry old.head updates) line reply now t.1;
         ahead = reply ∷ [];
         is_ahead = omega arith;
         marks = t.0.device ∷ [];
@@ -273,10 +272,9 @@ Replied-stop tells old new line command stop spells later drew extends added dam
   answered = λ told entry updates rep enough.
       let h = halted old new entry line command stop spells rep (served told) (halts told entry rep) in
       record {
-        now = entry;
-        pages = old.head;
-        answers = (refl, refl);
-        seen = (refl, refl);
+        now = standing entry old.head updates;
+        answers = refl;
+        seen = refl;
         ends = h.sound;
         near = inr (later.rises, (command, spells, omega (arith, leaves_device tells old.history.present entry stop command (needed_of old.session) old.head new.head told rep.there.device added, left_more stop command (needed_of old.session) (41 * updates) (upgrade_of entry) enough)));
         ahead = h.ahead;
@@ -292,24 +290,23 @@ HasAdded-behind : (most : Command → ℕ) (lines more : List (List ℕ)) (repli
 HasAdded-behind most lines more replies others pages now same (inl e) = inl e
 HasAdded-behind most lines more replies others pages now same (inr (rises, next)) = inr (rises, IfNext-behind _ lines more replies others same next)
 
-IsNear-then : (ending : Ending) (updates upgrade : ℕ) (lines more : List (List ℕ)) (replies others : List Reply) (pages now : ℕ) → length replies ≡ length lines
-    → IsNear ending updates upgrade more others pages now → IsNear ending updates upgrade (lines ++ more) (replies ++ others) pages now
-IsNear-then (Ok done) updates upgrade lines more replies others pages now same h = h
-IsNear-then (Err stops.Source) updates upgrade lines more replies others pages now same h = h
-IsNear-then (Err stops.Limit) updates upgrade lines more replies others pages now same h = h
-IsNear-then (Err stops.Sink) updates upgrade lines more replies others pages now same h = HasAdded-behind _ lines more replies others pages now same h
-IsNear-then (Err (stops.Device stop)) updates upgrade lines more replies others pages now same h = HasAdded-behind _ lines more replies others pages now same h
+IsNear-then : (ending : Ending) (met : Standing) (lines more : List (List ℕ)) (replies others : List Reply) (now : ℕ) → length replies ≡ length lines
+    → IsNear ending met more others now → IsNear ending met (lines ++ more) (replies ++ others) now
+IsNear-then (Ok done) met lines more replies others now same h = h
+IsNear-then (Err stops.Source) met lines more replies others now same h = h
+IsNear-then (Err stops.Limit) met lines more replies others now same h = h
+IsNear-then (Err stops.Sink) met lines more replies others now same h = HasAdded-behind _ lines more replies others met.pages now same h
+IsNear-then (Err (stops.Device stop)) met lines more replies others now same h = HasAdded-behind _ lines more replies others met.pages now same h
 
 HasAdded-longer : (most : Command → ℕ) (lines more : List (List ℕ)) (replies : List Reply) (pages now : ℕ) → HasAdded most lines replies pages now → HasAdded most (lines ++ more) replies pages now
 HasAdded-longer most lines more replies pages now (inl e) = inl e
 HasAdded-longer most lines more replies pages now (inr (rises, next)) = inr (rises, IfNext-longer _ lines more replies next)
 
-IsNear-longer : (stop : Stop) (updates upgrade : ℕ) (lines more : List (List ℕ)) (replies : List Reply) (pages now : ℕ)
-    → IsNear (Err stop) updates upgrade lines replies pages now → IsNear (Err stop) updates upgrade (lines ++ more) replies pages now
-IsNear-longer stops.Source updates upgrade lines more replies pages now h = h
-IsNear-longer stops.Limit updates upgrade lines more replies pages now h = h
-IsNear-longer stops.Sink updates upgrade lines more replies pages now h = HasAdded-longer _ lines more replies pages now h
-IsNear-longer (stops.Device stop) updates upgrade lines more replies pages now h = HasAdded-longer _ lines more replies pages now h
+IsNear-longer : (stop : Stop) (met : Standing) (lines more : List (List ℕ)) (replies : List Reply) (now : ℕ) → IsNear (Err stop) met lines replies now → IsNear (Err stop) met (lines ++ more) replies now
+IsNear-longer stops.Source met lines more replies now h = h
+IsNear-longer stops.Limit met lines more replies now h = h
+IsNear-longer stops.Sink met lines more replies now h = HasAdded-longer _ lines more replies met.pages now h
+IsNear-longer (stops.Device stop) met lines more replies now h = HasAdded-longer _ lines more replies met.pages now h
 
 AreMany-then : (ending : Ending) (a b c d : ℕ) → a ≡ b → AreMany c d ending → AreMany (a + c) (b + d) ending
 AreMany-then (Ok done) a b c d e h = omega (arith, e, h)
@@ -336,32 +333,21 @@ IsEndingAt-then tells now (Err stops.Limit) lines more replies others same h = t
 IsEndingAt-then tells now (Err stops.Sink) lines more replies others same h = tt
 IsEndingAt-then tells now (Err (stops.Device stop)) lines more replies others same h = IsStopAt-then tells now stop lines more replies others same h
 
-SeenOn-moved : (old middle new : World) (from : ℕ) (mid now : State) (pages updates pages_now : ℕ) (lines : List (List ℕ)) (replies : List Reply) → middle.capacity ≡ old.capacity → middle.head ≡ pages
-    → SeenOn middle.capacity new.history from mid middle.head updates lines replies now pages_now → SeenOn old.capacity new.history from mid pages updates lines replies now pages_now
-SeenOn-moved old middle new from mid now pages updates pages_now lines replies capacity head h =
-    subst (λ (c : ℕ). SeenOn c new.history from mid pages updates lines replies now pages_now) capacity
-    (subst (λ (n : ℕ). SeenOn middle.capacity new.history from mid n updates lines replies now pages_now) head h)
-
 -- what the second run answers, counted from the first one's start
-AnswersOn-moved : (old middle : World) (mid new : State) (pages updates pages_now : ℕ) (lines : List (List ℕ)) (replies : List Reply) → middle.capacity ≡ old.capacity → middle.head ≡ pages
-    → AnswersOn middle.capacity mid middle.head updates lines replies new pages_now → AnswersOn old.capacity mid pages updates lines replies new pages_now
-AnswersOn-moved old middle mid new pages updates pages_now lines replies capacity head h =
-    subst (λ (c : ℕ). AnswersOn c mid pages updates lines replies new pages_now) capacity
-    (subst (λ (n : ℕ). AnswersOn middle.capacity mid n updates lines replies new pages_now) head h)
-
-EndsIn-then : (old middle new : World) (ending : Ending) (entry mid now : State) (updates : ℕ) (lines more : List (List ℕ)) (replies others : List Reply) (part : List ℕ) (between pages : ℕ)
-    → middle.capacity ≡ old.capacity → middle.head ≡ between → length replies ≡ length lines → AnswersOn old.capacity entry old.head updates lines replies mid between
-    → EndsIn middle new mid (updates_of updates replies) more others part now pages ending → EndsIn old new entry updates (lines ++ more) (replies ++ others) part now pages ending
-EndsIn-then old middle new (Ok done) entry mid now updates lines more replies others part between pages capacity head same h k = k
-EndsIn-then old middle new (Err stops.Source) entry mid now updates lines more replies others part between pages capacity head same h k = k
-EndsIn-then old middle new (Err stops.Limit) entry mid now updates lines more replies others part between pages capacity head same h k = k
-EndsIn-then old middle new (Err (stops.Device stop)) entry mid now updates lines more replies others part between pages capacity head same h k = k
-EndsIn-then old middle new (Err stops.Sink) entry mid now updates lines more replies others part between pages capacity head same h (reply, next, answers, cut, stands) = (
+EndsIn-then : (old middle new : World) (ending : Ending) (entry mid now : Standing) (lines more : List (List ℕ)) (replies others : List Reply) (part : List ℕ)
+    → middle.capacity ≡ old.capacity → length replies ≡ length lines → AnswersOn old.capacity entry lines replies mid
+    → EndsIn middle new mid more others part now ending → EndsIn old new entry (lines ++ more) (replies ++ others) part now ending
+EndsIn-then old middle new (Ok done) entry mid now lines more replies others part capacity same h k = k
+EndsIn-then old middle new (Err stops.Source) entry mid now lines more replies others part capacity same h k = k
+EndsIn-then old middle new (Err stops.Limit) entry mid now lines more replies others part capacity same h k = k
+EndsIn-then old middle new (Err (stops.Device stop)) entry mid now lines more replies others part capacity same h k = k
+EndsIn-then old middle new (Err stops.Sink) entry mid now lines more replies others part capacity same h (reply, next, answers, pages, cut, stands) = (
   reply,
   next,
-  subst (λ (all : List Reply). AnswersOn old.capacity entry old.head updates (lines ++ more) all next new.head) (sym (append_assoc replies others (reply ∷ [])))
-      (AnswersOn-append old.capacity entry old.head updates mid between next new.head lines more replies (others ++ reply ∷ []) same h
-      (AnswersOn-moved old middle mid next between (updates_of updates replies) new.head more (others ++ reply ∷ []) capacity head answers)),
+  subst (λ (all : List Reply). AnswersOn old.capacity entry (lines ++ more) all next) (sym (append_assoc replies others (reply ∷ [])))
+      (AnswersOn-append old.capacity entry mid next lines more replies (others ++ reply ∷ []) same h
+      (subst (λ (c : ℕ). AnswersOn c mid more (others ++ reply ∷ []) next) capacity answers)),
+  pages,
   cut,
   stands,
 )
@@ -383,27 +369,25 @@ Made-then first second third entry mid one two stood a b =
     (last, subst (λ (d : Option Device). Made first.history third.history None entry (one ++ two) (closed d)) all.last all)
 
 -- what the first of two runs answered, and then the second from where it ended
-Answered-then : (old mid new : World) (ending : Ending) (entry : State) (updates : ℕ) (lines more : List (List ℕ)) (replies others : List Reply) (none part : List ℕ)
-    → IsLater old mid → length replies ≡ length lines → (p : Answered old mid (Ok tt) entry updates lines replies none) → Answered mid new ending p.now (updates_of updates replies) more others part
-    → Answered old new ending entry updates (lines ++ more) (replies ++ others) part
-Answered-then old mid new ending entry updates lines more replies others none part later same p q =
-    let answers = answers_of old.capacity entry old.head updates lines replies p.now p.pages p.answers in
-    let made = Made-then old mid new entry p.now p.marks q.marks p.ends.0 p.made q.made in
-    let more_answers = AnswersOn-moved old mid p.now q.now p.pages (updates_of updates replies) q.pages more others later.capacity p.ends.1 q.answers in
+Answered-then : (old mid new : World) (ending : Ending) (entry : Standing) (lines more : List (List ℕ)) (replies others : List Reply) (none part : List ℕ)
+    → IsLater old mid → length replies ≡ length lines → (p : Answered old mid (Ok tt) entry lines replies none) → Answered mid new ending p.now more others part
+    → Answered old new ending entry (lines ++ more) (replies ++ others) part
+Answered-then old mid new ending entry lines more replies others none part later same p q =
+    let answers = answers_of old.capacity entry lines replies p.now p.answers in
+    let made = Made-then old mid new entry.state p.now.state p.marks q.marks p.ends.0 p.made q.made in
     record {
       now = q.now;
-      pages = q.pages;
-      answers = AnswersOn-append old.capacity entry old.head updates p.now p.pages q.now q.pages lines more replies others same p.answers more_answers;
-      seen = SeenOn-append old.capacity mid.history new.history (moment old.history) entry old.head updates p.now p.pages q.now q.pages lines more replies others q.made.passes.extends
-          p.made.passes.extends.later same p.seen (SeenOn-moved old mid new (moment mid.history) p.now q.now p.pages (updates_of updates replies) q.pages more others later.capacity p.ends.1 q.seen);
-      near = subst (λ (n : ℕ). IsNear ending n (upgrade_of q.now) (lines ++ more) (replies ++ others) q.pages new.head) (sym (updates_of-append updates replies others))
-          (IsNear-then ending (updates_of (updates_of updates replies) others) (upgrade_of q.now) lines more replies others q.pages new.head same q.near);
-      ends = EndsIn-then old mid new ending entry p.now q.now updates lines more replies others part p.pages q.pages later.capacity p.ends.1 same p.answers q.ends;
+      answers = AnswersOn-append old.capacity entry p.now q.now lines more replies others same p.answers (subst (λ (c : ℕ). AnswersOn c p.now more others q.now) later.capacity q.answers);
+      seen = SeenOn-append old.capacity mid.history new.history (moment old.history) entry p.now q.now lines more replies others q.made.passes.extends
+          p.made.passes.extends.later same p.seen (subst (λ (c : ℕ). SeenOn c new.history (moment mid.history) p.now more others q.now) later.capacity q.seen);
+      near = IsNear-then ending q.now lines more replies others new.head same q.near;
+      ends = EndsIn-then old mid new ending entry p.now q.now lines more replies others part later.capacity same p.answers q.ends;
       ahead = q.ahead;
       is_ahead = q.is_ahead;
       marks = p.marks ++ q.marks;
-      are = subst (λ (all : List Reply). AreMarks entry (lines ++ more) all (p.marks ++ q.marks)) (sym (append_assoc replies others q.ahead))
-          (AreMarks-then entry p.now lines more replies (others ++ q.ahead) p.marks q.marks same answers made.0 (AreMarks-all entry lines replies p.ahead p.marks p.is_ahead p.are) q.are);
+      are = subst (λ (all : List Reply). AreMarks entry.state (lines ++ more) all (p.marks ++ q.marks)) (sym (append_assoc replies others q.ahead))
+          (AreMarks-then entry.state p.now.state lines more replies (others ++ q.ahead) p.marks q.marks same answers made.0
+          (AreMarks-all entry.state lines replies p.ahead p.marks p.is_ahead p.are) q.are);
       made = made.1;
     }
 
@@ -432,8 +416,11 @@ Replied-then tells old mid new last ending lines more put others p q =
       looks = looks_then tells old mid new lines more _ _ refl p.looks q.looks;
       answered = λ told entry updates rep paid.
           let first = p.answered told entry updates rep paid in
-          Answered-then old mid new ending entry updates lines more p.replies q.replies p.part q.part p.later p.many first
-          (q.answered told first.now (updates_of updates p.replies) first.ends.0 (p.enough updates paid));
+          let still : AreEnough mid.session first.now.updates = subst (λ (n : ℕ). AreEnough mid.session n)
+              (sym (updates_on old.capacity (standing entry old.head updates) lines p.replies first.now first.answers)) (p.enough updates paid) in
+          Answered-then old mid new ending (standing entry old.head updates) lines more p.replies q.replies p.part q.part p.later p.many first
+          (subst (λ (n : ℕ). Answered mid new ending (standing first.now.state n first.now.updates) more q.replies q.part) first.ends.1
+          (q.answered told first.now.state first.now.updates first.ends.0 still));
     }
 
 AreMany-longer : (stop : Stop) (a b c : ℕ) → b ≤ c → IsOfLine stop → AreMany a b (Err stop) → AreMany a c (Err stop)
@@ -459,13 +446,13 @@ IsEndingAt-longer tells now stops.Limit lines more replies h = tt
 IsEndingAt-longer tells now stops.Sink lines more replies h = tt
 IsEndingAt-longer tells now (stops.Device stop) lines more replies h = IsStopAt-longer tells now stop lines more replies h
 
-EndsIn-longer : (old new : World) (stop : Stop) (entry now : State) (updates : ℕ) (lines more : List (List ℕ)) (replies : List Reply) (part : List ℕ) (pages : ℕ)
-    → EndsIn old new entry updates lines replies part now pages (Err stop) → EndsIn old new entry updates (lines ++ more) replies part now pages (Err stop)
-EndsIn-longer old new stops.Source entry now updates lines more replies part pages k = k
-EndsIn-longer old new stops.Limit entry now updates lines more replies part pages k = k
-EndsIn-longer old new (stops.Device stop) entry now updates lines more replies part pages k = k
-EndsIn-longer old new stops.Sink entry now updates lines more replies part pages (reply, next, answers, cut, stands) =
-    (reply, next, AnswersOn-longer old.capacity entry old.head updates next new.head lines more (replies ++ reply ∷ []) answers, cut, stands)
+EndsIn-longer : (old new : World) (stop : Stop) (entry now : Standing) (lines more : List (List ℕ)) (replies : List Reply) (part : List ℕ)
+    → EndsIn old new entry lines replies part now (Err stop) → EndsIn old new entry (lines ++ more) replies part now (Err stop)
+EndsIn-longer old new stops.Source entry now lines more replies part k = k
+EndsIn-longer old new stops.Limit entry now lines more replies part k = k
+EndsIn-longer old new (stops.Device stop) entry now lines more replies part k = k
+EndsIn-longer old new stops.Sink entry now lines more replies part (reply, next, answers, pages, cut, stands) =
+    (reply, next, AnswersOn-longer old.capacity entry next lines more (replies ++ reply ∷ []) answers, pages, cut, stands)
 
 -- a run that stopped at a line may have had more of them
 pub Replied-longer : (tells : Type 0) (old new : World) (last : DeviceStop → List ℕ) (stop : Stop) (lines more : List (List ℕ)) (put : List ℕ)
@@ -485,11 +472,10 @@ Replied-longer tells old new last stop lines more put line p = record {
   looks = looks_longer tells old new lines more _ _ (λ ok. absurd cc) p.looks;
   answered = λ told entry updates rep enough. let first = p.answered told entry updates rep enough in record {
     now = first.now;
-    pages = first.pages;
-    answers = AnswersOn-longer old.capacity entry old.head updates first.now first.pages lines more p.replies first.answers;
-    seen = SeenOn-longer old.capacity new.history (moment old.history) entry old.head updates first.now first.pages lines more p.replies first.seen;
-    near = IsNear-longer stop (updates_of updates p.replies) (upgrade_of first.now) lines more p.replies first.pages new.head first.near;
-    ends = EndsIn-longer old new stop entry first.now updates lines more p.replies p.part first.pages first.ends;
+    answers = AnswersOn-longer old.capacity (standing entry old.head updates) first.now lines more p.replies first.answers;
+    seen = SeenOn-longer old.capacity new.history (moment old.history) (standing entry old.head updates) first.now lines more p.replies first.seen;
+    near = IsNear-longer stop first.now lines more p.replies new.head first.near;
+    ends = EndsIn-longer old new stop (standing entry old.head updates) first.now lines more p.replies p.part first.ends;
     ahead = first.ahead;
     is_ahead = first.is_ahead;
     marks = first.marks;
@@ -518,7 +504,7 @@ Handled-longer tells old new last stop lines more a b line p =
 -- lines that have their replies, and then a stop
 stopped : (tells : Type 0) (old new : World) (last : DeviceStop → List ℕ) (stop : Stop) (lines : List (List ℕ)) (put : List ℕ) (p : Replied tells ⊥ old new last (Ok tt) lines put)
     → IsBehind line_of last p.part (Err stop) → AreMany (length p.replies) (length lines) (Err stop) → IsEndingAt tells ⊥ new p.replies lines (Err stop)
-    → ((entry : State) (updates : ℕ) → Answered old new (Ok tt) entry updates lines p.replies p.part → Answered old new (Err stop) entry updates lines p.replies p.part)
+    → ((entry : Standing) → Answered old new (Ok tt) entry lines p.replies p.part → Answered old new (Err stop) entry lines p.replies p.part)
     → Replied tells ⊥ old new last (Err stop) lines put
 stopped tells old new last stop lines put p behind many damage answered = record {
   replies = p.replies;
@@ -533,7 +519,7 @@ stopped tells old new last stop lines put p behind many damage answered = record
   full = p.full;
   enough = λ updates enough. tt;
   looks = looks_weaker tells old new lines _ _ (λ ok. absurd cc) p.looks;
-  answered = λ told entry updates rep enough. answered entry updates (p.answered told entry updates rep enough);
+  answered = λ told entry updates rep enough. answered (standing entry old.head updates) (p.answered told entry updates rep enough);
 }
 
 -- the input ended or failed before a next line: no line is left without its reply
@@ -541,9 +527,9 @@ Replied-cut : (tells : Type 0) (old new : World) (last : DeviceStop → List ℕ
     → Replied tells ⊥ old new last (Ok tt) lines put → Replied tells ⊥ old new last (Err stops.Source) lines put × Replied tells ⊥ old new last (Err stops.Limit) lines put
 Replied-cut tells old new last lines put p = (
   stopped tells old new last stops.Source lines put p p.behind p.many tt
-      (λ entry updates f. record { now = f.now; pages = f.pages; answers = f.answers; seen = f.seen; ends = f.ends; near = f.near; ahead = f.ahead; is_ahead = f.is_ahead; marks = f.marks; are = f.are; made = f.made }),
+      (λ entry f. record { now = f.now; answers = f.answers; seen = f.seen; ends = f.ends; near = f.near; ahead = f.ahead; is_ahead = f.is_ahead; marks = f.marks; are = f.are; made = f.made }),
   stopped tells old new last stops.Limit lines put p p.behind p.many tt
-      (λ entry updates f. record { now = f.now; pages = f.pages; answers = f.answers; seen = f.seen; ends = f.ends; near = f.near; ahead = f.ahead; is_ahead = f.is_ahead; marks = f.marks; are = f.are; made = f.made }),
+      (λ entry f. record { now = f.now; answers = f.answers; seen = f.seen; ends = f.ends; near = f.near; ahead = f.ahead; is_ahead = f.is_ahead; marks = f.marks; are = f.are; made = f.made }),
 )
 
 pub Handled-cut : (tells : Type 0) (old new : World) (last : DeviceStop → List ℕ) (lines : List (List ℕ)) (a b : Option (List ℕ))
@@ -568,7 +554,7 @@ Handled-line tells old new last line reply (Err (stops.Device stop)) a b later d
 pub turned_bad : (w : World) (entry : State) (updates : ℕ) (line : List ℕ) → IsBad line → Stood w entry → Turned w w entry updates line Bad
 turned_bad w entry updates line bad rep = (
   entry,
-  inr (bad, refl, refl, refl),
+  inr (bad, refl, refl),
   rep,
   Turns-not w.history w.history (Leaves entry.device) (Leaves entry.device) (During-start w.history (Leaves entry.device) (stands_leaves w.history.present _ rep.there.device)),
   saw_plain w.history w.history entry.device w.head Bad (Extends-refl w.history) (λ told nodes blocks e. cc),
@@ -593,7 +579,7 @@ turned_command tells old new entry updates line command reply told spells ready 
     let added = adds_device tells old.history.present entry command reply (needed_of old.session) old.head new.head told rep.there.device pages in
     let changes = changes_of old.session old.history.present entry.device entry.session old.head ready rep.there.session in
     let turn = turning entry.device entry.session command (old.capacity - old.head) (needed_of old.session) updates old.head new.head reply now enough changes.0 changes.1 is added in
-    (now, inl (command, spells, turn.0, turn.1, turn.2, turn.3), record { there = after; served = served }, turns, saw)
+    (now, inl (command, spells, turn.0, turn.1, turn.2, turn.3, refl), record { there = after; served = served }, turns, saw)
 
 -- a reply that too few pages are free is true for so many updates as are enough
 short_of : (tells : Type 0) (image : Image) (command : Command) (changes updates head capacity : ℕ) → changes ≤ 41 * updates → head ≤ capacity → LacksPages tells image command changes head capacity → IsShort command updates head capacity

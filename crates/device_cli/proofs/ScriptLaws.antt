@@ -27,7 +27,7 @@ use Rattle.line_run.specs.Puts.{IsBehind, IsFirstPart, damage_line, AreLines, Ha
 use Rattle.device_cli.specs.Causes.{Draws, PutsEntry, HasCalled, HasLacked, MeetsRecord, IsOf}
 use Rattle.device_cli.specs.Drawing.{DrewUntil}
 use Rattle.device_cli.specs.Added.{left_by, HasAdded, IsNear}
-use Rattle.device_cli.specs.Pages.{needed_for, updates_after, updates_of, upgrade_of, most_upgrade, TurnOn, AnswersOn, AreFew, IfNext}
+use Rattle.device_cli.specs.Pages.{needed_for, upgrade_of, most_upgrade, Standing, standing, TurnOn, AnswersOn, AreFew, IfNext}
 use Rattle.device_cli.specs.Seen.{mapped_of}
 use Rattle.device_cli.proofs.PageLaws.{pages_cases}
 use Rattle.device_cli.proofs.RoomLaws.{answer_room}
@@ -203,46 +203,46 @@ not_ended n p q r (inl e) = p e
 not_ended n p q r (inr (inl e)) = q e
 not_ended n p q r (inr (inr e)) = r e
 
-ends : (old new : World) (ending : Ending) (entry now : State) (updates : ℕ) (lines : List (List ℕ)) (replies : List Reply) (part : List ℕ) (pages : ℕ)
-    → EndsIn old new entry updates lines replies part now pages ending → (exit_of ending ≡ 0) ⊎ (exit_of ending ≡ 3) ⊎ (exit_of ending ≡ 12)
-    → StandsFor new.history.present now.device × (new.head ≡ pages)
-ends old new (Ok done) entry now updates lines replies part pages h e = (h.0.there.device, h.1)
-ends old new (Err stops.Source) entry now updates lines replies part pages h e = (h.0.there.device, h.1)
-ends old new (Err stops.Limit) entry now updates lines replies part pages h e = (h.0.there.device, h.1)
-ends old new (Err stops.Sink) entry now updates lines replies part pages h e = absurd (not_ended 4 (λ p. omega (arith, p)) (λ p. omega (arith, p)) (λ p. omega (arith, p)) e)
-ends old new (Err (stops.Device device.Platform)) entry now updates lines replies part pages h e = absurd (not_ended 5 (λ p. omega (arith, p)) (λ p. omega (arith, p)) (λ p. omega (arith, p)) e)
-ends old new (Err (stops.Device device.Tape)) entry now updates lines replies part pages h e = absurd (not_ended 6 (λ p. omega (arith, p)) (λ p. omega (arith, p)) (λ p. omega (arith, p)) e)
-ends old new (Err (stops.Device device.Ledger)) entry now updates lines replies part pages h e = absurd (not_ended 7 (λ p. omega (arith, p)) (λ p. omega (arith, p)) (λ p. omega (arith, p)) e)
-ends old new (Err (stops.Device device.Memory)) entry now updates lines replies part pages h e = absurd (not_ended 11 (λ p. omega (arith, p)) (λ p. omega (arith, p)) (λ p. omega (arith, p)) e)
-ends old new (Err (stops.Device device.BadRoot)) entry now updates lines replies part pages h e = absurd h
-ends old new (Err (stops.Device (device.BadRecord addr))) entry now updates lines replies part pages h e = absurd h
+ends : (old new : World) (ending : Ending) (entry now : Standing) (lines : List (List ℕ)) (replies : List Reply) (part : List ℕ)
+    → EndsIn old new entry lines replies part now ending → (exit_of ending ≡ 0) ⊎ (exit_of ending ≡ 3) ⊎ (exit_of ending ≡ 12)
+    → StandsFor new.history.present now.state.device × (new.head ≡ now.pages)
+ends old new (Ok done) entry now lines replies part h e = (h.0.there.device, h.1)
+ends old new (Err stops.Source) entry now lines replies part h e = (h.0.there.device, h.1)
+ends old new (Err stops.Limit) entry now lines replies part h e = (h.0.there.device, h.1)
+ends old new (Err stops.Sink) entry now lines replies part h e = absurd (not_ended 4 (λ p. omega (arith, p)) (λ p. omega (arith, p)) (λ p. omega (arith, p)) e)
+ends old new (Err (stops.Device device.Platform)) entry now lines replies part h e = absurd (not_ended 5 (λ p. omega (arith, p)) (λ p. omega (arith, p)) (λ p. omega (arith, p)) e)
+ends old new (Err (stops.Device device.Tape)) entry now lines replies part h e = absurd (not_ended 6 (λ p. omega (arith, p)) (λ p. omega (arith, p)) (λ p. omega (arith, p)) e)
+ends old new (Err (stops.Device device.Ledger)) entry now lines replies part h e = absurd (not_ended 7 (λ p. omega (arith, p)) (λ p. omega (arith, p)) (λ p. omega (arith, p)) e)
+ends old new (Err (stops.Device device.Memory)) entry now lines replies part h e = absurd (not_ended 11 (λ p. omega (arith, p)) (λ p. omega (arith, p)) (λ p. omega (arith, p)) e)
+ends old new (Err (stops.Device device.BadRoot)) entry now lines replies part h e = absurd h
+ends old new (Err (stops.Device (device.BadRecord addr))) entry now lines replies part h e = absurd h
 
 -- how an ending of this status is that of a failed output
-next : (old new : World) (ending : Ending) (entry now : State) (updates : ℕ) (lines : List (List ℕ)) (replies : List Reply) (part : List ℕ) (pages : ℕ)
-    → EndsIn old new entry updates lines replies part now pages ending → exit_of ending ≡ 4 → EndsIn old new entry updates lines replies part now pages (Err stops.Sink)
-next old new (Ok done) entry now updates lines replies part pages h e = absurd (omega (arith, e))
-next old new (Err stops.Source) entry now updates lines replies part pages h e = absurd (omega (arith, e))
-next old new (Err stops.Limit) entry now updates lines replies part pages h e = absurd (omega (arith, e))
-next old new (Err stops.Sink) entry now updates lines replies part pages h e = h
-next old new (Err (stops.Device device.Platform)) entry now updates lines replies part pages h e = absurd (omega (arith, e))
-next old new (Err (stops.Device device.Tape)) entry now updates lines replies part pages h e = absurd (omega (arith, e))
-next old new (Err (stops.Device device.Ledger)) entry now updates lines replies part pages h e = absurd (omega (arith, e))
-next old new (Err (stops.Device device.Memory)) entry now updates lines replies part pages h e = absurd (omega (arith, e))
-next old new (Err (stops.Device device.BadRoot)) entry now updates lines replies part pages h e = absurd h
-next old new (Err (stops.Device (device.BadRecord addr))) entry now updates lines replies part pages h e = absurd h
+next : (old new : World) (ending : Ending) (entry now : Standing) (lines : List (List ℕ)) (replies : List Reply) (part : List ℕ)
+    → EndsIn old new entry lines replies part now ending → exit_of ending ≡ 4 → EndsIn old new entry lines replies part now (Err stops.Sink)
+next old new (Ok done) entry now lines replies part h e = absurd (omega (arith, e))
+next old new (Err stops.Source) entry now lines replies part h e = absurd (omega (arith, e))
+next old new (Err stops.Limit) entry now lines replies part h e = absurd (omega (arith, e))
+next old new (Err stops.Sink) entry now lines replies part h e = h
+next old new (Err (stops.Device device.Platform)) entry now lines replies part h e = absurd (omega (arith, e))
+next old new (Err (stops.Device device.Tape)) entry now lines replies part h e = absurd (omega (arith, e))
+next old new (Err (stops.Device device.Ledger)) entry now lines replies part h e = absurd (omega (arith, e))
+next old new (Err (stops.Device device.Memory)) entry now lines replies part h e = absurd (omega (arith, e))
+next old new (Err (stops.Device device.BadRoot)) entry now lines replies part h e = absurd h
+next old new (Err (stops.Device (device.BadRecord addr))) entry now lines replies part h e = absurd h
 
-sound : (old new : World) (ending : Ending) (entry now : State) (updates : ℕ) (lines : List (List ℕ)) (replies : List Reply) (part : List ℕ) (pages : ℕ)
-    → EndsIn old new entry updates lines replies part now pages ending → (exit_of ending ≢ 8) × (exit_of ending ≢ 9)
-sound old new (Ok done) entry now updates lines replies part pages h = (λ e. omega (arith, e), λ e. omega (arith, e))
-sound old new (Err stops.Source) entry now updates lines replies part pages h = (λ e. omega (arith, e), λ e. omega (arith, e))
-sound old new (Err stops.Limit) entry now updates lines replies part pages h = (λ e. omega (arith, e), λ e. omega (arith, e))
-sound old new (Err stops.Sink) entry now updates lines replies part pages h = (λ e. omega (arith, e), λ e. omega (arith, e))
-sound old new (Err (stops.Device device.Platform)) entry now updates lines replies part pages h = (λ e. omega (arith, e), λ e. omega (arith, e))
-sound old new (Err (stops.Device device.Tape)) entry now updates lines replies part pages h = (λ e. omega (arith, e), λ e. omega (arith, e))
-sound old new (Err (stops.Device device.Ledger)) entry now updates lines replies part pages h = (λ e. omega (arith, e), λ e. omega (arith, e))
-sound old new (Err (stops.Device device.Memory)) entry now updates lines replies part pages h = (λ e. omega (arith, e), λ e. omega (arith, e))
-sound old new (Err (stops.Device device.BadRoot)) entry now updates lines replies part pages h = absurd h
-sound old new (Err (stops.Device (device.BadRecord addr))) entry now updates lines replies part pages h = absurd h
+sound : (old new : World) (ending : Ending) (entry now : Standing) (lines : List (List ℕ)) (replies : List Reply) (part : List ℕ)
+    → EndsIn old new entry lines replies part now ending → (exit_of ending ≢ 8) × (exit_of ending ≢ 9)
+sound old new (Ok done) entry now lines replies part h = (λ e. omega (arith, e), λ e. omega (arith, e))
+sound old new (Err stops.Source) entry now lines replies part h = (λ e. omega (arith, e), λ e. omega (arith, e))
+sound old new (Err stops.Limit) entry now lines replies part h = (λ e. omega (arith, e), λ e. omega (arith, e))
+sound old new (Err stops.Sink) entry now lines replies part h = (λ e. omega (arith, e), λ e. omega (arith, e))
+sound old new (Err (stops.Device device.Platform)) entry now lines replies part h = (λ e. omega (arith, e), λ e. omega (arith, e))
+sound old new (Err (stops.Device device.Tape)) entry now lines replies part h = (λ e. omega (arith, e), λ e. omega (arith, e))
+sound old new (Err (stops.Device device.Ledger)) entry now lines replies part h = (λ e. omega (arith, e), λ e. omega (arith, e))
+sound old new (Err (stops.Device device.Memory)) entry now lines replies part h = (λ e. omega (arith, e), λ e. omega (arith, e))
+sound old new (Err (stops.Device device.BadRoot)) entry now lines replies part h = absurd h
+sound old new (Err (stops.Device (device.BadRecord addr))) entry now lines replies part h = absurd h
 
 none_is : (ahead : List Reply) → ahead ≡ [] → length ahead ≤ 1
 none_is [] e = omega arith
@@ -308,45 +308,45 @@ HasAdded-none most lines replies pages now none (inl e) = e
 HasAdded-none most lines replies pages now none (inr (rises, next)) =
     IfNext-any (now ≡ pages) _ replies lines (λ line h. omega (arith, rises, h.2, none h.0)) next
 
-near : (ending : Ending) (updates upgrade : ℕ) (lines : List (List ℕ)) (replies : List Reply) (pages now : ℕ) → IsNear ending updates upgrade lines replies pages now
-    → HasAdded (λ command. needed_for command (41 * updates) upgrade) lines replies pages now
-near (Ok done) updates upgrade lines replies pages now h = inl h
-near (Err stops.Source) updates upgrade lines replies pages now h = inl h
-near (Err stops.Limit) updates upgrade lines replies pages now h = inl h
-near (Err stops.Sink) updates upgrade lines replies pages now h = h
-near (Err (stops.Device stop)) updates upgrade lines replies pages now h =
-    HasAdded-more (λ command. left_by stop command (41 * updates) upgrade) (λ command. needed_for command (41 * updates) upgrade) lines replies pages now (λ command. left_most stop command (41 * updates) upgrade) h
+near : (ending : Ending) (met : Standing) (lines : List (List ℕ)) (replies : List Reply) (now : ℕ) → IsNear ending met lines replies now
+    → HasAdded (λ command. needed_for command (41 * met.updates) (upgrade_of met.state)) lines replies met.pages now
+near (Ok done) met lines replies now h = inl h
+near (Err stops.Source) met lines replies now h = inl h
+near (Err stops.Limit) met lines replies now h = inl h
+near (Err stops.Sink) met lines replies now h = h
+near (Err (stops.Device stop)) met lines replies now h =
+    HasAdded-more (λ command. left_by stop command (41 * met.updates) (upgrade_of met.state)) (λ command. needed_for command (41 * met.updates) (upgrade_of met.state)) lines replies met.pages now (λ command. left_most stop command (41 * met.updates) (upgrade_of met.state)) h
 
-keyless : (ending : Ending) (updates upgrade : ℕ) (lines : List (List ℕ)) (replies : List Reply) (pages now : ℕ) → IsNear ending updates upgrade lines replies pages now
-    → exit_of ending ≡ 6 → HasAdded (λ command. left_by device.Tape command (41 * updates) upgrade) lines replies pages now
-keyless (Ok done) updates upgrade lines replies pages now h e = absurd (omega (arith, e))
-keyless (Err stops.Source) updates upgrade lines replies pages now h e = absurd (omega (arith, e))
-keyless (Err stops.Limit) updates upgrade lines replies pages now h e = absurd (omega (arith, e))
-keyless (Err stops.Sink) updates upgrade lines replies pages now h e = absurd (omega (arith, e))
-keyless (Err (stops.Device device.Tape)) updates upgrade lines replies pages now h e = h
-keyless (Err (stops.Device device.Platform)) updates upgrade lines replies pages now h e = absurd (omega (arith, e))
-keyless (Err (stops.Device device.Ledger)) updates upgrade lines replies pages now h e = absurd (omega (arith, e))
-keyless (Err (stops.Device device.Memory)) updates upgrade lines replies pages now h e = absurd (omega (arith, e))
-keyless (Err (stops.Device device.BadRoot)) updates upgrade lines replies pages now h e = absurd (omega (arith, e))
-keyless (Err (stops.Device (device.BadRecord addr))) updates upgrade lines replies pages now h e = absurd (omega (arith, e))
+keyless : (ending : Ending) (met : Standing) (lines : List (List ℕ)) (replies : List Reply) (now : ℕ) → IsNear ending met lines replies now
+    → exit_of ending ≡ 6 → HasAdded (λ command. left_by device.Tape command (41 * met.updates) (upgrade_of met.state)) lines replies met.pages now
+keyless (Ok done) met lines replies now h e = absurd (omega (arith, e))
+keyless (Err stops.Source) met lines replies now h e = absurd (omega (arith, e))
+keyless (Err stops.Limit) met lines replies now h e = absurd (omega (arith, e))
+keyless (Err stops.Sink) met lines replies now h e = absurd (omega (arith, e))
+keyless (Err (stops.Device device.Tape)) met lines replies now h e = h
+keyless (Err (stops.Device device.Platform)) met lines replies now h e = absurd (omega (arith, e))
+keyless (Err (stops.Device device.Ledger)) met lines replies now h e = absurd (omega (arith, e))
+keyless (Err (stops.Device device.Memory)) met lines replies now h e = absurd (omega (arith, e))
+keyless (Err (stops.Device device.BadRoot)) met lines replies now h e = absurd (omega (arith, e))
+keyless (Err (stops.Device (device.BadRecord addr))) met lines replies now h e = absurd (omega (arith, e))
 
-exact : (ending : Ending) (updates upgrade : ℕ) (lines : List (List ℕ)) (replies : List Reply) (pages now : ℕ) → IsNear ending updates upgrade lines replies pages now → exit_of ending ≡ 11 → now ≡ pages
-exact (Ok done) updates upgrade lines replies pages now h e = absurd (omega (arith, e))
-exact (Err stops.Source) updates upgrade lines replies pages now h e = absurd (omega (arith, e))
-exact (Err stops.Limit) updates upgrade lines replies pages now h e = absurd (omega (arith, e))
-exact (Err stops.Sink) updates upgrade lines replies pages now h e = absurd (omega (arith, e))
-exact (Err (stops.Device device.Memory)) updates upgrade lines replies pages now h e = HasAdded-none _ lines replies pages now (λ command. omega arith) h
-exact (Err (stops.Device device.Platform)) updates upgrade lines replies pages now h e = absurd (omega (arith, e))
-exact (Err (stops.Device device.Ledger)) updates upgrade lines replies pages now h e = absurd (omega (arith, e))
-exact (Err (stops.Device device.Tape)) updates upgrade lines replies pages now h e = absurd (omega (arith, e))
-exact (Err (stops.Device device.BadRoot)) updates upgrade lines replies pages now h e = absurd (omega (arith, e))
-exact (Err (stops.Device (device.BadRecord addr))) updates upgrade lines replies pages now h e = absurd (omega (arith, e))
+exact : (ending : Ending) (met : Standing) (lines : List (List ℕ)) (replies : List Reply) (now : ℕ) → IsNear ending met lines replies now → exit_of ending ≡ 11 → now ≡ met.pages
+exact (Ok done) met lines replies now h e = absurd (omega (arith, e))
+exact (Err stops.Source) met lines replies now h e = absurd (omega (arith, e))
+exact (Err stops.Limit) met lines replies now h e = absurd (omega (arith, e))
+exact (Err stops.Sink) met lines replies now h e = absurd (omega (arith, e))
+exact (Err (stops.Device device.Memory)) met lines replies now h e = HasAdded-none _ lines replies met.pages now (λ command. omega arith) h
+exact (Err (stops.Device device.Platform)) met lines replies now h e = absurd (omega (arith, e))
+exact (Err (stops.Device device.Ledger)) met lines replies now h e = absurd (omega (arith, e))
+exact (Err (stops.Device device.Tape)) met lines replies now h e = absurd (omega (arith, e))
+exact (Err (stops.Device device.BadRoot)) met lines replies now h e = absurd (omega (arith, e))
+exact (Err (stops.Device (device.BadRecord addr))) met lines replies now h e = absurd (omega (arith, e))
 
 -- how many pages there are at most, after some replies and with what the command of the next line added
-bound : (capacity before : ℕ) (entry : State) (lines : List (List ℕ)) (replies : List Reply) (state : State) (pages : ℕ) → IsWithin entry (mapped_of entry.device) → AnswersOn capacity entry before 0 lines replies state pages
-    → pages + 41 * updates_of 0 replies ≤ most_pages before entry replies
-bound capacity before entry lines replies state pages held answers =
-    let most = answers_bound capacity entry before 0 lines replies state pages (mapped_of entry.device) (most_upgrade (mapped_of entry.device + length replies)) held (omega arith) answers in
+bound : (capacity before : ℕ) (entry : State) (lines : List (List ℕ)) (replies : List Reply) (now : Standing) → IsWithin entry (mapped_of entry.device) → AnswersOn capacity (standing entry before 0) lines replies now
+    → now.pages + 41 * now.updates ≤ most_pages before entry replies
+bound capacity before entry lines replies now held answers =
+    let most = answers_bound capacity (standing entry before 0) lines replies now (mapped_of entry.device) (most_upgrade (mapped_of entry.device + length replies)) held (omega arith) answers in
     omega (arith, most)
 
 -- what the command of the next line added is what a commit or an update needs, or as much as an upgrade needs
@@ -371,30 +371,29 @@ IfNext-out Q Y [] (line ∷ lines) h = (h.0, h.1)
 IfNext-out Q Y (reply ∷ replies) [] h = absurd h
 IfNext-out Q Y (reply ∷ replies) (line ∷ lines) h = IfNext-out Q Y replies lines h
 
-cut_bound : (before : ℕ) (entry : State) (lines : List (List ℕ)) (replies : List Reply) (updates upgrade pages now more : ℕ) → pages + 41 * updates ≤ most_pages before entry replies → upgrade ≤ more
-    → HasAdded (λ command. needed_for command (41 * updates) upgrade) lines replies pages now
+cut_bound : (before : ℕ) (entry : State) (lines : List (List ℕ)) (replies : List Reply) (met : Standing) (now more : ℕ) → met.pages + 41 * met.updates ≤ most_pages before entry replies → upgrade_of met.state ≤ more
+    → HasAdded (λ command. needed_for command (41 * met.updates) (upgrade_of met.state)) lines replies met.pages now
     → (now ≤ most_pages before entry replies + 1) ⊎ (IfNext replies lines (λ line. Spells line Upgrade) × (now ≤ most_pages before entry replies + more))
-cut_bound before entry lines replies updates upgrade pages now more within few (inl same) = inl (omega (arith, same, within))
-cut_bound before entry lines replies updates upgrade pages now more within few (inr (rises, next)) =
+cut_bound before entry lines replies met now more within few (inl same) = inl (omega (arith, same, within))
+cut_bound before entry lines replies met now more within few (inr (rises, next)) =
     elim (next_either (now ≤ most_pages before entry replies + 1) _ (λ line. Spells line Upgrade × (now ≤ most_pages before entry replies + more)) replies lines
-    (λ line h. cut_needs line h.0 (41 * updates) upgrade pages now (most_pages before entry replies) more h.1 within few h.2) next) [
+    (λ line h. cut_needs line h.0 (41 * met.updates) (upgrade_of met.state) met.pages now (most_pages before entry replies) more h.1 within few h.2) next) [
       | inl one ↦ inl one
       | inr upgrades ↦ inr (IfNext-out (λ line. Spells line Upgrade) (now ≤ most_pages before entry replies + more) replies lines upgrades)
     ]
 
 -- pages are only added
-rises_turn : (capacity : ℕ) (old : State) (pages updates : ℕ) (line : List ℕ) (reply : Reply) (new : State) (pages_now : ℕ) → TurnOn capacity old pages updates line reply new pages_now → pages ≤ pages_now
-rises_turn capacity old pages updates line reply new pages_now (inl (command, spells, needed, needs, is, added)) = elim (pages_cases reply needed pages) [
+rises_turn : (capacity : ℕ) (old : Standing) (line : List ℕ) (reply : Reply) (new : Standing) → TurnOn capacity old line reply new → old.pages ≤ new.pages
+rises_turn capacity old line reply new (inl (command, spells, needed, needs, is, added, updated)) = elim (pages_cases reply needed old.pages) [
   | inl none ↦ omega (arith, none, added)
   | inr some ↦ omega (arith, some, added)
 ]
-rises_turn capacity old pages updates line reply new pages_now (inr (bad, is, same, added)) = omega (arith, added)
+rises_turn capacity old line reply new (inr (bad, is, same)) = rw same (omega arith)
 
-rises_on : (capacity : ℕ) (old : State) (pages updates : ℕ) (lines : List (List ℕ)) (replies : List Reply) (new : State) (pages_now : ℕ) → AnswersOn capacity old pages updates lines replies new pages_now → pages ≤ pages_now
-rises_on capacity old pages updates lines [] new pages_now h = omega (arith, h.1)
-rises_on capacity old pages updates [] (reply ∷ replies) new pages_now h = absurd h
-rises_on capacity old pages updates (line ∷ lines) (reply ∷ replies) new pages_now (mid, between, turn, rest) =
-    omega (arith, rises_turn capacity old pages updates line reply mid between turn, rises_on capacity mid between (updates_after reply updates) lines replies new pages_now rest)
+rises_on : (capacity : ℕ) (old : Standing) (lines : List (List ℕ)) (replies : List Reply) (new : Standing) → AnswersOn capacity old lines replies new → old.pages ≤ new.pages
+rises_on capacity old lines [] new h = rw h (omega arith)
+rises_on capacity old [] (reply ∷ replies) new h = absurd h
+rises_on capacity old (line ∷ lines) (reply ∷ replies) new (mid, turn, rest) = omega (arith, rises_turn capacity old line reply mid turn, rises_on capacity mid lines replies new rest)
 
 -- a reply to an upgrade that too few pages were free is true for good
 few_needed : (free needed : ℕ) (counted : Counted) (state new : State) (command : Command) → (Full, new) ≡ answer (nat_lt free needed) counted state command → free < needed
@@ -407,23 +406,23 @@ few_needed free needed counted state new command is = elim (cases_lt free needed
     above : (a b : ℕ) → b ≤ a → nat_lt a b ≡ false
     above a b h = grind (arith, common_steps)
 
-few_turn : (capacity : ℕ) (old : State) (pages updates : ℕ) (line : List ℕ) (reply : Reply) (new : State) (pages_now head mapped : ℕ) → IsWithin old mapped → pages ≤ head → TurnOn capacity old pages updates line reply new pages_now
+few_turn : (capacity : ℕ) (old : Standing) (line : List ℕ) (reply : Reply) (new : Standing) (head mapped : ℕ) → IsWithin old.state mapped → old.pages ≤ head → TurnOn capacity old line reply new
     → Spells line Upgrade → reply ≡ Full → capacity - head < most_upgrade mapped
-few_turn capacity old pages updates line reply new pages_now head mapped held later (inl (command, spells, needed, needs, (counted, is), added)) upgrade e =
+few_turn capacity old line reply new head mapped held later (inl (command, spells, needed, needs, (counted, is), added, updated)) upgrade e =
     let same : command ≡ Upgrade = one_command line command Upgrade spells upgrade in
-    let most : needed ≤ upgrade_of old = subst (λ (c : Command). needed ≤ needed_for c (41 * updates) (upgrade_of old)) same needs.within in
-    let few : capacity - pages < needed = few_needed (capacity - pages) needed counted old new command (subst (λ (r : Reply). (r, new) ≡ answer (nat_lt (capacity - pages) needed) counted old command) e is) in
-    omega (arith, most, few, later, needs_within old mapped held)
-few_turn capacity old pages updates line reply new pages_now head mapped held later (inr (bad, is, same, added)) upgrade e = absurd (bad Upgrade upgrade)
+    let most : needed ≤ upgrade_of old.state = subst (λ (c : Command). needed ≤ needed_for c (41 * old.updates) (upgrade_of old.state)) same needs.within in
+    let few : capacity - old.pages < needed = few_needed (capacity - old.pages) needed counted old.state new.state command
+        (subst (λ (r : Reply). (r, new.state) ≡ answer (nat_lt (capacity - old.pages) needed) counted old.state command) e is) in
+    omega (arith, most, few, later, needs_within old.state mapped held)
+few_turn capacity old line reply new head mapped held later (inr (bad, is, same)) upgrade e = absurd (bad Upgrade upgrade)
 
-few_on : (capacity : ℕ) (old : State) (pages updates : ℕ) (lines : List (List ℕ)) (replies : List Reply) (new : State) (pages_now head mapped : ℕ) → IsWithin old mapped → pages_now ≤ head
-    → AnswersOn capacity old pages updates lines replies new pages_now → AreFew head capacity mapped lines replies
-few_on capacity old pages updates lines [] new pages_now head mapped held later h = tt
-few_on capacity old pages updates [] (reply ∷ replies) new pages_now head mapped held later h = absurd h
-few_on capacity old pages updates (line ∷ lines) (reply ∷ replies) new pages_now head mapped held later (mid, between, turn, rest) = (
-  few_turn capacity old pages updates line reply mid between head mapped held
-      (omega (arith, later, rises_turn capacity old pages updates line reply mid between turn, rises_on capacity mid between (updates_after reply updates) lines replies new pages_now rest)) turn,
-  few_on capacity mid between (updates_after reply updates) lines replies new pages_now head (mapped + 1) (turn_within capacity old pages updates line reply mid between mapped held turn) later rest,
+few_on : (capacity : ℕ) (old : Standing) (lines : List (List ℕ)) (replies : List Reply) (new : Standing) (head mapped : ℕ) → IsWithin old.state mapped → new.pages ≤ head
+    → AnswersOn capacity old lines replies new → AreFew head capacity mapped lines replies
+few_on capacity old lines [] new head mapped held later h = tt
+few_on capacity old [] (reply ∷ replies) new head mapped held later h = absurd h
+few_on capacity old (line ∷ lines) (reply ∷ replies) new head mapped held later (mid, turn, rest) = (
+  few_turn capacity old line reply mid head mapped held (omega (arith, later, rises_turn capacity old line reply mid turn, rises_on capacity mid lines replies new rest)) turn,
+  few_on capacity mid lines replies new head (mapped + 1) (turn_within capacity old line reply mid mapped held turn) later rest,
 )
 
 -- there are no fewer pages than by the replies
@@ -433,26 +432,28 @@ added_more most lines replies pages now (inr (rises, next)) = rises
 
 -- what a run answered, by its status
 answers_from : (old new : World) (ending : Ending) (entry : State) (lines : List (List ℕ)) (replies : List Reply) (part : List ℕ) → IsWithin entry (mapped_of entry.device)
-    → Answered old new ending entry 0 lines replies part → AnswersFrom old new (exit_of ending) entry lines replies part
+    → Answered old new ending (standing entry old.head 0) lines replies part → AnswersFrom old new (exit_of ending) entry lines replies part
 answers_from old new ending entry lines replies part held f =
-    let added = near ending (updates_of 0 replies) (upgrade_of f.now) lines replies f.pages new.head f.near in
-    let within = answers_within old.capacity entry old.head 0 lines replies f.now f.pages (mapped_of entry.device) held f.answers in
-    let most = bound old.capacity old.head entry lines replies f.now f.pages held f.answers in
+    let first = standing entry old.head 0 in
+    let added = near ending f.now lines replies new.head f.near in
+    let within = answers_within old.capacity first lines replies f.now (mapped_of entry.device) held f.answers in
+    let most = bound old.capacity old.head entry lines replies f.now held f.answers in
     record {
-      now = f.now;
-      pages = f.pages;
+      now = f.now.state;
+      pages = f.now.pages;
+      updates = f.now.updates;
       answers = f.answers;
       seen = f.seen;
-      ends = ends old new ending entry f.now 0 lines replies part f.pages f.ends;
-      next = next old new ending entry f.now 0 lines replies part f.pages f.ends;
-      sound = sound old new ending entry f.now 0 lines replies part f.pages f.ends;
+      ends = ends old new ending first f.now lines replies part f.ends;
+      next = next old new ending first f.now lines replies part f.ends;
+      sound = sound old new ending first f.now lines replies part f.ends;
       near = added;
-      keyless = keyless ending (updates_of 0 replies) (upgrade_of f.now) lines replies f.pages new.head f.near;
-      exact = exact ending (updates_of 0 replies) (upgrade_of f.now) lines replies f.pages new.head f.near;
+      keyless = keyless ending f.now lines replies new.head f.near;
+      exact = exact ending f.now lines replies new.head f.near;
       bound = omega (arith, most);
-      cut_bound = cut_bound old.head entry lines replies (updates_of 0 replies) (upgrade_of f.now) f.pages new.head (most_upgrade (mapped_of entry.device + length replies)) most
-          (needs_within f.now (mapped_of entry.device + length replies) within) added;
-      few = few_on old.capacity entry old.head 0 lines replies f.now f.pages new.head (mapped_of entry.device) held (added_more _ lines replies f.pages new.head added) f.answers;
+      cut_bound = cut_bound old.head entry lines replies f.now new.head (most_upgrade (mapped_of entry.device + length replies)) most
+          (needs_within f.now.state (mapped_of entry.device + length replies) within) added;
+      few = few_on old.capacity first lines replies f.now new.head (mapped_of entry.device) held (added_more _ lines replies f.now.pages new.head added) f.answers;
       ahead = f.ahead;
       one_ahead = one_ahead ending f.ahead f.is_ahead;
       none_ahead = none_ahead ending f.ahead f.is_ahead;
@@ -467,6 +468,7 @@ forget : (old : World) (drawn drawn_now : Option (List (List ℕ))) (session : O
 forget old drawn drawn_now session history head capacity reads status entry lines replies part f = record {
   now = f.now;
   pages = f.pages;
+  updates = f.updates;
   answers = f.answers;
   seen = f.seen;
   ends = f.ends;
@@ -538,51 +540,3 @@ pub made_by : (tells Before : Type 0) (old : World) (drawn drawn_now : Option (L
 made_by tells Before old drawn drawn_now session history head capacity reads ending left left_now written written_now alone r told there stands served =
     let f = r.handled.replied.answered told (closed there) 0 (record { there = alone_on old there alone stands; served = served }) (enough_alone old.session alone) in
     (f.marks, f.made)
-
--- other words: nothing is taken, nothing put, and nothing done
-pub answers_nothing : (tells : Type 0) (w : World) (left written : Option (List ℕ)) → AnswersScript tells w w 2 left left written written
-unfolding whole_lines_of
-answers_nothing tells w left written = record {
-  taken = [];
-  gave = Gave-nothing left;
-  lines = [];
-  come = inl refl;
-  replies = [];
-  part = [];
-  got = Got-nothing written;
-  few = omega arith;
-  prompt = record { before = []; last = []; parts = refl; piece = omega arith; served = omega arith };
-  all = λ e. absurd (omega (arith, e));
-  whole = λ e. absurd (not_whole 2 (λ p. omega (arith, p)) (λ p. omega (arith, p)) e);
-  no_part = λ p q r. refl;
-  bad_root = λ e. absurd (omega (arith, e));
-  bad_record = λ e. absurd (omega (arith, e));
-  no_key = λ e. absurd (omega (arith, e));
-  no_entry = λ e. absurd (omega (arith, e));
-  no_memory = λ e. absurd (omega (arith, e));
-  cut = λ e. absurd (omega (arith, e));
-  full = tt;
-  so = λ told. tt;
-  looks = λ told most last h. omega (arith, h.0);
-  answered = λ told there stands served. record {
-    now = closed there;
-    pages = w.head;
-    answers = (refl, refl);
-    seen = (refl, refl);
-    ends = λ e. absurd (not_ended 2 (λ p. omega (arith, p)) (λ p. omega (arith, p)) (λ p. omega (arith, p)) e);
-    next = λ e. absurd (omega (arith, e));
-    sound = (λ e. omega (arith, e), λ e. omega (arith, e));
-    near = inl refl;
-    keyless = λ e. absurd (omega (arith, e));
-    exact = λ e. absurd (omega (arith, e));
-    bound = omega arith;
-    cut_bound = inl (omega arith);
-    few = tt;
-    ahead = [];
-    one_ahead = omega arith;
-    none_ahead = λ p q. refl;
-    passes = passes_of w.history w.history (closed there) [] [] [] (AreMarks-none (closed there) [])
-        (made_start w.history None (closed there) (shut w.history.present there stands served)).passes;
-    exits = exits_of w.history.present (closed there) [] [] [] [] (AreMarks-none (closed there) []) stands;
-  };
-}

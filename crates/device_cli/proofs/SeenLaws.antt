@@ -2,10 +2,10 @@
 use Rattle.std.proofs.Common.{◌≡◌, ℕ, ◌≤◌, List, [], ◌∷◌, ◌++◌, Option, length, refl, subst, sym, arith}
 use Rattle.platform.specs.Image.{Image}
 use Rattle.platform.specs.History.{History, Extends, image_at, moment}
-use Rattle.sdbt_base.specs.Arrays.{Device, State}
+use Rattle.sdbt_base.specs.Arrays.{Device}
 use Rattle.script_lang.specs.Replies.{Reply}
 use Rattle.script_lang.specs.Replies as replies
-use Rattle.device_cli.specs.Pages.{updates_after, updates_of}
+use Rattle.device_cli.specs.Pages.{Standing}
 use Rattle.device_cli.specs.Seen.{IsToldOf, Saw, SeenOn}
 
 -- a reply that no seizure gave belongs to any moment
@@ -49,37 +49,33 @@ saw_later old new from device pages reply extends saw = record {
 }
 
 -- the moments were not before an earlier one either
-pub SeenOn-earlier : (capacity : ℕ) (history : History) (from earlier : ℕ) (old : State) (pages updates : ℕ) (new : State) (pages_now : ℕ) (lines : List (List ℕ)) (replies : List Reply)
-    → earlier ≤ from → SeenOn capacity history from old pages updates lines replies new pages_now → SeenOn capacity history earlier old pages updates lines replies new pages_now
-SeenOn-earlier capacity history from earlier old pages updates new pages_now lines [] before h = h
-SeenOn-earlier capacity history from earlier old pages updates new pages_now [] (reply ∷ replies) before h = absurd h
-SeenOn-earlier capacity history from earlier old pages updates new pages_now (line ∷ lines) (reply ∷ replies) before (saw, state, n, turn, rest) =
-    (record { at = saw.at; later = omega (arith, before, saw.later); within = saw.within; told = saw.told }, state, n, turn, rest)
+SeenOn-earlier : (capacity : ℕ) (history : History) (from earlier : ℕ) (old new : Standing) (lines : List (List ℕ)) (replies : List Reply)
+    → earlier ≤ from → SeenOn capacity history from old lines replies new → SeenOn capacity history earlier old lines replies new
+SeenOn-earlier capacity history from earlier old new lines [] before h = h
+SeenOn-earlier capacity history from earlier old new [] (reply ∷ replies) before h = absurd h
+SeenOn-earlier capacity history from earlier old new (line ∷ lines) (reply ∷ replies) before (saw, next, turn, rest) =
+    (record { at = saw.at; later = omega (arith, before, saw.later); within = saw.within; told = saw.told }, next, turn, rest)
 
 -- all of some lines in some time, and then more in the time after it
-pub SeenOn-append : (capacity : ℕ) (first second : History) (from : ℕ) (old : State) (pages updates : ℕ) (mid : State) (between : ℕ) (new : State) (pages_now : ℕ) (lines more : List (List ℕ)) (replies others : List Reply)
-    → Extends first second → from ≤ moment first → length replies ≡ length lines → SeenOn capacity first from old pages updates lines replies mid between
-    → SeenOn capacity second (moment first) mid between (updates_of updates replies) more others new pages_now
-    → SeenOn capacity second from old pages updates (lines ++ more) (replies ++ others) new pages_now
+pub SeenOn-append : (capacity : ℕ) (first second : History) (from : ℕ) (old mid new : Standing) (lines more : List (List ℕ)) (replies others : List Reply)
+    → Extends first second → from ≤ moment first → length replies ≡ length lines → SeenOn capacity first from old lines replies mid → SeenOn capacity second (moment first) mid more others new
+    → SeenOn capacity second from old (lines ++ more) (replies ++ others) new
 unfolding saw_later
-SeenOn-append capacity first second from old pages updates mid between new pages_now [] more [] others extends before same h k =
-    subst (λ (state : State). SeenOn capacity second from state pages updates more others new pages_now) h.0
-    (subst (λ (n : ℕ). SeenOn capacity second from mid n updates more others new pages_now) h.1
-    (SeenOn-earlier capacity second (moment first) from mid between updates new pages_now more others before k))
-SeenOn-append capacity first second from old pages updates mid between new pages_now [] more (reply ∷ replies) others extends before same h k = absurd h
-SeenOn-append capacity first second from old pages updates mid between new pages_now (line ∷ lines) more [] others extends before same h k = absurd (omega (arith, same))
-SeenOn-append capacity first second from old pages updates mid between new pages_now (line ∷ lines) more (reply ∷ replies) others extends before same (saw, state, n, turn, rest) k = (
-  saw_later first second from old.device pages reply extends saw,
-  state,
-  n,
+SeenOn-append capacity first second from old mid new [] more [] others extends before same h k =
+    subst (λ (s : Standing). SeenOn capacity second from s more others new) h (SeenOn-earlier capacity second (moment first) from mid new more others before k)
+SeenOn-append capacity first second from old mid new [] more (reply ∷ replies) others extends before same h k = absurd h
+SeenOn-append capacity first second from old mid new (line ∷ lines) more [] others extends before same h k = absurd (omega (arith, same))
+SeenOn-append capacity first second from old mid new (line ∷ lines) more (reply ∷ replies) others extends before same (saw, next, turn, rest) k = (
+  saw_later first second from old.state.device old.pages reply extends saw,
+  next,
   turn,
-  SeenOn-append capacity first second saw.at state n (updates_after reply updates) mid between new pages_now lines more replies others extends saw.within (omega (arith, same)) rest k,
+  SeenOn-append capacity first second saw.at next mid new lines more replies others extends saw.within (omega (arith, same)) rest k,
 )
 
 -- lines may be left over
-pub SeenOn-longer : (capacity : ℕ) (history : History) (from : ℕ) (old : State) (pages updates : ℕ) (new : State) (pages_now : ℕ) (lines more : List (List ℕ)) (replies : List Reply)
-    → SeenOn capacity history from old pages updates lines replies new pages_now → SeenOn capacity history from old pages updates (lines ++ more) replies new pages_now
-SeenOn-longer capacity history from old pages updates new pages_now lines more [] h = h
-SeenOn-longer capacity history from old pages updates new pages_now [] more (reply ∷ replies) h = absurd h
-SeenOn-longer capacity history from old pages updates new pages_now (line ∷ lines) more (reply ∷ replies) (saw, state, n, turn, rest) =
-    (saw, state, n, turn, SeenOn-longer capacity history saw.at state n (updates_after reply updates) new pages_now lines more replies rest)
+pub SeenOn-longer : (capacity : ℕ) (history : History) (from : ℕ) (old new : Standing) (lines more : List (List ℕ)) (replies : List Reply)
+    → SeenOn capacity history from old lines replies new → SeenOn capacity history from old (lines ++ more) replies new
+SeenOn-longer capacity history from old new lines more [] h = h
+SeenOn-longer capacity history from old new [] more (reply ∷ replies) h = absurd h
+SeenOn-longer capacity history from old new (line ∷ lines) more (reply ∷ replies) (saw, next, turn, rest) =
+    (saw, next, turn, SeenOn-longer capacity history saw.at next new lines more replies rest)

@@ -74,14 +74,6 @@ has_none w device e stands = record {
   session = subst (λ (s : Option Session). IsSessionOf s w.history.present device None) (sym e) tt;
 }
 
--- nothing changed
-pub unchanged : (old new : World) (session now : Session) (d : Device) (t : OpenSession) → new.session ≡ Some now → now ≡ session → new.history.present ≡ old.history.present
-    → Holds session old.history.present d t.contents → is_touched session ≡ t.touched → Represents new (at d t)
-unchanged old new session now d t e same still holds touched =
-    has_session new now d t e
-    (subst (λ (s : Session). Holds s new.history.present d t.contents) (sym same) (subst (λ (i : Image). Holds session i d t.contents) (sym still) holds))
-    (subst (λ (s : Session). is_touched s ≡ t.touched) (sym same) touched)
-
 -- time in which the cell stays leaves the device
 pub leaves_still : (old new : World) (entry : State) → Represents old entry → During old.history new.history (λ image. image.cell ≡ old.history.present.cell)
     → During old.history new.history (Leaves entry.device)

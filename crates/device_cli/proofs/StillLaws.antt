@@ -12,10 +12,6 @@ use Rattle.device_course.specs.States.{IsSessionOf}
 use Rattle.device_course.specs.Marks.{Leaves}
 use Rattle.device_cli.specs.Represents.{StandsFor, Stood}
 
--- the cell is what it was
-HasCell : (image : Image) → Image → Type 0
-HasCell old image = image.cell ≡ old.cell
-
 -- what a state was over the image before, it is over the same image after
 pub still_after : (old new : World) (entry : State) → new.session ≡ old.session → new.history.present ≡ old.history.present → Steps old.history new.history
     → new.head ≡ old.head → Stood old entry → Stood new entry × During old.history new.history (Leaves entry.device)

@@ -10,7 +10,7 @@ use Rattle.script_lang.specs.Commands as commands
 use Rattle.script_lang.specs.Replies.{Reply}
 use Rattle.script_lang.specs.Replies.{Formatted, Mounted, Done, Committed, Upgraded, Full, Range, Unmounted, AlreadyMounted, AlreadyUpgraded, NoDevice, NotEmpty}
 use Rattle.script_lang.specs.Grammar.{Spells}
-use Rattle.device_cli.specs.Pages.{needed_for, Needs, pages_after, updates_after, updates_of, upgrade_of, upgraded_by, upgrades, most_upgrade, is_same, TurnOn, AnswersOn, accepted_by, accepted}
+use Rattle.device_cli.specs.Pages.{needed_for, Needs, pages_after, updates_after, upgrade_of, upgraded_by, upgrades, most_upgrade, is_same, Standing, TurnOn, AnswersOn, accepted_by, accepted}
 use Rattle.device_cli.specs.Parts.{added_by}
 use Rattle.device_cli.proofs.PageLaws.{pages_cases}
 use Rattle.device_cli.proofs.UpgradeLaws.{IsWithin, needs_within, some_needed, turn_within, within_more}
@@ -290,36 +290,35 @@ bound_command there opened command most updates pages needed full counted reply 
   | inr e ↦ bound_taken command most (upgrade_of (parts there opened)) updates pages needed reply needs.within few e
 ]
 
-turn_bound : (capacity : ℕ) (old : State) (pages updates : ℕ) (line : List ℕ) (reply : Reply) (new : State) (pages_now mapped most : ℕ) → IsWithin old mapped → most_upgrade mapped ≤ most
-    → TurnOn capacity old pages updates line reply new pages_now
-    → pages_now + 41 * updates_after reply updates ≤ pages + 41 * updates + 42 * accepted_by reply + upgraded_by reply * most
-turn_bound capacity old pages updates line reply new pages_now mapped most held within (inl (command, spells, needed, needs, (counted, is), added)) =
-    let few : upgrade_of old ≤ most = omega (arith, needs_within old mapped held, within) in
-    let bound : IsBound most updates pages needed reply = bound_command old.device old.session command most updates pages needed (nat_lt (capacity - pages) needed) counted reply new _ few needs refl is in
-    omega (arith, added, bound)
-turn_bound capacity old pages updates line reply new pages_now mapped most held within (inr (bad, is, same, added)) = rw is (omega (arith, added))
+turn_bound : (capacity : ℕ) (old : Standing) (line : List ℕ) (reply : Reply) (new : Standing) (mapped most : ℕ) → IsWithin old.state mapped → most_upgrade mapped ≤ most → TurnOn capacity old line reply new
+    → new.pages + 41 * new.updates ≤ old.pages + 41 * old.updates + 42 * accepted_by reply + upgraded_by reply * most
+turn_bound capacity old line reply new mapped most held within (inl (command, spells, needed, needs, (counted, is), added, updated)) =
+    let few : upgrade_of old.state ≤ most = omega (arith, needs_within old.state mapped held, within) in
+    let bound : IsBound most old.updates old.pages needed reply =
+        bound_command old.state.device old.state.session command most old.updates old.pages needed (nat_lt (capacity - old.pages) needed) counted reply new.state _ few needs refl is in
+    omega (arith, added, updated, bound)
+turn_bound capacity old line reply new mapped most held within (inr (bad, is, same)) = rw (is, same) (omega arith)
 
-pub answers_bound : (capacity : ℕ) (old : State) (pages updates : ℕ) (lines : List (List ℕ)) (replies : List Reply) (new : State) (pages_now mapped most : ℕ) → IsWithin old mapped → most_upgrade (mapped + length replies) ≤ most
-    → AnswersOn capacity old pages updates lines replies new pages_now
-    → pages_now + 41 * updates_of updates replies ≤ pages + 41 * updates + 42 * accepted replies + upgrades replies * most
-answers_bound capacity old pages updates lines [] new pages_now mapped most held within h = omega (arith, h.1)
-answers_bound capacity old pages updates [] (reply ∷ replies) new pages_now mapped most held within h = absurd h
-answers_bound capacity old pages updates (line ∷ lines) (reply ∷ replies) new pages_now mapped most held within (mid, between, turn, rest) =
+pub answers_bound : (capacity : ℕ) (old : Standing) (lines : List (List ℕ)) (replies : List Reply) (new : Standing) (mapped most : ℕ) → IsWithin old.state mapped → most_upgrade (mapped + length replies) ≤ most
+    → AnswersOn capacity old lines replies new → new.pages + 41 * new.updates ≤ old.pages + 41 * old.updates + 42 * accepted replies + upgrades replies * most
+answers_bound capacity old lines [] new mapped most held within h = rw h (omega arith)
+answers_bound capacity old [] (reply ∷ replies) new mapped most held within h = absurd h
+answers_bound capacity old (line ∷ lines) (reply ∷ replies) new mapped most held within (mid, turn, rest) =
     omega (
       arith,
-      turn_bound capacity old pages updates line reply mid between mapped most held (omega (arith, within)) turn,
-      answers_bound capacity mid between (updates_after reply updates) lines replies new pages_now (mapped + 1) most (turn_within capacity old pages updates line reply mid between mapped held turn) (omega (arith, within)) rest,
+      turn_bound capacity old line reply mid mapped most held (omega (arith, within)) turn,
+      answers_bound capacity mid lines replies new (mapped + 1) most (turn_within capacity old line reply mid mapped held turn) (omega (arith, within)) rest,
     )
 
 -- and the state behind them maps one more block for each line at most
-pub answers_within : (capacity : ℕ) (old : State) (pages updates : ℕ) (lines : List (List ℕ)) (replies : List Reply) (new : State) (pages_now mapped : ℕ) → IsWithin old mapped
-    → AnswersOn capacity old pages updates lines replies new pages_now → IsWithin new (mapped + length replies)
-answers_within capacity old pages updates lines [] new pages_now mapped held h =
-    subst (λ (state : State). IsWithin state (mapped + 0)) (sym h.0) (within_more old mapped (mapped + 0) (omega arith) held)
-answers_within capacity old pages updates [] (reply ∷ replies) new pages_now mapped held h = absurd h
-answers_within capacity old pages updates (line ∷ lines) (reply ∷ replies) new pages_now mapped held (mid, between, turn, rest) =
-    within_more new (mapped + 1 + length replies) (mapped + length (reply ∷ replies)) (omega arith)
-    (answers_within capacity mid between (updates_after reply updates) lines replies new pages_now (mapped + 1) (turn_within capacity old pages updates line reply mid between mapped held turn) rest)
+pub answers_within : (capacity : ℕ) (old : Standing) (lines : List (List ℕ)) (replies : List Reply) (new : Standing) (mapped : ℕ) → IsWithin old.state mapped
+    → AnswersOn capacity old lines replies new → IsWithin new.state (mapped + length replies)
+answers_within capacity old lines [] new mapped held h =
+    subst (λ (s : Standing). IsWithin s.state (mapped + 0)) (sym h) (within_more old.state mapped (mapped + 0) (omega arith) held)
+answers_within capacity old [] (reply ∷ replies) new mapped held h = absurd h
+answers_within capacity old (line ∷ lines) (reply ∷ replies) new mapped held (mid, turn, rest) =
+    within_more new.state (mapped + 1 + length replies) (mapped + length (reply ∷ replies)) (omega arith)
+    (answers_within capacity mid lines replies new (mapped + 1) (turn_within capacity old line reply mid mapped held turn) rest)
 
 -- and a line takes 42 at most, or as many as an upgrade needs, where it spells one
 pub accepted_most : (reply : Reply) → accepted_by reply ≤ 1
@@ -351,9 +350,10 @@ line_command line there opened command most updates pages needed full counted re
   | inr e ↦ line_taken line command most (upgrade_of (parts there opened)) updates pages needed reply spells needs.within few e
 ]
 
-pub line_bound : (capacity : ℕ) (old : State) (pages updates : ℕ) (line : List ℕ) (reply : Reply) (new : State) (pages_now most : ℕ) → upgrade_of old ≤ most
-    → TurnOn capacity old pages updates line reply new pages_now → pages_now + 41 * updates_after reply updates ≤ pages + 41 * updates + 42 + spelled line * most
-line_bound capacity old pages updates line reply new pages_now most few (inl (command, spells, needed, needs, (counted, is), added)) =
-    let bound : IsLineBound line most updates pages needed reply = line_command line old.device old.session command most updates pages needed (nat_lt (capacity - pages) needed) counted reply new _ spells few needs refl is in
-    omega (arith, added, bound)
-line_bound capacity old pages updates line reply new pages_now most few (inr (bad, is, same, added)) = rw is (omega (arith, added))
+pub line_bound : (capacity : ℕ) (old : Standing) (line : List ℕ) (reply : Reply) (new : Standing) (most : ℕ) → upgrade_of old.state ≤ most
+    → TurnOn capacity old line reply new → new.pages + 41 * new.updates ≤ old.pages + 41 * old.updates + 42 + spelled line * most
+line_bound capacity old line reply new most few (inl (command, spells, needed, needs, (counted, is), added, updated)) =
+    let bound : IsLineBound line most old.updates old.pages needed reply =
+        line_command line old.state.device old.state.session command most old.updates old.pages needed (nat_lt (capacity - old.pages) needed) counted reply new.state _ spells few needs refl is in
+    omega (arith, added, updated, bound)
+line_bound capacity old line reply new most few (inr (bad, is, same)) = rw same (omega arith)

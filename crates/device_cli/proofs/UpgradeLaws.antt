@@ -23,7 +23,7 @@ use Rattle.script_lang.specs.Replies.{Reply, Formatted, Done, Committed, Upgrade
 use Rattle.session_calls.specs.declared.stops.DeviceStop.{DeviceStop}
 use Rattle.session_calls.specs.declared.stops.DeviceStop.TheVariants as stops
 use Rattle.device_cli.specs.Added.{LeavesFew, left_by}
-use Rattle.device_cli.specs.Pages.{TurnOn, most_upgrade, upgrade_of}
+use Rattle.device_cli.specs.Pages.{Standing, TurnOn, most_upgrade, upgrade_of}
 use Rattle.device_cli.specs.Parts.{Adds, added_by}
 use Rattle.device_cli.specs.Represents.{StandsFor}
 use Rattle.device_cli.specs.Seen.{mapped_of}
@@ -256,7 +256,6 @@ answer_within full counted old command reply new most w is =
     subst (λ (state : State). IsWithin state (most + 1)) (sym (ap (λ (p : Reply × State). p.1) is))
     (picked (needs_room old command && full) _ _ (most + 1) (λ none. one_more old most w) (step_within counted old.device old.session command most w))
 
-pub turn_within : (capacity : ℕ) (old : State) (pages updates : ℕ) (line : List ℕ) (reply : Reply) (new : State) (pages_now most : ℕ) → IsWithin old most
-    → TurnOn capacity old pages updates line reply new pages_now → IsWithin new (most + 1)
-turn_within capacity old pages updates line reply new pages_now most w (inl (command, spells, needed, needs, (counted, is), added)) = answer_within _ counted old command reply new most w is
-turn_within capacity old pages updates line reply new pages_now most w (inr (bad, is, same, added)) = subst (λ (state : State). IsWithin state (most + 1)) (sym same) (one_more old most w)
+pub turn_within : (capacity : ℕ) (old : Standing) (line : List ℕ) (reply : Reply) (new : Standing) (most : ℕ) → IsWithin old.state most → TurnOn capacity old line reply new → IsWithin new.state (most + 1)
+turn_within capacity old line reply new most w (inl (command, spells, needed, needs, (counted, is), added, updated)) = answer_within _ counted old.state command reply new.state most w is
+turn_within capacity old line reply new most w (inr (bad, is, same)) = subst (λ (s : Standing). IsWithin s.state (most + 1)) (sym same) (one_more old.state most w)

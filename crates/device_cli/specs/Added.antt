@@ -7,7 +7,7 @@ use Rattle.script_lang.specs.Grammar.{Spells}
 use Rattle.script_lang.specs.Commands.{Command}
 use Rattle.script_lang.specs.Commands.{Commit, Upgrade}
 use Rattle.script_lang.specs.Replies.{Reply}
-use Rattle.device_cli.specs.Pages.{needed_for, IfNext}
+use Rattle.device_cli.specs.Pages.{needed_for, upgrade_of, Standing, IfNext}
 use Rattle.line_run.specs.declared.stop.Stop.{Stop}
 use Rattle.line_run.specs.declared.stop.Stop.TheVariants as stops
 use Rattle.session_calls.specs.declared.stops.DeviceStop.{DeviceStop}
@@ -42,10 +42,10 @@ abbrev pub HasAdded : (Command → ℕ) → List (List ℕ) → List Reply → �
 HasAdded most lines replies pages now =
     (now ≡ pages) ⊎ ((pages ≤ now) × IfNext replies lines (λ line. (command : Command) × Spells line command × (now ≤ pages + most command)))
 
--- how many pages a run, or a part of one, has that ends so: with so many by its replies, and so many updates, and where an upgrade needs so many
-abbrev pub IsNear : Result (Unit {0}) Stop → ℕ → ℕ → List (List ℕ) → List Reply → ℕ → ℕ → Type 0
-IsNear (Ok done) updates upgrade lines replies pages now = now ≡ pages
-IsNear (Err stops.Source) updates upgrade lines replies pages now = now ≡ pages
-IsNear (Err stops.Limit) updates upgrade lines replies pages now = now ≡ pages
-IsNear (Err stops.Sink) updates upgrade lines replies pages now = HasAdded (λ command. needed_for command (41 * updates) upgrade) lines replies pages now
-IsNear (Err (stops.Device stop)) updates upgrade lines replies pages now = HasAdded (λ command. left_by stop command (41 * updates) upgrade) lines replies pages now
+-- how many pages a run, or a part of one, has that ends so, where the line behind its replies meets this
+abbrev pub IsNear : Result (Unit {0}) Stop → Standing → List (List ℕ) → List Reply → ℕ → Type 0
+IsNear (Ok done) met lines replies now = now ≡ met.pages
+IsNear (Err stops.Source) met lines replies now = now ≡ met.pages
+IsNear (Err stops.Limit) met lines replies now = now ≡ met.pages
+IsNear (Err stops.Sink) met lines replies now = HasAdded (λ command. needed_for command (41 * met.updates) (upgrade_of met.state)) lines replies met.pages now
+IsNear (Err (stops.Device stop)) met lines replies now = HasAdded (λ command. left_by stop command (41 * met.updates) (upgrade_of met.state)) lines replies met.pages now

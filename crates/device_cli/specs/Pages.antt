@@ -47,21 +47,29 @@ abbrev pub updates_of : ℕ → List Reply → ℕ
 updates_of updates [] = updates
 updates_of updates (reply ∷ replies) = updates_of (updates_after reply updates) replies
 
--- this reply belongs to this line on a medium that has room for `capacity` pages and so many on it, after so many updates: it is `full` exactly where fewer
--- pages are free than are needed. It leads from old to new, and to so many pages
-abbrev pub TurnOn : ℕ → State → ℕ → ℕ → List ℕ → Reply → State → ℕ → Type 0
-TurnOn capacity old pages updates line reply new pages_now =
-    ((command : Command) × Spells line command × (needed : ℕ) × Needs old command updates needed
-    × IsAnswer (nat_lt (capacity - pages) needed) old command reply new × (pages_now ≡ pages_after reply needed pages))
-    ⊎ (IsBad line × (reply ≡ Bad) × (new ≡ old) × (pages_now ≡ pages))
+-- what a line meets: the state of the device, how many pages there are, and how many updates came since the mount or the last commit
+pub record Standing : Type 0 where
+  pub state : State
+  pub pages : ℕ
+  pub updates : ℕ
+
+abbrev pub standing : State → ℕ → ℕ → Standing
+standing state pages updates = record { state = state; pages = pages; updates = updates }
+
+-- this reply belongs to this line on a medium that has room for `capacity` pages: it is `full` exactly where fewer pages are free than are needed. It leads
+-- from what the line meets to what the next one does
+abbrev pub TurnOn : ℕ → Standing → List ℕ → Reply → Standing → Type 0
+TurnOn capacity old line reply new =
+    ((command : Command) × Spells line command × (needed : ℕ) × Needs old.state command old.updates needed
+    × IsAnswer (nat_lt (capacity - old.pages) needed) old.state command reply new.state
+    × (new.pages ≡ pages_after reply needed old.pages) × (new.updates ≡ updates_after reply old.updates))
+    ⊎ (IsBad line × (reply ≡ Bad) × (new ≡ old))
 
 -- these replies belong to the first of these lines, as many as there are replies. They lead from old to new
-abbrev pub AnswersOn : ℕ → State → ℕ → ℕ → List (List ℕ) → List Reply → State → ℕ → Type 0
-AnswersOn capacity old pages updates lines [] new pages_now = (new ≡ old) × (pages_now ≡ pages)
-AnswersOn capacity old pages updates [] (reply ∷ replies) new pages_now = ⊥
-AnswersOn capacity old pages updates (line ∷ lines) (reply ∷ replies) new pages_now =
-    (mid : State) × (between : ℕ) × TurnOn capacity old pages updates line reply mid between
-    × AnswersOn capacity mid between (updates_after reply updates) lines replies new pages_now
+abbrev pub AnswersOn : ℕ → Standing → List (List ℕ) → List Reply → Standing → Type 0
+AnswersOn capacity old lines [] new = new ≡ old
+AnswersOn capacity old [] (reply ∷ replies) new = ⊥
+AnswersOn capacity old (line ∷ lines) (reply ∷ replies) new = (mid : Standing) × TurnOn capacity old line reply mid × AnswersOn capacity mid lines replies new
 
 -- how many formats and updates were accepted
 abbrev pub accepted_by : Reply → ℕ

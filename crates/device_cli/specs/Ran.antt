@@ -13,7 +13,7 @@ use Rattle.device_cli.specs.Causes.{Draws, PutsEntry, HasLacked, MeetsRecord, Is
 use Rattle.device_cli.specs.Looks.{AreLooks}
 use Rattle.device_cli.specs.World.{World}
 use Rattle.device_cli.specs.Represents.{StandsFor}
-use Rattle.device_cli.specs.Pages.{needed_for, updates_of, upgrade_of, accepted, upgrades, most_upgrade, upgrade_lines, AnswersOn, AreShort, AreFew, IfNext}
+use Rattle.device_cli.specs.Pages.{needed_for, upgrade_of, accepted, upgrades, most_upgrade, upgrade_lines, Standing, standing, AnswersOn, AreShort, AreFew, IfNext}
 use Rattle.device_cli.specs.Added.{left_by, HasAdded}
 use Rattle.device_cli.specs.Seen.{SeenOn, mapped_of}
 use Rattle.platform.specs.History.{moment}
@@ -43,17 +43,18 @@ most_pages pages entry replies = pages + 42 * accepted replies + upgrades replie
 pub record AnswersFrom (old new : World) (status : ℕ) (entry : State) (lines : List (List ℕ)) (replies : List Reply) (part : List ℕ) : Type 0 where
   pub now : State
   pub pages : ℕ
-  pub answers : AnswersOn old.capacity entry old.head 0 lines replies now pages
+  pub updates : ℕ
+  pub answers : AnswersOn old.capacity (standing entry old.head 0) lines replies (standing now pages updates)
   -- a reply to a `seize` line counts what chains of opening come to at a moment of the run, at which the image stands for the device in the state at that
   -- line; these moments ascend in the order of the lines
-  pub seen : SeenOn old.capacity new.history (moment old.history) entry old.head 0 lines replies now pages
+  pub seen : SeenOn old.capacity new.history (moment old.history) (standing entry old.head 0) lines replies (standing now pages updates)
   pub ends : (status ≡ 0) ⊎ (status ≡ 3) ⊎ (status ≡ 12) → StandsFor new.history.present now.device × (new.head ≡ pages)
-  pub next : status ≡ 4 → (reply : Reply) × (then : State) × AnswersOn old.capacity entry old.head 0 lines (replies ++ reply ∷ []) then new.head
-      × IsFirstPart (line_of reply) part × StandsFor new.history.present then.device
+  pub next : status ≡ 4 → (reply : Reply) × (then : Standing) × AnswersOn old.capacity (standing entry old.head 0) lines (replies ++ reply ∷ []) then
+      × (then.pages ≡ new.head) × IsFirstPart (line_of reply) part × StandsFor new.history.present then.state.device
   pub sound : (status ≢ 8) × (status ≢ 9)
   -- a command that was cut short may have added the pages that it needs, but none where no memory was given, nor, but for a commit and an upgrade, where no key was
-  pub near : HasAdded (λ command. needed_for command (41 * updates_of 0 replies) (upgrade_of now)) lines replies pages new.head
-  pub keyless : status ≡ 6 → HasAdded (λ command. left_by device.Tape command (41 * updates_of 0 replies) (upgrade_of now)) lines replies pages new.head
+  pub near : HasAdded (λ command. needed_for command (41 * updates) (upgrade_of now)) lines replies pages new.head
+  pub keyless : status ≡ 6 → HasAdded (λ command. left_by device.Tape command (41 * updates) (upgrade_of now)) lines replies pages new.head
   pub exact : status ≡ 11 → new.head ≡ pages
   -- an update adds 42 pages at most: one, and 41 with its commit; and an upgrade two for each mapped block, and one, where each line maps one more at most. One more may be there of
   -- a command that was cut short, or as many as an upgrade needs, where it was one

@@ -17,7 +17,7 @@ use Rattle.device_cli.specs.World.{World, is_full, AreEnough, IsLater}
 use Rattle.device_course.specs.Marks.{Leaves, mark_at, last_mark}
 use Rattle.device_course.specs.Course.{Made}
 use Rattle.device_cli.specs.Represents.{Represents, Stood, StandsFor}
-use Rattle.device_cli.specs.Pages.{updates_of, upgrade_of, AnswersOn, AreShort, IfNext}
+use Rattle.device_cli.specs.Pages.{updates_of, Standing, standing, AnswersOn, AreShort, IfNext}
 use Rattle.device_cli.specs.Seen.{SeenOn}
 use Rattle.device_cli.specs.Added.{IsNear}
 use Rattle.line_run.specs.declared.stop.Stop.TheVariants as stops
@@ -46,16 +46,16 @@ abbrev pub IsEndingAt : Type 0 → Type 0 → World → List Reply → List (Lis
 IsEndingAt tells Before now replies lines (Err (stops.Device stop)) = IsStopAt tells Before now replies lines stop
 IsEndingAt tells Before now replies lines _ = Unit {0}
 
--- how a run over a device that stands ends, after the replies that led to the state `now`: in that state, with so many
+-- how a run over a device that stands ends, after the replies that led from `entry` to `now`: in that state, with as many
 -- pages; by a fault alone; or, where the output failed, with a first part of one more reply's line, for the device after it
-abbrev pub EndsIn : World → World → State → ℕ → List (List ℕ) → List Reply → List ℕ → State → ℕ → Ending → Type 0
-EndsIn old new entry updates lines replies part now pages (Ok done) = Stood new now × (new.head ≡ pages)
-EndsIn old new entry updates lines replies part now pages (Err stops.Source) = Stood new now × (new.head ≡ pages)
-EndsIn old new entry updates lines replies part now pages (Err stops.Limit) = Stood new now × (new.head ≡ pages)
-EndsIn old new entry updates lines replies part now pages (Err (stops.Device stop)) = IsSound stop
-EndsIn old new entry updates lines replies part now pages (Err stops.Sink) =
-    (reply : Reply) × (next : State) × AnswersOn old.capacity entry old.head updates lines (replies ++ reply ∷ []) next new.head
-    × IsFirstPart (line_of reply) part × StandsFor new.history.present next.device
+abbrev pub EndsIn : World → World → Standing → List (List ℕ) → List Reply → List ℕ → Standing → Ending → Type 0
+EndsIn old new entry lines replies part now (Ok done) = Stood new now.state × (new.head ≡ now.pages)
+EndsIn old new entry lines replies part now (Err stops.Source) = Stood new now.state × (new.head ≡ now.pages)
+EndsIn old new entry lines replies part now (Err stops.Limit) = Stood new now.state × (new.head ≡ now.pages)
+EndsIn old new entry lines replies part now (Err (stops.Device stop)) = IsSound stop
+EndsIn old new entry lines replies part now (Err stops.Sink) =
+    (reply : Reply) × (next : Standing) × AnswersOn old.capacity entry lines (replies ++ reply ∷ []) next
+    × (next.pages ≡ new.head) × IsFirstPart (line_of reply) part × StandsFor new.history.present next.state.device
 
 -- the reply to the line in hand may have come to be where the platform or the output failed, and else none
 abbrev pub IsAhead : Ending → List Reply → Type 0
@@ -87,20 +87,19 @@ pub record AreMarks (entry : State) (lines : List (List ℕ)) (replies : List Re
   pub many : length marks ≡ length replies
   pub each : (k : ℕ) → k ≤ length replies → IsMark entry lines replies k (mark_at entry.device marks k)
 
--- the replies are those of the array, from the state at entry on, after so many updates; those to `seize` lines belong to moments in the order of the lines; and the devices that they
+-- the replies are those of the array, from what the first line meets on; those to `seize` lines belong to moments in the order of the lines; and the devices that they
 -- passed, with the one of a reply ahead, were made in their order
-pub record Answered (old new : World) (ending : Ending) (entry : State) (updates : ℕ) (lines : List (List ℕ)) (replies : List Reply) (part : List ℕ) : Type 0 where
-  pub now : State
-  pub pages : ℕ
-  pub answers : AnswersOn old.capacity entry old.head updates lines replies now pages
-  pub seen : SeenOn old.capacity new.history (moment old.history) entry old.head updates lines replies now pages
-  pub ends : EndsIn old new entry updates lines replies part now pages ending
-  pub near : IsNear ending (updates_of updates replies) (upgrade_of now) lines replies pages new.head
+pub record Answered (old new : World) (ending : Ending) (entry : Standing) (lines : List (List ℕ)) (replies : List Reply) (part : List ℕ) : Type 0 where
+  pub now : Standing
+  pub answers : AnswersOn old.capacity entry lines replies now
+  pub seen : SeenOn old.capacity new.history (moment old.history) entry lines replies now
+  pub ends : EndsIn old new entry lines replies part now ending
+  pub near : IsNear ending now lines replies new.head
   pub ahead : List Reply
   pub is_ahead : IsAhead ending ahead
   pub marks : List (Option Device)
-  pub are : AreMarks entry lines (replies ++ ahead) marks
-  pub made : Made old.history new.history None entry marks (closed (last_mark entry.device marks))
+  pub are : AreMarks entry.state lines (replies ++ ahead) marks
+  pub made : Made old.history new.history None entry.state marks (closed (last_mark entry.state.device marks))
 
 -- a run that handled these lines: what it put is the lines of its replies, and perhaps a part behind them. From each
 -- state that the start stood for, after so many updates as are enough for its session, the replies are those of the array. `Before` is what holds where the platform failed before the first line
@@ -117,7 +116,7 @@ pub record Replied (tells Before : Type 0) (old new : World) (last : DeviceStop 
   pub full : (updates : ℕ) → AreEnough old.session updates → AreShort new.head new.capacity updates lines replies
   pub enough : (updates : ℕ) → AreEnough old.session updates → OnOk ending (AreEnough new.session (updates_of updates replies))
   pub looks : LooksOn tells old new lines (IsOk ending)
-  pub answered : tells → (entry : State) (updates : ℕ) → Stood old entry → AreEnough old.session updates → Answered old new ending entry updates lines replies part
+  pub answered : tells → (entry : State) (updates : ℕ) → Stood old entry → AreEnough old.session updates → Answered old new ending (standing entry old.head updates) lines replies part
 
 -- the same of what an output has got
 pub record Handled (tells Before : Type 0) (old new : World) (last : DeviceStop → List ℕ) (ending : Ending) (lines : List (List ℕ)) (written written_now : Option (List ℕ)) : Type 0 where

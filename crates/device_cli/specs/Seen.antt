@@ -9,10 +9,10 @@ use Rattle.key_graph.specs.Chains.{KeyPremises}
 use Rattle.page_store.specs.Kept.{Kept}
 use Rattle.page_store.specs.Keeping.{DrewAll}
 use Rattle.device_terms.specs.Served.{IsServedImage}
-use Rattle.sdbt_base.specs.Arrays.{Device, State}
+use Rattle.sdbt_base.specs.Arrays.{Device}
 use Rattle.script_lang.specs.Replies.{Reply}
 use Rattle.script_lang.specs.Replies as replies
-use Rattle.device_cli.specs.Pages.{updates_after, TurnOn}
+use Rattle.device_cli.specs.Pages.{Standing, TurnOn}
 use Rattle.device_cli.specs.Represents.{StandsFor}
 
 -- what a seizure of the image counts: its pages, and the nodes and the data records at which chains of opening from the key of the root
@@ -45,13 +45,13 @@ pub record Saw (history : History) (from : ℕ) (device : Option Device) (pages 
   pub told : IsToldOf device pages (image_at history at) reply
 
 -- these replies belong to the first of these lines, as in `AnswersOn`; and they belong to moments that ascend in the order of the lines: at that of
--- a `seize` line the image stands for the device in the state at that line, and has as many pages as there are then
-abbrev pub SeenOn : ℕ → History → ℕ → State → ℕ → ℕ → List (List ℕ) → List Reply → State → ℕ → Type 0
-SeenOn capacity history from old pages updates lines [] new pages_now = (new ≡ old) × (pages_now ≡ pages)
-SeenOn capacity history from old pages updates [] (reply ∷ replies) new pages_now = ⊥
-SeenOn capacity history from old pages updates (line ∷ lines) (reply ∷ replies) new pages_now =
-    (saw : Saw history from old.device pages reply) × (mid : State) × (between : ℕ) × TurnOn capacity old pages updates line reply mid between
-    × SeenOn capacity history saw.at mid between (updates_after reply updates) lines replies new pages_now
+-- a `seize` line the image stands for the device in the state that this line meets, and has as many pages as it meets
+abbrev pub SeenOn : ℕ → History → ℕ → Standing → List (List ℕ) → List Reply → Standing → Type 0
+SeenOn capacity history from old lines [] new = new ≡ old
+SeenOn capacity history from old [] (reply ∷ replies) new = ⊥
+SeenOn capacity history from old (line ∷ lines) (reply ∷ replies) new =
+    (saw : Saw history from old.state.device old.pages reply) × (mid : Standing) × TurnOn capacity old line reply mid
+    × SeenOn capacity history saw.at mid lines replies new
 
 -- how many blocks the device's map has
 abbrev pub mapped_of : Option Device → ℕ
