@@ -417,7 +417,7 @@ Replied-then tells old mid new last ending lines more put others p q =
       answered = λ told entry updates rep paid.
           let first = p.answered told entry updates rep paid in
           let still : AreEnough mid.session first.now.updates = subst (λ (n : ℕ). AreEnough mid.session n)
-              (sym (updates_on old.capacity (standing entry old.head updates) lines p.replies first.now first.answers)) (p.enough updates paid) in
+          (sym (updates_on old.capacity (standing entry old.head updates) lines p.replies first.now first.answers)) (p.enough updates paid) in
           Answered-then old mid new ending (standing entry old.head updates) lines more p.replies q.replies p.part q.part p.later p.many first
           (subst (λ (n : ℕ). Answered mid new ending (standing first.now.state n first.now.updates) more q.replies q.part) first.ends.1
           (q.answered told first.now.state first.now.updates first.ends.0 still));

@@ -412,7 +412,7 @@ few_turn capacity old line reply new head mapped held later (inl (command, spell
     let same : command ≡ Upgrade = one_command line command Upgrade spells upgrade in
     let most : needed ≤ upgrade_of old.state = subst (λ (c : Command). needed ≤ needed_for c (41 * old.updates) (upgrade_of old.state)) same needs.within in
     let few : capacity - old.pages < needed = few_needed (capacity - old.pages) needed counted old.state new.state command
-        (subst (λ (r : Reply). (r, new.state) ≡ answer (nat_lt (capacity - old.pages) needed) counted old.state command) e is) in
+    (subst (λ (r : Reply). (r, new.state) ≡ answer (nat_lt (capacity - old.pages) needed) counted old.state command) e is) in
     omega (arith, most, few, later, needs_within old.state mapped held)
 few_turn capacity old line reply new head mapped held later (inr (bad, is, same)) upgrade e = absurd (bad Upgrade upgrade)
 

@@ -136,9 +136,13 @@ pub returns-then-not-fits-clause-cached : goal.returns-then-not-fits-clause-cach
 returns-then-not-fits-clause-cached g c = λ node here.
     let uses = subst (λ (r : Option (Bor _)). Uses c.args.reader.now.cache c.args.want.now.addr c.args.key.now (option_copied r) c.get.follows.lender-at-none) c.in-Some.is c.get.follows.holds-at-none in
     let same : node ≡ c.in-Some.node.now = c.in-Some.ensures.found.only node here in
-    let still = found_still c.args.reader.now.cache c.get.follows.lender-at-none c.args.want.now.addr c.args.key.now c.in-Some.node.now uses in
-    (refl, λ misfit. refl, tt, subst (λ (n : NodeBody). IsCached c.get.follows.lender-at-none.nodes c.args.want.now.addr c.args.key.now n) (sym same) still,
-    still_used c.args.reader.now.cache c.get.follows.lender-at-none c.args.want.now.addr c.args.key.now c.in-Some.node.now uses)
+    let still = found_still c.args.reader.now.cache c.get.follows.lender-at-none c.args.want.now.addr c.args.key.now c.in-Some.node.now uses in (
+      refl,
+      λ misfit. refl,
+      tt,
+      subst (λ (n : NodeBody). IsCached c.get.follows.lender-at-none.nodes c.args.want.now.addr c.args.key.now n) (sym same) still,
+      still_used c.args.reader.now.cache c.get.follows.lender-at-none c.args.want.now.addr c.args.key.now c.in-Some.node.now uses,
+    )
 
 pub returns-in-Some-clause-cached : goal.returns-in-Some-clause-cached
 returns-in-Some-clause-cached g c = λ node here.
