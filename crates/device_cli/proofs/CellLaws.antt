@@ -1,7 +1,7 @@
 -- That the cell can be served at each moment, what a call leaves that only looked, and which state a part of a run comes to.
-use Rattle.platform.specs.History.{History, Steps, During}
+use Rattle.platform.specs.History.{History, During}
 use Rattle.std.proofs.Common.{◌≡◌, ◌≤◌, ℕ, zero, List, [], ◌∷◌, None, Ok, refl, sym, subst, arith}
-use Rattle.platform.proofs.Moments.{During-start, During-step, During-now, During-then}
+use Rattle.platform.proofs.Moments.{During-now}
 use Rattle.std.specs.Prelude.{Option, Some, IfSome, replicate}
 use Rattle.std.proofs.lemmas.List.{length-replicate}
 use Rattle.device_terms.specs.Served.{IsServedImage}

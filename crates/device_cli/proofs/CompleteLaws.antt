@@ -36,8 +36,7 @@ turn_room : (capacity : ℕ) (old : Standing) (line : List ℕ) (reply : Reply) 
     → TurnOn capacity old line reply new → reply ≢ Full
 turn_room capacity old line reply new most few room (inl (command, spells, needed, needs, (counted, is), added, updated)) e =
     let more : spelled line * upgrade_of old.state ≤ spelled line * most = times_less (spelled line) (upgrade_of old.state) most few in
-    let free : nat_lt (capacity - old.pages) needed ≡ false =
-    not_less (capacity - old.pages) needed (omega (arith, room, needs.within, needed_most line command (41 * old.updates) (upgrade_of old.state) spells, more)) in
+    let free : nat_lt (capacity - old.pages) needed ≡ false = not_less (capacity - old.pages) needed (omega (arith, room, needs.within, needed_most line command (41 * old.updates) (upgrade_of old.state) spells, more)) in
     answer_room counted old.state command
     (subst (λ (b : Bool). (answer b counted old.state command).0 ≡ Full) free (sym (ap (λ (p : Reply × State). p.0) is) ∙ e))
 turn_room capacity old line reply new most few room (inr (bad, is, same)) e = cc

@@ -31,7 +31,7 @@ use Rattle.device_course.specs.Course.{Made}
 use Rattle.device_course.proofs.MadeLaws.{shut, made_none, made_one, made_stopped, made_then, made_closed}
 use Rattle.device_cli.specs.Represents.{Stood, StandsFor}
 use Rattle.device_cli.specs.Added.{left_by, LacksPages, LeavesFew, HasAdded, IsNear}
-use Rattle.device_cli.specs.Pages.{needed_for, updates_after, updates_of, upgrade_of, Standing, standing, TurnOn, AnswersOn, IsShort, IfNext}
+use Rattle.device_cli.specs.Pages.{needed_for, updates_after, updates_of, upgrade_of, Standing, standing, TurnOn, AnswersOn, IsShort}
 use Rattle.device_cli.specs.Replied.{AreMany, IsStopAt, IsEndingAt, IsAhead, AreMarks, EndsIn, Answered, Replied, Handled, Halts, Serves}
 use Rattle.line_run.specs.Puts.{no_line, IsBehind, HasPut}
 use Rattle.device_cli.specs.Causes.{MayStop, SoOn}
@@ -416,9 +416,10 @@ Replied-then tells old mid new last ending lines more put others p q =
       looks = looks_then tells old mid new lines more _ _ refl p.looks q.looks;
       answered = λ told entry updates rep paid.
           let first = p.answered told entry updates rep paid in
-          let still : AreEnough mid.session first.now.updates = subst (λ (n : ℕ). AreEnough mid.session n)
-          (sym (updates_on old.capacity (standing entry old.head updates) lines p.replies first.now first.answers)) (p.enough updates paid) in
-          Answered-then old mid new ending (standing entry old.head updates) lines more p.replies q.replies p.part q.part p.later p.many first
+          let met = standing entry old.head updates in
+          let same = updates_on old.capacity met lines p.replies first.now first.answers in
+          let still : AreEnough mid.session first.now.updates = subst (λ (n : ℕ). AreEnough mid.session n) (sym same) (p.enough updates paid) in
+          Answered-then old mid new ending met lines more p.replies q.replies p.part q.part p.later p.many first
           (subst (λ (n : ℕ). Answered mid new ending (standing first.now.state n first.now.updates) more q.replies q.part) first.ends.1
           (q.answered told first.now.state first.now.updates first.ends.0 still));
     }

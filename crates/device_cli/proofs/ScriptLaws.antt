@@ -1,7 +1,6 @@
 -- From how a run ends to its exit status.
 use Rattle.std.proofs.Common.{◌≡◌, ◌≢◌, ℕ, ◌+◌, ◌-◌, ◌*◌, ◌<◌, ◌≤◌, Bool, false, List, [], ◌∷◌, ◌++◌, Option, None, Ok, Err, length, ◌⊎◌, inl, inr, refl, sym, ap, subst, arith, length-append}
 use Rattle.sdbt_base.specs.Told.{Got, IsAtEnd}
-use Rattle.sdbt_base.proofs.ToldLaws.{Gave-nothing, Got-nothing}
 use Rattle.text_lines.specs.Lines.{whole_lines_of, lines_of}
 use Rattle.script_lang.specs.Replies.{line_of, Reply, Full}
 use Rattle.sdbt_base.specs.Arrays.{State, Device, closed}
@@ -37,10 +36,9 @@ use Rattle.device_cli.specs.Ran.{Ran, AnswersFrom, AnswersScript, most_pages}
 use Rattle.line_run.specs.declared.stop.Stop.TheVariants as stops
 use Rattle.session_calls.specs.declared.stops.DeviceStop.{DeviceStop}
 use Rattle.session_calls.specs.declared.stops.DeviceStop.TheVariants as device
-use Rattle.device_cli.proofs.PassLaws.{AreMarks-none, passes_of, exits_of}
+use Rattle.device_cli.proofs.PassLaws.{passes_of, exits_of}
 use Rattle.device_course.specs.Course.{Made}
 use Rattle.device_course.specs.Marks.{last_mark}
-use Rattle.device_course.proofs.MadeLaws.{shut, made_start}
 
 -- an image that stands for a device, on which no session is open
 pub alone_on : (w : World) (there : Option Device) → w.session ≡ None → StandsFor w.history.present there → Represents w (closed there)
@@ -411,8 +409,7 @@ few_turn : (capacity : ℕ) (old : Standing) (line : List ℕ) (reply : Reply) (
 few_turn capacity old line reply new head mapped held later (inl (command, spells, needed, needs, (counted, is), added, updated)) upgrade e =
     let same : command ≡ Upgrade = one_command line command Upgrade spells upgrade in
     let most : needed ≤ upgrade_of old.state = subst (λ (c : Command). needed ≤ needed_for c (41 * old.updates) (upgrade_of old.state)) same needs.within in
-    let few : capacity - old.pages < needed = few_needed (capacity - old.pages) needed counted old.state new.state command
-    (subst (λ (r : Reply). (r, new.state) ≡ answer (nat_lt (capacity - old.pages) needed) counted old.state command) e is) in
+    let few : capacity - old.pages < needed = few_needed (capacity - old.pages) needed counted old.state new.state command (subst (λ (r : Reply). (r, new.state) ≡ answer (nat_lt (capacity - old.pages) needed) counted old.state command) e is) in
     omega (arith, most, few, later, needs_within old.state mapped held)
 few_turn capacity old line reply new head mapped held later (inr (bad, is, same)) upgrade e = absurd (bad Upgrade upgrade)
 

@@ -294,8 +294,7 @@ turn_bound : (capacity : ℕ) (old : Standing) (line : List ℕ) (reply : Reply)
     → new.pages + 41 * new.updates ≤ old.pages + 41 * old.updates + 42 * accepted_by reply + upgraded_by reply * most
 turn_bound capacity old line reply new mapped most held within (inl (command, spells, needed, needs, (counted, is), added, updated)) =
     let few : upgrade_of old.state ≤ most = omega (arith, needs_within old.state mapped held, within) in
-    let bound : IsBound most old.updates old.pages needed reply =
-    bound_command old.state.device old.state.session command most old.updates old.pages needed (nat_lt (capacity - old.pages) needed) counted reply new.state _ few needs refl is in
+    let bound : IsBound most old.updates old.pages needed reply = bound_command old.state.device old.state.session command most old.updates old.pages needed (nat_lt (capacity - old.pages) needed) counted reply new.state _ few needs refl is in
     omega (arith, added, updated, bound)
 turn_bound capacity old line reply new mapped most held within (inr (bad, is, same)) = rw (is, same) (omega arith)
 
@@ -353,7 +352,6 @@ line_command line there opened command most updates pages needed full counted re
 pub line_bound : (capacity : ℕ) (old : Standing) (line : List ℕ) (reply : Reply) (new : Standing) (most : ℕ) → upgrade_of old.state ≤ most
     → TurnOn capacity old line reply new → new.pages + 41 * new.updates ≤ old.pages + 41 * old.updates + 42 + spelled line * most
 line_bound capacity old line reply new most few (inl (command, spells, needed, needs, (counted, is), added, updated)) =
-    let bound : IsLineBound line most old.updates old.pages needed reply =
-    line_command line old.state.device old.state.session command most old.updates old.pages needed (nat_lt (capacity - old.pages) needed) counted reply new.state _ spells few needs refl is in
+    let bound : IsLineBound line most old.updates old.pages needed reply = line_command line old.state.device old.state.session command most old.updates old.pages needed (nat_lt (capacity - old.pages) needed) counted reply new.state _ spells few needs refl is in
     omega (arith, added, updated, bound)
 line_bound capacity old line reply new most few (inr (bad, is, same)) = rw same (omega arith)

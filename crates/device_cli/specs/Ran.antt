@@ -41,6 +41,7 @@ most_pages pages entry replies = pages + 42 * accepted replies + upgrades replie
 -- image at the exit stands for the state after them; at 4 for the one that one more reply leads to, of whose line a first
 -- part was put; never does damage end it
 pub record AnswersFrom (old new : World) (status : ℕ) (entry : State) (lines : List (List ℕ)) (replies : List Reply) (part : List ℕ) : Type 0 where
+  -- what the line behind the replies meets
   pub now : State
   pub pages : ℕ
   pub updates : ℕ

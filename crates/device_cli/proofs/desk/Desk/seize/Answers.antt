@@ -1,11 +1,10 @@
-use Rattle.std.proofs.Common.{◌≡◌, ℕ, Ok, Err, [], refl, sym, subst, ap}
+use Rattle.std.proofs.Common.{◌≡◌, ℕ, Ok, Err, refl, sym, subst, ap}
 use Rattle.platform.specs.Image.{Image}
 use Rattle.platform.specs.History.{History, Steps, CellStays, moment}
 use Rattle.platform.proofs.Moments.{During-step}
 use Rattle.device_terms.specs.Served.{IsServedCell}
 use Rattle.page_store.specs.Roots.{IsBadCell}
 use Rattle.seizure.specs.Opened.{count_of_kind, count_of_nodes}
-use Rattle.seizure.specs.Report.{Begins}
 use Rattle.script_lang.specs.Replies.{said}
 use Rattle.script_lang.specs.declared.replies.Reply.{Reply as Given}
 use Rattle.device_cli.specs.Seen.{Saw}
