@@ -165,7 +165,7 @@ pub read_gives : (Known : Type 0) (image after : Image) (session : Session) (tab
     → ReadsAny Known image after session at bytes (Ok tt) → GivesContent Known session image table (Read name block) reply
 read_gives Known image after session table name block at reply bytes same is any =
     let gives : GivesContent Known session image table (Read name block) (told.Content (trimmed bytes)) = λ known.
-        record { v = is.v; named = is.named; below = is.below; content = bytes; found = subst (λ (b : ℕ). FindsContent image.readable session.grove b bytes) is.is (any known); is = refl } in
+    record { v = is.v; named = is.named; below = is.below; content = bytes; found = subst (λ (b : ℕ). FindsContent image.readable session.grove b bytes) is.is (any known); is = refl } in
     subst (λ (r : Reply). GivesContent Known session image table (Read name block) r) (sym same) gives
 
 -- what is said of it follows from something else
