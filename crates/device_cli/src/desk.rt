@@ -352,7 +352,7 @@ impl Desk {
         if let Some(mut session) = self.session.take() {
             session.wipe();
         }
-        self.buffer.fill(0);
+        self.buffer = [0; BLOCK];
         self.writer.wipe();
     }
 
