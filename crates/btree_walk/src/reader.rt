@@ -45,19 +45,19 @@ impl NodeReader {
         self.buffers.wipe();
         let node: &mut NodeBody = &mut self.node;
         node.level = 0;
-        node.version = 1;
+        node.version = 0;
         wipe_entries(&mut node.entries);
     }
 }
 
-/// A node without entries, whose room has nothing but zeros.
+/// A node without entries, of nothing but zeros.
 fn blank_node() -> NodeBody
     ensures level { result.level ≡ 0 }
     ensures entries { result.entries.items ≡ [] }
 {
     NodeBody {
         level: 0,
-        version: 1,
+        version: 0,
         entries: ArrayVec::new(),
     }
 }

@@ -198,6 +198,8 @@ fn answer<P: Platform, T: Tape, O: Sink, L: Sink>(
 }
 
 /// The command that a line spells, whose bytes come to the buffer. None is a line that is too long for the grammar.
+// Inlined, since what it hands back goes by way of memory else, for each line.
+#[inline(always)]
 fn read_line(line: Option<&[u8]>, buffer: &mut [u8; BLOCK]) -> Option<Command>
     ensures found { IfSome result (λ command. (text : List ℕ) → IsPending (option_copied line.entry) text → Spells text (asked command buffer.new)) }
     ensures fits { IfSome result FitsCommand }

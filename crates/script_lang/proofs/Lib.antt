@@ -6,5 +6,6 @@ pub mod Fronts
 pub mod Blocks
 pub mod Trims
 pub mod ReplyLaws
+mod RoomLaws
 pub mod CommandLaws
 pub mod AnswerLaws

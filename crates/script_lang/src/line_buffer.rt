@@ -85,8 +85,9 @@ impl LineBuffer {
         ensures text { self.new ≡ self.old ++ decimal number }
         ensures short { length self.new ≤ length self.old + 20 }
     {
-        let mut printed = itoa::Buffer::new();
-        self.push(printed.format(number).as_bytes());
+        let end = self.len + count_digits(number);
+        itoa::write_digits(number, &mut self.bytes, end);
+        self.len = end;
     }
 
     /// Puts the lower-case hex digits of bytes at the end of a line that has room for them.
@@ -98,5 +99,15 @@ impl LineBuffer {
         let end = self.len + 2 * bytes.len();
         hex_digits::encode_lower(bytes, &mut self.bytes[self.len..end]);
         self.len = end;
+    }
+}
+
+/// How many decimal digits a number has.
+fn count_digits(number: u64) -> usize
+    ensures { result ≡ length (decimal number) }
+{
+    match number.checked_ilog10() {
+        Some(power) => power as usize + 1,
+        None => 1,
     }
 }

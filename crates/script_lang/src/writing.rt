@@ -57,6 +57,7 @@ impl ReplyWriter {
     }
 
     /// Puts the text of a reply into an empty line.
+    #[inline(always)]
     #[tactic(auto, unfolding(crate::specs::Replies::text_of))]
     fn push_reply(&mut self, reply: &Reply, buffer: &[u8; BLOCK])
         requires fits { FitsBlock reply.now }

@@ -93,4 +93,4 @@ EXAMPLE
 ";
 
 /// The version of the program.
-pub const VERSION: &str = "sdbt_more 0.2.10\n";
+pub const VERSION: &str = "sdbt_more 0.2.11\n";
