@@ -11,23 +11,32 @@ use Rattle.page_store.specs.Buffer.{Held}
 use Rattle.node_cache.specs.Cached.{Cached}
 use Rattle.btree_twigs.specs.Stubs.{nodes}
 use Rattle.btree_walk.specs.Looks.{Looks as WalkLooks}
-use Rattle.btree_walk.specs.Sights.{StandsOver}
+use Rattle.btree_walk.specs.Sights.{StandsOver, ForgetsNone}
+use Rattle.btree_walk.proofs.ForgetLaws.{forgets_same, forgets_then}
 use Rattle.btree_update.specs.declared.groves.Grove.{Grove}
 use Rattle.btree_update.specs.Groves.{KeepsTree, IsSound, grown_in}
 use Rattle.device_session.specs.Sessions.{Session}
 use Rattle.device_session.specs.Open.{IsOpen, needed_by}
 use Rattle.device_session.specs.Damage.{Follows}
 use Rattle.device_session.specs.Changes.{WriteGrows}
-use Rattle.device_session.specs.Going.{GoesOn, Updates}
+use Rattle.device_session.specs.Going.{GoesOn, ForgetsNothing, Updates}
 use Rattle.device_session.proofs.SessionLaws.{walk_looks}
 use Rattle.device_session.proofs.DamageLaws.{follows_looked, follows_ready}
 use Rattle.device_session.proofs.UpdateLaws.{with_ready, ready_open}
+
+-- ---- what a session's cache forgets
+
+pub forgets_nothing : (session : Session) → ForgetsNothing session session
+forgets_nothing session = forgets_same session.cache session.cache refl
+
+pub forgets_nothing_then : (session between now : Session) → ForgetsNothing session between → ForgetsNothing between now → ForgetsNothing session now
+forgets_nothing_then session between now = forgets_then session.cache between.cache now.cache
 
 -- ---- a session that goes on
 
 -- nothing was done
 pub goes_start : (Known : Type 0) (image : Image) (pages : ℕ) (session : Session) → IsOpen session pages → GoesOn Known image image pages session session
-goes_start Known image pages session o = record { follows = λ known f. f; is_open = o; root = refl; capacity = refl }
+goes_start Known image pages session o = record { follows = λ known f. f; is_open = o; root = refl; forgets = forgets_nothing session }
 
 -- one call after another, of which the second knows what the first one leaves
 pub goes_then : (Known Next : Type 0) (image mid after : Image) (pages more : ℕ) (session between now : Session) → GoesOn Known image mid pages session between → GoesOn Next mid after more between now
@@ -36,7 +45,7 @@ goes_then Known Next image mid after pages more session between now one two next
   follows = λ known f. two.follows (next known f) (one.follows known f);
   is_open = two.is_open;
   root = two.root ∙ one.root;
-  capacity = two.capacity ∙ one.capacity;
+  forgets = forgets_nothing_then session between now one.forgets two.forgets;
 }
 
 looked_open : (session : Session) (cache : Cached) (buffers : Held) (node : NodeBody) (pages : ℕ) → IsOpen session pages → IsOpen (record session { cache = cache; buffers = buffers; node = node }) pages
@@ -44,24 +53,24 @@ looked_open session cache buffers node pages o = record { served = o.served; map
 
 -- a look
 pub goes_looked : (Known : Type 0) (image after : Image) (pages more : ℕ) (was session : Session) (cache : Cached) (buffers : Held) (node : NodeBody) → session ≡ was → (Known → after ≡ image) → more ≡ pages → (Known → StandsOver image.readable session.cache → StandsOver image.readable cache)
-    → cache.capacity ≡ session.cache.capacity → IsOpen was pages → GoesOn Known image after more was (record session { cache = cache; buffers = buffers; node = node })
-goes_looked Known image after pages more was session cache buffers node same still head keeps capacity o =
+    → ForgetsNone session.cache cache → IsOpen was pages → GoesOn Known image after more was (record session { cache = cache; buffers = buffers; node = node })
+goes_looked Known image after pages more was session cache buffers node same still head keeps forgets o =
     subst (λ (s : Session). GoesOn Known image after more s (record session { cache = cache; buffers = buffers; node = node })) same (record {
       follows = λ known f. follows_looked session cache buffers node image after (still known) (keeps known) f;
       is_open = subst (IsOpen (record session { cache = cache; buffers = buffers; node = node })) (sym head) (looked_open session cache buffers node pages (subst (λ (s : Session). IsOpen s pages) (sym same) o));
       root = refl;
-      capacity = capacity;
+      forgets = forgets;
     })
 
 -- a look that brings nodes into memory
 pub goes_ready : (Known : Type 0) (image after : Image) (pages more : ℕ) (was session : Session) (grove : Grove) (cache : Cached) (buffers : Held) (node : NodeBody) → session ≡ was → (Known → after ≡ image) → more ≡ pages → KeepsTree session.grove grove → IsSound grove
-    → (Known → StandsOver image.readable session.cache → StandsOver image.readable cache) → cache.capacity ≡ session.cache.capacity → IsOpen was pages → GoesOn Known image after more was (with_ready session grove cache buffers node)
-goes_ready Known image after pages more was session grove cache buffers node same still head tree sound keeps capacity o =
+    → (Known → StandsOver image.readable session.cache → StandsOver image.readable cache) → ForgetsNone session.cache cache → IsOpen was pages → GoesOn Known image after more was (with_ready session grove cache buffers node)
+goes_ready Known image after pages more was session grove cache buffers node same still head tree sound keeps forgets o =
     subst (λ (s : Session). GoesOn Known image after more s (with_ready session grove cache buffers node)) same (record {
       follows = λ known f. follows_ready session grove cache buffers node image after (still known) tree (keeps known) f;
       is_open = ready_open session grove cache buffers node pages more head tree sound (subst (λ (s : Session). IsOpen s pages) (sym same) o);
       root = refl;
-      capacity = capacity;
+      forgets = forgets;
     })
 
 -- ---- what a commit needs

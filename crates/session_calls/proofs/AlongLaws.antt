@@ -7,6 +7,7 @@ use Rattle.device_course.specs.States.{IsListed}
 use Rattle.device_course.proofs.KeysLaws.{on_start, on_then}
 use Rattle.device_session.specs.Open.{IsOpen}
 use Rattle.device_session.specs.Sessions.{Session}
+use Rattle.device_session.proofs.GoingLaws.{forgets_nothing, forgets_nothing_then}
 use Rattle.session_calls.specs.Along.{Along, Drawn}
 use Rattle.session_calls.specs.declared.stops.DeviceStop.TheVariants as stops
 
@@ -16,7 +17,7 @@ along_start P platform drawn session there_open = record {
   is_open = there_open;
   mounted = λ told mounted. mounted;
   blocks = refl;
-  room = refl;
+  forgets = forgets_nothing session;
   cell = λ told. still (P.history platform);
   capacity = refl;
   rises = omega arith;
@@ -34,7 +35,7 @@ along_then P some more first second third drawn mid drawn_now session between no
   is_open = b.is_open;
   mounted = λ told mounted. b.mounted told (a.mounted told mounted);
   blocks = b.blocks ∙ a.blocks;
-  room = b.room ∙ a.room;
+  forgets = forgets_nothing_then session between now a.forgets b.forgets;
   cell = λ told. stays_then (P.history first) (P.history second) (P.history third) (a.cell told) (b.cell told);
   capacity = b.capacity ∙ a.capacity;
   rises = omega (arith, a.rises, b.rises);

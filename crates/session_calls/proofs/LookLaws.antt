@@ -44,7 +44,7 @@ look_along P updates platform platform_now drawn session now goes_on needs liste
   is_open = goes_on.is_open;
   mounted = λ told mounted. mounted_still (Some session) session now (P.history platform) (P.history platform_now) refl mounted goes_on.root (looks.time told) (goes_on.follows told);
   blocks = ap (λ (r : Root). r.blocks) goes_on.root;
-  room = goes_on.capacity;
+  forgets = goes_on.forgets;
   cell = looks.time;
   capacity = looks.capacity;
   rises = omega (arith, looks.head);

@@ -123,7 +123,7 @@ write_along P T most platform platform_now tape tape_now session now block bytes
   is_open = goes_on.is_open;
   mounted = λ told mounted. mounted_still (Some session) session now (P.history platform) (P.history platform_now) refl mounted goes_on.root (grows.time told) (goes_on.follows told);
   blocks = ap (λ (r : Root). r.blocks) goes_on.root;
-  room = goes_on.capacity;
+  forgets = goes_on.forgets;
   cell = grows.time;
   capacity = grows.by_one.capacity;
   rises = grows.by_one.rises;

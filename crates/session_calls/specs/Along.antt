@@ -6,8 +6,8 @@ use Rattle.platform.specs.declared.platforms.Platform.{Ghosts as PlatformGhosts}
 use Rattle.platform.specs.History.{CellStays}
 use Rattle.device_course.specs.Keys.{KeepsOn}
 use Rattle.device_course.specs.States.{IsAt, IsListed}
+use Rattle.device_session.specs.Going.{ForgetsNothing}
 use Rattle.device_session.specs.Open.{IsOpen, blocks_of, needed_by}
-use Rattle.device_session.specs.Reading.{room_of}
 use Rattle.device_session.specs.Sessions.{Session}
 use Rattle.sdbt_base.specs.Counts.{NoneFell, counts}
 use Rattle.session_calls.specs.Damage.{IsMounted}
@@ -20,14 +20,14 @@ pub record Drawn : Type 0 where
 abbrev pub drawn_by : {R : Type 0} → TapeGhosts R → R → Drawn
 drawn_by T tape = record { keys = T.drawn tape; faults = T.faults tape }
 
--- so many updates at most, and calls beside them that make none: the session goes on, open and on the root record in the cell; the cell stays at each moment; a page is added for each
--- update at most, and a commit needs 41 more at most; keys are kept, and nothing is put to the ledger, whatever it has got. From each state that the session and the image stood
--- for they come to one that they stand for now
+-- so many updates at most, and calls beside them that make none: the session goes on, open and on the root record in the cell, and its cache has forgotten nothing; the cell stays at
+-- each moment; a page is added for each update at most, and a commit needs 41 more at most; keys are kept, and nothing is put to the ledger, whatever it has got. From each state
+-- that the session and the image stood for they come to one that they stand for now
 pub record Along {S : Type 0} (P : PlatformGhosts S) (updates : ℕ) (platform platform_now : S) (drawn drawn_now : Drawn) (session now : Session) : Type 0 where
   pub is_open : IsOpen now (P.head platform_now)
   pub mounted : P.tells → IsMounted (P.history platform).present session → IsMounted (P.history platform_now).present now
   pub blocks : blocks_of now ≡ blocks_of session
-  pub room : room_of now ≡ room_of session
+  pub forgets : ForgetsNothing session now
   pub cell : P.tells → CellStays (P.history platform) (P.history platform_now)
   pub capacity : P.capacity platform_now ≡ P.capacity platform
   pub rises : P.head platform ≤ P.head platform_now

@@ -23,6 +23,7 @@ use Rattle.device_course.proofs.KeysLaws.{listed_image, on_done, on_kept, on_loo
 use Rattle.device_course.proofs.MadeLaws.{made_closed, made_stopped, made_then, shut}
 use Rattle.device_session.specs.Open.{IsOpen}
 use Rattle.device_session.specs.Sessions.{Session}
+use Rattle.device_session.proofs.GoingLaws.{forgets_nothing}
 use Rattle.session_calls.specs.Along.{Along, Drawn}
 use Rattle.session_calls.specs.Carrying.{IsReady}
 use Rattle.session_calls.specs.Damage.{IsMounted}
@@ -42,7 +43,7 @@ look_along P platform platform_now drawn session there_open looks = record {
   is_open = subst (IsOpen session) (sym looks.head) there_open;
   mounted = λ told m. subst (λ (i : Image). IsMounted i session) (sym (looks.image told)) m;
   blocks = refl;
-  room = refl;
+  forgets = forgets_nothing session;
   cell = looks.time;
   capacity = looks.capacity;
   rises = omega (arith, looks.head);

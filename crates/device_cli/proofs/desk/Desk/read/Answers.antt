@@ -56,7 +56,7 @@ pub returns-clause-after : goal.returns-clause-after
 returns-clause-after g c =
     let along = (c.in_ok-read_block.ensures.goes (no_draw None)).along in record {
       ready = along.is_open;
-      room = along.room ∙ room_held c.args.self.now.session c.in-Some.session c.in-Some.is c.requires.room;
+      room = along.forgets.capacity ∙ room_held c.args.self.now.session c.in-Some.session c.in-Some.is c.requires.room;
       mounted = λ told. along.mounted told (mounted_held _ c.in-Some.session _ c.in-Some.is (c.requires.mounted told));
       reply = search rules;
       short = search rules;
@@ -167,7 +167,7 @@ returns-clause-looks g c told before warm look =
     let within : c.args.block < blocks_of c.in-Some.session = omega (arith, c.if-block-blocks.false, c.blocks-2.ensures) in
     let there = warm_there _ c.in-Some.session before c.in-Some.is warm in (
       read_cost P c.args.block c.args.platform.now c.read_block.new.platform c.in-Some.session c.read_block.new.session _ before told (open_there _ c.in-Some.session _ c.in-Some.is c.requires.ready) within there c.in_ok-read_block.ensures.reads,
-      λ done. warm_after P c.args.block c.args.platform.now c.read_block.new.platform c.in-Some.session c.read_block.new.session before told along.is_open.level there along.room c.in_ok-read_block.ensures.reads,
+      λ done. warm_after P c.args.block c.args.platform.now c.read_block.new.platform c.in-Some.session c.read_block.new.session before told along.is_open.level there along.forgets.capacity c.in_ok-read_block.ensures.reads,
     )
 
 pub returns-in_err-read_block-clause-looks : goal.returns-in_err-read_block-clause-looks

@@ -49,7 +49,7 @@ pub returns-clause-after : goal.returns-clause-after
 returns-clause-after g c =
     let along = (c.in_ok-trim_block.ensures.goes (no_draw None)).along in record {
       ready = along.is_open;
-      room = along.room ∙ room_held c.args.self.now.session c.in-Some.session c.in-Some.is c.requires.room;
+      room = along.forgets.capacity ∙ room_held c.args.self.now.session c.in-Some.session c.in-Some.is c.requires.room;
       mounted = λ told. along.mounted told (mounted_held _ c.in-Some.session _ c.in-Some.is (c.requires.mounted told));
       reply = search rules;
       short = search rules;

@@ -67,7 +67,7 @@ pub returns-clause-after : goal.returns-clause-after
 returns-clause-after g c =
     let along = c.in_ok-write_block.ensures.goes.along in record {
       ready = along.is_open;
-      room = along.room ∙ room_held c.args.self.now.session c.in-Some.session c.in-Some.is c.requires.before.room;
+      room = along.forgets.capacity ∙ room_held c.args.self.now.session c.in-Some.session c.in-Some.is c.requires.before.room;
       mounted = λ told. along.mounted told (mounted_held _ c.in-Some.session _ c.in-Some.is (c.requires.before.mounted told));
       reply = search rules;
       short = search rules;

@@ -20,6 +20,7 @@ use Rattle.grove_accounts.specs.Holding.{Arrives, IsSameSize}
 use Rattle.device_session.specs.Sessions.{Session}
 use Rattle.device_session.specs.declared.refusals.WriteRefusal.{WriteRefusal}
 use Rattle.device_session.specs.Changes.{WriteGrows}
+use Rattle.btree_walk.proofs.ForgetLaws.{forgets_same}
 use Rattle.device_session.specs.Going.{GoesOn, Updates}
 use Rattle.device_session.specs.Open.{IsOpen, AreDataPages, needed_by}
 use Rattle.device_session.proofs.GoingLaws.{updates_none}
@@ -122,7 +123,7 @@ still_goes_on g c = record {
   follows = λ known f. still_follows g c known.0 f;
   is_open = later_open (the_view c.self.inside) c.append.new.self _ _ c.append.ensures.adds.grows.rises (is_open g c);
   root = ap (λ (s : Session). s.root) c.self.view_is;
-  capacity = ap (λ (s : Session). s.cache.capacity) c.self.view_is;
+  forgets = forgets_same _ _ (ap (λ (s : Session). s.cache) c.self.view_is);
 }
 
 pub returns-in-Err-PlatformFault-clause-goes_on : goal.returns-in-Err-PlatformFault-clause-goes_on
@@ -225,7 +226,7 @@ returns-clause-goes_on g c =
           (level_stays c.args.is_mapped c.self.inside.grove.level c.insert.new.self.level (λ yes. c.insert.ensures.level.stays (can.1 yes)) c.insert.ensures.level.rises (at_false c.args.is_mapped _ _ (λ l. l.1) limit) o.level)
           below (count_few c.args.is_mapped c.self.inside.mapped c.self.inside.root.blocks (at_false c.args.is_mapped _ _ (λ l. l.0) limit) o.mapped) (omega (arith, grown)) o);
       root = ap (λ (s : Session). s.root) c.self.view_is;
-      capacity = ap (λ (s : Session). s.cache.capacity) c.self.view_is;
+      forgets = forgets_same _ _ (ap (λ (s : Session). s.cache) c.self.view_is);
     }
 
 pub returns-clause-updates : goal.returns-clause-updates

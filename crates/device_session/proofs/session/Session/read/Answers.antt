@@ -38,7 +38,7 @@ cached g c h = subst (λ (s : Session). StandsOver (g.P.Platform.history c.args.
 goes : (g : Over) (c : After-find g) (buffers : Held) (after : Image) (pages : ℕ) → (g.P.Platform.tells → after ≡ (g.P.Platform.history c.args.platform.now).present) → pages ≡ g.P.Platform.head c.args.platform.now →
     GoesOn g.P.Platform.tells (g.P.Platform.history c.args.platform.now).present after pages c.args.self.now (record (the_view c.self.inside) { cache = c.find.new.reader.cache; buffers = buffers; node = box_value c.find.new.reader.node })
 goes g c buffers after pages still head =
-    goes_looked g.P.Platform.tells (g.P.Platform.history c.args.platform.now).present after (g.P.Platform.head c.args.platform.now) pages c.args.self.now (the_view c.self.inside) c.find.new.reader.cache buffers (box_value c.find.new.reader.node) c.self.view_is still head c.find.ensures.caches.stands c.find.ensures.caches.forgets.capacity c.requires.open
+    goes_looked g.P.Platform.tells (g.P.Platform.history c.args.platform.now).present after (g.P.Platform.head c.args.platform.now) pages c.args.self.now (the_view c.self.inside) c.find.new.reader.cache buffers (box_value c.find.new.reader.node) c.self.view_is still head c.find.ensures.caches.stands c.find.ensures.caches.forgets c.requires.open
 
 listed : (g : Over) (c : After-find g) (buffers : Held) (after : Image) → g.P.Platform.tells → after ≡ (g.P.Platform.history c.args.platform.now).present →
     StaysListed (g.P.Platform.history c.args.platform.now).present after c.args.self.now (record (the_view c.self.inside) { cache = c.find.new.reader.cache; buffers = buffers; node = box_value c.find.new.reader.node })

@@ -44,7 +44,7 @@ returns-clause-listed g c = λ told keys h.
 pub returns-clause-goes_on : goal.returns-clause-goes_on
 returns-clause-goes_on g c =
     let P = g.P.Platform in
-    goes_ready P.tells (P.history c.args.platform.now).present _ (P.head c.args.platform.now) _ c.args.self.now (the_view c.self.inside) c.ready.new.self c.ready.new.reader.cache c.ready.new.reader.buffers (box_value c.ready.new.reader.node) c.self.view_is c.ready.ensures.looks.image c.ready.ensures.looks.head c.ready.ensures.tree c.ready.ensures.sound c.ready.ensures.caches.stands c.ready.ensures.caches.forgets.capacity c.requires.open
+    goes_ready P.tells (P.history c.args.platform.now).present _ (P.head c.args.platform.now) _ c.args.self.now (the_view c.self.inside) c.ready.new.self c.ready.new.reader.cache c.ready.new.reader.buffers (box_value c.ready.new.reader.node) c.self.view_is c.ready.ensures.looks.image c.ready.ensures.looks.head c.ready.ensures.tree c.ready.ensures.sound c.ready.ensures.caches.stands c.ready.ensures.caches.forgets c.requires.open
 
 pub returns-clause-ready : goal.returns-clause-ready
 returns-clause-ready g c = λ told h.

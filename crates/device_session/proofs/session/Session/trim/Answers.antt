@@ -5,7 +5,7 @@ use Rattle.platform.specs.Image.{Image}
 use Rattle.root_codec.specs.declared.root.Root.{Root}
 use Rattle.page_store.specs.Tree.{Mapped}
 use Rattle.btree_twigs.specs.Stubs.{Stub}
-use Rattle.btree_walk.specs.Sights.{StandsOver}
+use Rattle.btree_walk.specs.Sights.{StandsOver, ForgetsNone}
 use Rattle.btree_update.specs.Held.{bound}
 use Rattle.btree_update.specs.Maps.{HasBlock, LacksBlock}
 use Rattle.btree_update.specs.Groves.{GroveMaps, IsWrongOnWay, grown_in}
@@ -208,7 +208,7 @@ returns-clause-goes_on g c =
           follows_removed session c.remove.new.self image c.args.block pages any o (size g at) (small g at) (removes g at told f.cached) r (λ mapped read beside maps. c.remove.ensures.maps image.readable mapped read beside maps) k;
       is_open = removed_open session c.remove.new.self pages (size g at) c.remove.ensures.top (level c.self-2.inside.grove.level c.remove.new.self.level c.remove.ensures.level o.level) (c.remove.ensures.below (bound pages (key_size c.self-2.inside.root.version)) o.below) o;
       root = ap (λ (s : Session). s.root) c.self-2.view_is ∙ c.ready.ensures.goes_on.root;
-      capacity = ap (λ (s : Session). s.cache.capacity) c.self-2.view_is ∙ c.ready.ensures.goes_on.capacity;
+      forgets = subst (λ (s : Session). ForgetsNone c.args.self.now.cache s.cache) (sym c.self-2.view_is) c.ready.ensures.goes_on.forgets;
     }
   where
     level : (old new : ℕ) → (new ≡ old) ⊎ (new + 1 ≡ old) → old ≤ 20 → new ≤ 20
