@@ -9,8 +9,8 @@ ghost use Rattle.node_cache.specs.Buckets.{Covers, MayHave};
 pub enum Bucket {
     /// There is none.
     Empty,
-    /// There is no other than this.
-    One(usize),
+    /// There is no other than this. Two bytes are enough for a number: there are 4,096 slots at most.
+    One(u16),
     /// There may be any.
     Many,
 }
@@ -26,7 +26,7 @@ pub(crate) fn slot_of(buckets: &[Bucket], addrs: &[Option<u64>], addr: u64) -> O
     };
     match bucket {
         Bucket::Empty => None,
-        Bucket::One(number) => find_in(addrs, number, addr),
+        Bucket::One(number) => find_in(addrs, number as usize, addr),
         Bucket::Many => find(addrs, addr),
     }
 }
@@ -59,13 +59,12 @@ fn bucket_with(
     let is_shared = match old {
         None => false,
         Some(Bucket::Empty) => false,
-        Some(Bucket::One(other)) => shares(addrs, other, number, count, place),
+        Some(Bucket::One(other)) => shares(addrs, other as usize, number, count, place),
         Some(Bucket::Many) => has_other(addrs, number, count, place),
     };
-    if is_shared {
-        Bucket::Many
-    } else {
-        Bucket::One(number)
+    match u16::try_from(number) {
+        Ok(number) if !is_shared => Bucket::One(number),
+        _ => Bucket::Many,
     }
 }
 
