@@ -29,7 +29,7 @@ pub fn read_block<P: Platform>(
     // On any pages: why it is answered so.
     ensures any { ReadsAny (P.tells × IsMounted (P.history platform.old).present session.old) (P.history platform.old).present (P.history platform.new).present
         session.old block out.new result }
-    ensures counts { session.new.mapped ≡ session.old.mapped }
+    ensures same { (session.new.mapped ≡ session.old.mapped) × (session.new.grove ≡ session.old.grove) }
     ensures left { OnErr result (out.new ≡ out.old) }
 {
     match session.read(platform, block, out) {
