@@ -1,5 +1,5 @@
 -- What a cache keeps, over pages.
-use Rattle.std.proofs.Common.{◌≡◌, ◌⊎◌, ℕ, ◌<◌, ◌≤◌, ◌-◌, ◌^◌, List, Contains, sym, ap, subst, ◌∙◌, inl, inr}
+use Rattle.std.proofs.Common.{◌≡◌, ◌⊎◌, ℕ, ◌<◌, ◌≤◌, ◌-◌, ◌^◌, List, Contains, sym, ap, subst, inl, inr}
 use Rattle.platform.specs.declared.platforms.Platform.{Ghosts}
 use Rattle.page_store.specs.Tree.{Place}
 use Rattle.btree_walk.specs.Among.{IsAmong, KeepsBut}

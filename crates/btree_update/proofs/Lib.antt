@@ -31,3 +31,5 @@ pub mod KeptWay
 pub mod WarmLaws
 pub mod EarlyLaws
 pub mod FewLaws
+pub mod FrameLaws
+pub mod KeepLaws

@@ -8,6 +8,7 @@ pub mod UpdateLaws
 pub mod PageLaws
 pub mod InsertLaws
 pub mod DamageLaws
+pub mod KeepLaws
 pub mod ChangedLaws
 pub mod GoingLaws
 pub mod CountLaws

@@ -9,6 +9,7 @@ use Rattle.btree_update.specs.declared.groves.Grove.{Grove}
 use Rattle.btree_update.specs.Finding.{GroveFinds}
 use Rattle.btree_update.specs.Groves.{GroveMaps, IsWrongOnWay}
 use Rattle.grove_accounts.specs.Followed.{FollowsTree}
+use Rattle.device_session.specs.Reading.{FindsContent, KeepsOthers}
 use Rattle.device_session.specs.Sessions.{Session}
 
 -- the tree maps so many blocks
@@ -54,6 +55,22 @@ CountsPut pages block session now =
 abbrev pub CountsTaken : List (List ℕ) → ℕ → Session → Session → Type 0
 CountsTaken pages block session now =
     (IsFound false pages session block × (now.mapped ≡ session.mapped)) ⊎ (IsFound true pages session block × (now.mapped + 1 ≡ session.mapped))
+
+-- a look-up of the block comes to the content behind this, and one of each other block to what it came to before
+pub record LeavesPut (pages after : List (List ℕ)) (session now : Session) (block : ℕ) (bytes : List ℕ) : Type 0 where
+  pub content : FindsContent after now.grove block bytes
+  pub others : KeepsOthers pages after session now block
+
+-- a write that was done, on any pages
+pub record HasPut (pages after : List (List ℕ)) (session now : Session) (block : ℕ) (bytes : List ℕ) : Type 0 where
+  pub counts : CountsPut pages block session now
+  pub left : LeavesPut pages after session now block bytes
+
+-- and a trim: a look-up finds the block no more, and one of each other block comes to what it came to
+pub record HasTaken (pages after : List (List ℕ)) (session now : Session) (block : ℕ) : Type 0 where
+  pub counts : CountsTaken pages block session now
+  pub gone : IsFound false after now block
+  pub others : KeepsOthers pages after session now block
 
 -- this is the root node, where a block that isn't mapped is to be and no more can
 abbrev pub IsPastLimit : List (List ℕ) → Session → ℕ → ℕ → Type 0

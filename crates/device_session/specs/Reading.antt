@@ -1,5 +1,5 @@
 -- What a session reads, on any pages, forged ones too.
-use Rattle.std.specs.Prelude.{◌≡◌, ◌⊎◌, ◌≤◌, ◌+◌, ℕ, List, Option, None, Some, Result, Ok, Err, OnOk, replicate}
+use Rattle.std.specs.Prelude.{◌≡◌, ◌≢◌, ◌↔◌, ◌⊎◌, ◌<◌, ◌≤◌, ◌+◌, ℕ, List, Option, None, Some, Result, Ok, Err, OnOk, replicate}
 use Rattle.sdbt_base.specs.Arrays.{Blocks, content_of}
 use Rattle.platform.specs.declared.platforms.Platform.{Ghosts}
 use Rattle.node_codec.specs.declared.body.Entry.{Entry}
@@ -22,6 +22,15 @@ pub record FindsContent (pages : List (List ℕ)) (grove : Grove) (block : ℕ) 
   pub found : Option Entry
   pub finds : GroveFinds pages block grove found
   pub reads : ReadsAs pages block found content
+
+-- a look-up of the block comes to the same with one session over these pages as with the other over those: to the same entry, or to none, and to the same content
+pub record KeepsBlock (pages after : List (List ℕ)) (session now : Session) (block : ℕ) : Type 0 where
+  pub entry : (found : Option Entry) → GroveFinds pages block session.grove found ↔ GroveFinds after block now.grove found
+  pub content : (content : List ℕ) → FindsContent pages session.grove block content ↔ FindsContent after now.grove block content
+
+-- so it does of each other block of the device
+abbrev pub KeepsOthers : List (List ℕ) → List (List ℕ) → Session → Session → ℕ → Type 0
+KeepsOthers pages after session now block = (other : ℕ) → other < blocks_of session → other ≢ block → KeepsBlock pages after session now other
 
 -- the first record on the way to the block that doesn't fit is at this address: a node, or the data record that the block's entry names
 abbrev pub IsFirstMisfit : List (List ℕ) → Grove → ℕ → ℕ → Type 0

@@ -14,7 +14,7 @@ use platform::Platform;
 impl Session {
     ghost use Rattle.device_session.specs.Open.{IsOpen, blocks_of, is_touched};
     ghost use Rattle.device_session.specs.Holds.{Holds};
-    ghost use Rattle.device_session.specs.Damage.{IsTrimMisfit, IsTrimDamage, NamesDamage, CountsTaken};
+    ghost use Rattle.device_session.specs.Damage.{IsTrimMisfit, IsTrimDamage, NamesDamage, HasTaken};
     ghost use Rattle.device_session.specs.Going.{GoesOn, Updates};
     ghost use Rattle.device_session.specs.Keys.{StaysListed};
 
@@ -29,13 +29,13 @@ impl Session {
         requires { IsOpen self.old (P.head platform.old) }
         ensures array { P.tells → (device : Device) (contents : Blocks) → Holds self.old (P.history platform.old).present device contents
             → Trims (P.history platform.new).present device contents block self.old self.new result }
-        // On any pages: what is named is a node that doesn't fit, or the root node, where a block is mapped and none is counted; and one is
-        // counted less where the block was mapped.
+        // On any pages: what is named is a node that doesn't fit, or the root node, where a block is mapped and none is counted; and behind a
+        // trim no look-up finds the block, each other one comes to what it came to, and one is counted less where the block was mapped.
         ensures damaged { P.tells → (addr : ℕ) → IsErrOf result (TrimRefusal.BadRecord addr)
             → NamesDamage (P.history platform.old).present (P.history platform.new).present self.old addr
             (IsTrimMisfit (P.history platform.old).present.readable self.old block addr) (IsTrimDamage (P.history platform.old).present.readable self.old block addr) }
-        ensures counter { P.tells → StandsOver (P.history platform.old).present.readable self.old.cache
-            → OnOk result (CountsTaken (P.history platform.old).present.readable block self.old self.new) }
+        ensures taken { P.tells → StandsOver (P.history platform.old).present.readable self.old.cache
+            → OnOk result (HasTaken (P.history platform.old).present.readable (P.history platform.new).present.readable self.old self.new block) }
         ensures goes_on { GoesOn P.tells (P.history platform.old).present (P.history platform.new).present (P.head platform.new) self.old self.new }
         ensures updates { Updates self.old self.new result }
         // Where no block is counted less, nothing is touched.

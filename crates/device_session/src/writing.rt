@@ -19,7 +19,7 @@ use sdbt_base::Tape;
 impl Session {
     ghost use Rattle.device_session.specs.Open.{IsOpen, blocks_of, is_touched};
     ghost use Rattle.device_session.specs.Holds.{Holds};
-    ghost use Rattle.device_session.specs.Damage.{IsWriteMisfit, IsWriteDamage, NamesDamage, IsFound, IsAtLimit, HasRoom, CountsPut};
+    ghost use Rattle.device_session.specs.Damage.{IsWriteMisfit, IsWriteDamage, NamesDamage, IsFound, IsAtLimit, HasRoom, HasPut, LeavesPut};
     ghost use Rattle.device_session.specs.Going.{GoesOn, Updates};
     ghost use Rattle.device_session.specs.Keys.{HoldsListed};
 
@@ -40,13 +40,14 @@ impl Session {
         requires open { IsOpen self.old (P.head platform.old) }
         ensures array { P.tells → (device : Device) (contents : Blocks) → Holds self.old (P.history platform.old).present device contents
             → Writes (P.history platform.new).present device contents block (P.head platform.old) (padded content.now) self.old self.new result }
-        // On any pages: what is named is a node that doesn't fit, or the root node, where the block isn't mapped and no more can be; and a
-        // block is written where it is mapped, or another one can be, which is counted then.
+        // On any pages: what is named is a node that doesn't fit, or the root node, where the block isn't mapped and no more can be; a
+        // block is written where it is mapped, or another one can be, which is counted then; and behind a write a look-up of it comes to
+        // the content, and each other one to what it came to.
         ensures damaged { P.tells → (addr : ℕ) → IsErrOf result (WriteRefusal.BadRecord addr)
             → NamesDamage (P.history platform.old).present (P.history platform.new).present self.old addr
             (IsWriteMisfit (P.history platform.old).present.readable self.old block addr) (IsWriteDamage (P.history platform.old).present.readable self.old block addr) }
-        ensures counter { P.tells → StandsOver (P.history platform.old).present.readable self.old.cache
-            → OnOk result (CountsPut (P.history platform.old).present.readable block self.old self.new)
+        ensures written { P.tells → StandsOver (P.history platform.old).present.readable self.old.cache
+            → OnOk result (HasPut (P.history platform.old).present.readable (P.history platform.new).present.readable self.old self.new block (padded content.now))
             × (IsErrOf result WriteRefusal.TapeFault → IsFound true (P.history platform.old).present.readable self.old block ⊎ HasRoom self.old) }
         ensures goes_on { GoesOn P.tells (P.history platform.old).present (P.history platform.new).present (P.head platform.new) self.old self.new }
         ensures touched { OnOk result (is_touched self.new ≡ true) }
@@ -115,6 +116,8 @@ impl Session {
         ensures adds { WriteAdds P.Platform T.Tape platform.old platform.new tape.old tape.new (places_of self.new.grove) block result }
         ensures cause { IsPutCause (counts (P.faults platform.old) (T.faults tape.old) 0 0 0) (counts (P.faults platform.new) (T.faults tape.new) 0 0 0) result }
         ensures grows { WriteGrows P.Platform T.Tape 0 platform.old platform.new tape.old tape.new }
+        ensures left { P.tells → IsReadyFor (P.history platform.old).present.readable block self.old.grove is_mapped
+            → OnOk result (LeavesPut (P.history platform.old).present.readable (P.history platform.new).present.readable self.old self.new block (padded content.now)) }
     {
         are_bytes(content);
         let addr = platform.head();

@@ -1,6 +1,5 @@
 -- How parts of a run compose in which a session goes on.
 use Rattle.std.proofs.Common.{◌+◌, ℕ, Some, refl, ◌∙◌, arith}
-use Rattle.sdbt_base.specs.Arrays.{written, mounted}
 use Rattle.platform.specs.declared.platforms.Platform.{Ghosts as PlatformGhosts}
 use Rattle.device_terms.proofs.MomentLaws.{still, stays_then}
 use Rattle.device_course.specs.States.{IsListed}
@@ -9,7 +8,6 @@ use Rattle.device_session.specs.Open.{IsOpen}
 use Rattle.device_session.specs.Sessions.{Session}
 use Rattle.device_session.proofs.GoingLaws.{forgets_nothing, forgets_nothing_then}
 use Rattle.session_calls.specs.Along.{Along, Drawn}
-use Rattle.session_calls.specs.declared.stops.DeviceStop.TheVariants as stops
 
 -- nothing happened
 pub along_start : {S : Type 0} (P : PlatformGhosts S) (platform : S) (drawn : Drawn) (session : Session) → IsOpen session (P.head platform) → Along P 0 platform platform drawn drawn session session

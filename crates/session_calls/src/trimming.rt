@@ -1,6 +1,6 @@
 ghost use Rattle.std.specs.Prelude.{◌≡◌, ◌<◌, ◌≢◌, Some, OnOk};
 ghost use Rattle.sdbt_base.specs.Arrays.{Device, Session as OpenSession, mounted};
-ghost use Rattle.device_session.specs.Damage.{CountsTaken};
+ghost use Rattle.device_session.specs.Damage.{HasTaken};
 ghost use Rattle.device_session.specs.Open.{IsOpen, blocks_of};
 ghost use Rattle.device_course.specs.States.{IsAt};
 ghost use Rattle.session_calls.specs.Along.{Drawn};
@@ -28,8 +28,9 @@ pub fn trim_block<P: Platform>(
     // On any pages: why it is answered so.
     ensures any { TrimsAny (P.tells × IsMounted (P.history platform.old).present session.old) (P.history platform.old).present (P.history platform.new).present
         session.old block result }
-    ensures counts { P.tells → IsMounted (P.history platform.old).present session.old
-        → OnOk result (CountsTaken (P.history platform.old).present.readable block session.old session.new) }
+    // And what a trim makes of the tree.
+    ensures taken { P.tells → IsMounted (P.history platform.old).present session.old
+        → OnOk result (HasTaken (P.history platform.old).present.readable (P.history platform.new).present.readable session.old session.new block) }
 {
     match session.trim(platform, block) {
         Ok(()) => Ok(()),

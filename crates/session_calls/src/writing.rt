@@ -1,6 +1,6 @@
 ghost use Rattle.std.specs.Prelude.{◌<◌, ◌≤◌, ◌≢◌, Some, OnOk, length};
-ghost use Rattle.sdbt_base.specs.Arrays.{Device, Session as OpenSession, mounted};
-ghost use Rattle.device_session.specs.Damage.{CountsPut};
+ghost use Rattle.sdbt_base.specs.Arrays.{Device, Session as OpenSession, mounted, padded};
+ghost use Rattle.device_session.specs.Damage.{HasPut};
 ghost use Rattle.device_session.specs.Open.{IsOpen, blocks_of};
 ghost use Rattle.device_course.specs.States.{IsAt};
 ghost use Rattle.session_calls.specs.Along.{drawn_by};
@@ -33,8 +33,9 @@ pub fn write_block<P: Platform, T: Tape>(
     // On any pages: why it is answered so.
     ensures any { WritesAny (P.tells × IsMounted (P.history platform.old).present session.old) (P.history platform.old).present (P.history platform.new).present
         session.old block result }
-    ensures counts { P.tells → IsMounted (P.history platform.old).present session.old
-        → OnOk result (CountsPut (P.history platform.old).present.readable block session.old session.new) }
+    // And what a write makes of the tree.
+    ensures written { P.tells → IsMounted (P.history platform.old).present session.old
+        → OnOk result (HasPut (P.history platform.old).present.readable (P.history platform.new).present.readable session.old session.new block (padded content.now)) }
 {
     match session.write(platform, tape, block, content) {
         Ok(()) => Ok(()),

@@ -47,10 +47,10 @@ returns-in-Err-clause-goes g c drawn = record {
 
 -- on any pages
 pub returns-in-Ok-clause-any : goal.returns-in-Ok-clause-any
-returns-in-Ok-clause-any g c known = elim (c.in-Ok.ensures.counter known.0 known.1.follows.cached) [ inl lacks ↦ inl lacks.0 | inr has ↦ inr (omega (arith, has.1)) ]
+returns-in-Ok-clause-any g c known = elim (c.in-Ok.ensures.taken known.0 known.1.follows.cached).counts [ inl lacks ↦ inl lacks.0 | inr has ↦ inr (omega (arith, has.1)) ]
 
-pub returns-in-Ok-clause-counts : goal.returns-in-Ok-clause-counts
-returns-in-Ok-clause-counts g c told mounted = c.in-Ok.ensures.counter told mounted.follows.cached
+pub returns-in-Ok-clause-taken : goal.returns-in-Ok-clause-taken
+returns-in-Ok-clause-taken g c told mounted = c.in-Ok.ensures.taken told mounted.follows.cached
 
 pub returns-in-Err-clause-any : goal.returns-in-Err-clause-any
 returns-in-Err-clause-any g c =

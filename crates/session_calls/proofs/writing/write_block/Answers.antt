@@ -53,10 +53,10 @@ returns-in-Err-clause-adds g c = write_added g.P.Platform g.T.Tape _ _ _ _ (plac
 
 -- on any pages
 pub returns-in-Ok-clause-any : goal.returns-in-Ok-clause-any
-returns-in-Ok-clause-any g c known = elim ((c.in-Ok.ensures.counter known.0 known.1.follows.cached).0) [ inl has ↦ inl has.0 | inr lacks ↦ inr lacks.1 ]
+returns-in-Ok-clause-any g c known = elim ((c.in-Ok.ensures.written known.0 known.1.follows.cached).0.counts) [ inl has ↦ inl has.0 | inr lacks ↦ inr lacks.1 ]
 
-pub returns-in-Ok-clause-counts : goal.returns-in-Ok-clause-counts
-returns-in-Ok-clause-counts g c told mounted = (c.in-Ok.ensures.counter told mounted.follows.cached).0
+pub returns-in-Ok-clause-written : goal.returns-in-Ok-clause-written
+returns-in-Ok-clause-written g c told mounted = (c.in-Ok.ensures.written told mounted.follows.cached).0
 
 pub returns-in-Err-clause-any : goal.returns-in-Err-clause-any
 returns-in-Err-clause-any g c =
@@ -64,4 +64,4 @@ returns-in-Err-clause-any g c =
     (λ addr named known. wrong_page c.args.session.now _ addr (g.P.Platform.history c.args.platform.now) (g.P.Platform.history c.write.new.platform) _ c.requires.open known.1 (c.write.ensures.grows.time known.0)
     (write_left g.P.Platform g.T.Tape _ _ _ _ (places_of c.write.new.self.grove) c.args.block addr c.in-Err.refusal named c.in-Err.ensures.adds known.0)
     (c.in-Err.ensures.damaged known.0 addr (ap Err named)).damage)
-    (λ keyless known. (c.in-Err.ensures.counter known.0 known.1.follows.cached).1 (ap Err keyless))
+    (λ keyless known. (c.in-Err.ensures.written known.0 known.1.follows.cached).1 (ap Err keyless))

@@ -1,5 +1,5 @@
 use Rattle.std.proofs.Common.{◌≡◌, ◌∙◌, ℕ, [], ◌∷◌, ◌++◌, ◌+◌, ◌<◌, ◌≤◌, List, IsTrue, refl, sym, ap, subst, arith}
-use Rattle.std.specs.Prelude.{Contains, Some, Err}
+use Rattle.std.specs.Prelude.{Contains, Some, Err, length}
 use Rattle.sdbt_base.specs.declared.lists.Unkept.{Unkept}
 use Rattle.std.specs.Bool.{OnFalse}
 use Rattle.std.specs.FinMap as maps
@@ -13,10 +13,12 @@ use Rattle.node_codec.specs.Record.{DataRecord, record_bytes}
 use Rattle.page_store.specs.Buffer.{Held}
 use Rattle.page_store.specs.Keeping.{KeepsKeys, IsNextRecord}
 use Rattle.page_store.proofs.KeepingLaws.{keeps_from}
-use Rattle.btree_update.specs.Held.{bound}
+use Rattle.btree_update.specs.Held.{bound, AreBelow}
+use Rattle.btree_update.proofs.KeepLaws.{put}
 use Rattle.btree_update.specs.Groves.{CanInsert, CanRemove, places_of, grown_in}
 use Rattle.btree_twigs.specs.Stubs.{datum}
 use Rattle.grove_accounts.specs.Holding.{Arrives, IsSameSize}
+use Rattle.grove_accounts.proofs.FollowingLaws.{stays_later}
 use Rattle.device_session.specs.Sessions.{Session}
 use Rattle.device_session.specs.declared.refusals.WriteRefusal.{WriteRefusal}
 use Rattle.device_session.specs.Changes.{WriteGrows}
@@ -29,7 +31,11 @@ use Rattle.device_session.specs.Keys.{HoldsListed}
 use Rattle.device_session.specs.Ready.{IsReadyFor, counted_with}
 use Rattle.device_session.proofs.InsertLaws.{IsInsertion, with_inserted, arrived, padded_bytes, later_holds, later_listed, later_open, inserted_open, inserted_holds, inserted_listed, inserted_pages, below_more, level_stays, count_few, at_false, more_listed}
 use Rattle.device_session.specs.Damage.{Follows, HasRoom}
-use Rattle.device_session.proofs.DamageLaws.{follows_later, follows_inserted}
+use Rattle.device_session.specs.Reading.{KeepsBlock}
+use Rattle.device_session.proofs.PageLaws.{read_later}
+use Rattle.device_session.proofs.UpdateLaws.{open_sound}
+use Rattle.device_session.proofs.DamageLaws.{are_alike, follows_later, follows_inserted}
+use Rattle.device_session.proofs.KeepLaws.{alike_keeps, same_keeps, block_then}
 use Rattle.device_session.specs.contracts.session.Session.{the_view}
 use Rattle.device_session.proofs.session.Session.put.Given.{Over}
 use Rattle.device_session.proofs.session.Session.put.Goals.{After-append, After-insert, In-Ok}
@@ -266,3 +272,31 @@ returns-clause-adds g c =
         place = subst (λ n. Contains (places_of c.insert.new.self) (datum c.args.block n c.in-Ok.placed.key)) address c.insert.ensures.has;
       },
     )
+
+-- ---- on any pages
+
+pub returns-clause-left : goal.returns-clause-left
+returns-clause-left g c = λ told r.
+    let at = goal.at.returns-clause-left g c in
+    let session = the_view c.self.inside in
+    let old = (g.P.Platform.history c.args.platform.now).present in
+    let new = (g.P.Platform.history c.append.new.platform).present in
+    let head = g.P.Platform.head c.args.platform.now in
+    let size_is = key_size c.self.inside.root.version in
+    let come = arrives g at.In-Ok told in
+    let opened = is_open g at.After-append in
+    let o = open_sound session head opened in
+    let ready = subst (λ (s : Session). IsReadyFor old.readable c.args.block s.grove c.args.is_mapped) (sym c.self.view_is) r in
+    let way = read_later old.readable new.readable c.args.block c.self.inside.grove (stays_later old new come.earlier) ready.way in
+    let less : c.args.block < c.self.inside.grove.blocks = omega (arith, small g at.After-append, o.1) in
+    let p = put new.readable c.self.inside.grove c.insert.new.self c.args.block c.in-Ok.placed.addr c.in-Ok.placed.key _ _ _ _ _ o.0 less c.insert.ensures.sound.one c.insert.ensures.top c.insert.ensures.size.0 c.insert.ensures.size.1 (c.insert.ensures.goes new.readable way) in
+    let now = with_inserted session c.insert.new.self c.count_with-self-inside.result c.append.new.self in
+    let below = subst (λ n. AreBelow (bound n size_is) (places_of c.self.inside.grove)) (sym (g.met.P.Platform.counts_pages told c.args.platform.now)) opened.below in
+    record {
+      content = record { found = Some (record { low = c.args.block; addr = c.in-Ok.placed.addr; key = c.in-Ok.placed.key }); finds = p.here; reads = (come.there, (refl, refl)) };
+      others = λ other within apart.
+          let to : other < c.self.inside.grove.blocks = subst (λ (n : ℕ). other < n) (sym (o.1 ∙ ap (λ (s : Session). s.root.blocks) c.self.view_is)) within in
+          let one = alike_keeps (bound (length old.recorded) size_is) old.readable new.readable session other o.0 to below (are_alike old new come.earlier) in
+          let two = same_keeps new.readable session now other (p.others other to apart) in
+          subst (λ (s : Session). KeepsBlock old.readable new.readable s now other) c.self.view_is (block_then old.readable new.readable new.readable session session now other one two);
+    }

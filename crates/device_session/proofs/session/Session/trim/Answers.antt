@@ -1,4 +1,5 @@
-use Rattle.std.proofs.Common.{◌≡◌, ◌∙◌, ◌⊎◌, ◌||◌, ◌+◌, ◌^◌, ◌<◌, ◌≤◌, ℕ, Bool, true, false, List, IsTrue, inl, inr, refl, sym, ap, subst, arith}
+use Rattle.std.proofs.Common.{◌≡◌, ◌∙◌, ◌⊎◌, ◌||◌, ◌+◌, ◌<◌, ◌≤◌, ℕ, Bool, true, false, List, IsTrue, inl, inr, refl, sym, ap, subst, arith}
+use Rattle.std.specs.Prelude.{None}
 use Rattle.std.specs.FinMap as maps
 use Rattle.sdbt_base.specs.Keys.{key_size}
 use Rattle.platform.specs.Image.{Image}
@@ -16,11 +17,14 @@ use Rattle.device_session.specs.Holds.{Holds}
 use Rattle.device_session.specs.Keys.{HoldsListed}
 use Rattle.page_store.specs.Tree.{Wrong}
 use Rattle.sdbt_base.specs.declared.lists.Unkept.{Unkept}
-use Rattle.device_session.specs.Damage.{Follows, IsFound, IsUncounted, IsMiscounted}
+use Rattle.device_session.specs.Damage.{Follows, IsFound, IsUncounted, IsMiscounted, HasTaken}
+use Rattle.device_session.specs.Reading.{KeepsBlock}
+use Rattle.btree_update.proofs.KeepLaws.{TakesFrom, kept_same, taken}
+use Rattle.device_session.proofs.KeepLaws.{same_keeps, kept_keeps, still_keeps, block_then}
 use Rattle.device_session.proofs.GoingLaws.{goes_start, updates_none, updates_ready, updates_then}
 use Rattle.device_session.specs.Ready.{IsReadyFor}
 use Rattle.device_session.proofs.DamageLaws.{follows_removed, update_is_wrong, miscounted_empty}
-use Rattle.device_session.proofs.UpdateLaws.{Removes, ready_pages, removed_pages, removed_open, removed_listed, trimmed, unmapped, counted, beside_anywhere, on_true, on_false}
+use Rattle.device_session.proofs.UpdateLaws.{Removes, ready_pages, removed_pages, removed_open, removed_listed, trimmed, unmapped, counted, beside_anywhere, open_sound, with_removed, on_true, on_false}
 use Rattle.device_session.specs.contracts.session.Session.{the_view}
 use Rattle.device_session.proofs.session.Session.trim.Given.{Over}
 use Rattle.device_session.proofs.session.Session.trim.Goals.{After-ready, After-remove}
@@ -43,11 +47,12 @@ returns-then-lacks-clause-array g c = λ told device contents h.
     let u = unmapped (the_view c.self.inside) image device contents c.args.block (c.lacks.ensures.maps image.readable k.cached c.if-lacks.true) k in
     record { array = subst (λ (s : Session). Holds s image device (maps.remove contents c.args.block) × (s.is_touched ≡ (s.is_touched || maps.contains_key contents c.args.block))) c.self.view_is u; pages = λ pages are. are }
 
-pub returns-then-lacks-clause-counter : goal.returns-then-lacks-clause-counter
-returns-then-lacks-clause-counter g c = λ told over.
+pub returns-then-lacks-clause-taken : goal.returns-then-lacks-clause-taken
+returns-then-lacks-clause-taken g c = λ told over.
     let pages = (g.P.Platform.history c.args.platform.now).present.readable in
     let over' = subst (λ (s : Session). StandsOver pages s.cache) (sym c.self.view_is) over in
-    inl (subst (λ (s : Session). IsFound false pages s c.args.block) c.self.view_is (c.lacks.ensures.found pages over' c.if-lacks.true), refl)
+    let found = subst (λ (s : Session). IsFound false pages s c.args.block) c.self.view_is (c.lacks.ensures.found pages over' c.if-lacks.true) in
+    record { counts = inl (found, refl); gone = found; others = λ other less apart. still_keeps pages c.args.self.now other }
 
 pub returns-then-lacks-clause-goes_on : goal.returns-then-lacks-clause-goes_on
 returns-then-lacks-clause-goes_on g c = goes_start _ _ _ _ c.requires
@@ -178,16 +183,43 @@ returns-then-self-eq0-clause-damaged g c = λ told addr is.
           (inr (uncounted f.cached), inr (named, subst (IsMiscounted image.readable) c.ready.ensures.goes_on.root miscounted));
     }
 
-pub returns-then-not-is_mapped-clause-counter : goal.returns-then-not-is_mapped-clause-counter
-returns-then-not-is_mapped-clause-counter g c = λ told h.
+pub returns-then-not-is_mapped-clause-taken : goal.returns-then-not-is_mapped-clause-taken
+returns-then-not-is_mapped-clause-taken g c = λ told h.
+    let pages = (g.P.Platform.history c.args.platform.now).present.readable in
     let off : c.in-Ok.is_mapped ≡ false = c.if-not-is_mapped.true in
-    inl (subst (λ b. IsFound b (g.P.Platform.history c.args.platform.now).present.readable c.args.self.now c.args.block) off (c.in-Ok.ensures.ready told h).found, c.ready.ensures.same.0)
+    let found = subst (λ b. IsFound b pages c.args.self.now c.args.block) off (c.in-Ok.ensures.ready told h).found in
+    subst (λ (i : Image). HasTaken pages i.readable c.args.self.now c.ready.new.self c.args.block) (sym (c.ready.ensures.looks.image told)) (record {
+      counts = inl (found, c.ready.ensures.same.0);
+      gone = (kept_same pages c.args.self.now.grove c.ready.new.self.grove c.args.block c.ready.ensures.same.2 None).0 found;
+      others = λ other less apart. kept_keeps pages c.args.self.now c.ready.new.self other c.ready.ensures.same.2;
+    })
 
-pub returns-clause-counter : goal.returns-clause-counter
-returns-clause-counter g c = λ told h.
+-- what the removal leaves of each look-up
+takes_from : (g : Over) (c : After-remove g) → g.P.Platform.tells → StandsOver (g.P.Platform.history c.args.platform.now).present.readable c.args.self.now.cache → TakesFrom (g.P.Platform.history c.ready.new.platform).present.readable c.self-2.inside.grove c.remove.new.self c.args.block
+takes_from g c told over =
+    let o = open_sound (the_view c.self-2.inside) (g.P.Platform.head c.ready.new.platform) (was_open g c) in
+    taken (g.P.Platform.history c.ready.new.platform).present.readable c.self-2.inside.grove c.remove.new.self c.args.block _ _ _ _ _ o.0 (omega (arith, small g c, o.1)) c.remove.ensures.sound.one c.remove.ensures.top c.remove.ensures.size.0 c.remove.ensures.size.1 (removes g c told over)
+
+pub returns-clause-taken : goal.returns-clause-taken
+returns-clause-taken g c = λ told h.
+    let at = (goal.at.returns-clause-taken g c).After-remove in
+    let pages = (g.P.Platform.history c.args.platform.now).present.readable in
+    let after = (g.P.Platform.history c.ready.new.platform).present.readable in
     let on : c.in-Ok.is_mapped ≡ true = c.if-not-is_mapped.false in
     let same : c.self-2.inside.mapped ≡ c.args.self.now.mapped = ap (λ (s : Session). s.mapped) c.self-2.view_is ∙ c.ready.ensures.same.0 in
-    inr (subst (λ b. IsFound b (g.P.Platform.history c.args.platform.now).present.readable c.args.self.now c.args.block) on (c.in-Ok.ensures.ready told h).found, omega (arith, same, c.if-self-eq0.false))
+    let o = open_sound (the_view c.self-2.inside) (g.P.Platform.head c.ready.new.platform) (was_open g at) in
+    let t = takes_from g at told h in
+    let root : c.self-2.inside.root ≡ c.args.self.now.root = ap (λ (s : Session). s.root) c.self-2.view_is ∙ c.ready.ensures.goes_on.root in
+    let now = with_removed (the_view c.self-2.inside) c.remove.new.self in
+    record {
+      counts = inr (subst (λ b. IsFound b pages c.args.self.now c.args.block) on (c.in-Ok.ensures.ready told h).found, omega (arith, same, c.if-self-eq0.false));
+      gone = t.gone;
+      others = λ other less apart.
+          let within : other < c.self-2.inside.grove.blocks = subst (λ n. other < n) (sym (o.1 ∙ ap (λ (r : Root). r.blocks) root)) less in
+          let one = subst (λ (i : Image). KeepsBlock pages i.readable c.args.self.now c.ready.new.self other) (sym (c.ready.ensures.looks.image told)) (kept_keeps pages c.args.self.now c.ready.new.self other c.ready.ensures.same.2) in
+          let two = subst (λ (s : Session). KeepsBlock after after s now other) c.self-2.view_is (same_keeps after (the_view c.self-2.inside) now other (t.others other within apart)) in
+          block_then pages after after c.args.self.now c.ready.new.self now other one two;
+    }
 
 -- ---- beside its purpose
 

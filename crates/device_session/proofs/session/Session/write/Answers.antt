@@ -13,7 +13,10 @@ use Rattle.page_store.specs.Tree.{Wrong}
 use Rattle.btree_walk.specs.Sights.{StandsOver}
 use Rattle.btree_update.specs.Groves.{IsWrongOnWay}
 use Rattle.sdbt_base.specs.declared.lists.Unkept.{Unkept}
-use Rattle.device_session.specs.Damage.{CountsPut, IsFound, IsPastLimit, IsMiscounted, HasRoom}
+use Rattle.sdbt_base.specs.Arrays.{padded}
+use Rattle.device_session.specs.Reading.{KeepsBlock}
+use Rattle.device_session.proofs.KeepLaws.{kept_keeps, block_then}
+use Rattle.device_session.specs.Damage.{CountsPut, HasPut, LeavesPut, IsFound, IsPastLimit, IsMiscounted, HasRoom}
 use Rattle.device_session.proofs.GoingLaws.{goes_start, goes_then, updates_none, updates_ready, updates_then, grows_start, grows_looked, grows_then}
 use Rattle.device_session.specs.Ready.{IsReadyFor, counted_with}
 use Rattle.device_session.specs.declared.refusals.WriteRefusal.{WriteRefusal}
@@ -114,6 +117,14 @@ counts_put : (result : Result (Unit {0}) WriteRefusal) (mapped is : Bool) (betwe
 counts_put (Ok done) mapped is between before now same still counts Is then = let to : counted_with mapped between ≡ counted_with is before = λ i. counted_with (same i) (still i) in then (counts ∙ to)
 counts_put (Err refusal) mapped is between before now same still counts Is then = tt
 
+ok_then : (result : Result (Unit {0}) WriteRefusal) (A B : Type 0) → OnOk result A → (A → B) → OnOk result B
+ok_then (Ok done) A B a f = f a
+ok_then (Err refusal) A B a f = tt
+
+has_put : (result : Result (Unit {0}) WriteRefusal) (pages after : List (List ℕ)) (session now : Session) (block : ℕ) (bytes : List ℕ) → OnOk result (CountsPut pages block session now) → OnOk result (LeavesPut pages after session now block bytes) → OnOk result (HasPut pages after session now block bytes)
+has_put (Ok done) pages after session now block bytes counts left = record { counts = counts; left = left }
+has_put (Err refusal) pages after session now block bytes counts left = tt
+
 pub returns-in-Err-BadRecord-clause-damaged : goal.returns-in-Err-BadRecord-clause-damaged
 returns-in-Err-BadRecord-clause-damaged g c = λ told addr is.
     let image = (g.P.Platform.history c.args.platform.now).present in
@@ -150,20 +161,29 @@ returns-then-is_at_limit-clause-damaged g c = λ told addr is.
 pub returns-clause-damaged : goal.returns-clause-damaged
 returns-clause-damaged g c = λ told addr is. absurd (rw is at c.put.ensures.cause)
 
-pub returns-clause-counter : goal.returns-clause-counter
-returns-clause-counter g c = λ told h.
+pub returns-clause-written : goal.returns-clause-written
+returns-clause-written g c = λ told h.
     let pages = (g.P.Platform.history c.args.platform.now).present.readable in
     let looked = (c.in-Ok.ensures.ready told h).found in
+    let mid = (g.P.Platform.history c.ready.new.platform).present.readable in
+    let after = (g.P.Platform.history c.put.new.platform).present.readable in
+    let left = ok_then c.put.result _ (LeavesPut pages after c.args.self.now c.put.new.self c.args.block (padded c.args.content.now)) (c.put.ensures.left told (c.in-Ok.ensures.ready told h).ready) (λ l. record {
+      content = l.content;
+      others = λ other less apart.
+          let within = subst (λ (r : Root). other < r.blocks) (sym c.ready.ensures.goes_on.root) less in
+          let one = subst (λ (i : Image). KeepsBlock pages i.readable c.args.self.now c.ready.new.self other) (sym (c.ready.ensures.looks.image told)) (kept_keeps pages c.args.self.now c.ready.new.self other c.ready.ensures.same.2) in
+          block_then pages mid after c.args.self.now c.ready.new.self c.put.new.self other one (l.others other within apart);
+    }) in
     elim c.else-not-is_mapped.branch [
       | else-not-is_mapped-via-then-not-is_mapped+else-is_at_limit w ↦
           let room = room_same c.args.self.now c.ready.new.self c.ready.ensures.goes_on.root c.ready.ensures.same.0 c.ready.ensures.same.2.level (on_false w.is_at_limit.result (HasRoom c.ready.new.self) w.if-is_at_limit.false w.is_at_limit.ensures.room) in
           let lacks = subst (λ b. IsFound b pages c.args.self.now c.args.block) w.if-not-is_mapped.true looked in (
-            counts_put c.put.result c.in-Ok.is_mapped false c.ready.new.self.mapped c.args.self.now.mapped c.put.new.self.mapped w.if-not-is_mapped.true c.ready.ensures.same.0 c.put.ensures.counts (CountsPut pages c.args.block c.args.self.now c.put.new.self) (λ one. inr (lacks, room, one)),
+            has_put c.put.result _ _ _ _ _ _ (counts_put c.put.result c.in-Ok.is_mapped false c.ready.new.self.mapped c.args.self.now.mapped c.put.new.self.mapped w.if-not-is_mapped.true c.ready.ensures.same.0 c.put.ensures.counts (CountsPut pages c.args.block c.args.self.now c.put.new.self) (λ one. inr (lacks, room, one))) left,
             λ stop. inr room,
           )
       | else-not-is_mapped-via-else-not-is_mapped w ↦
           let has = subst (λ b. IsFound b pages c.args.self.now c.args.block) w.if-not-is_mapped.false looked in (
-            counts_put c.put.result c.in-Ok.is_mapped true c.ready.new.self.mapped c.args.self.now.mapped c.put.new.self.mapped w.if-not-is_mapped.false c.ready.ensures.same.0 c.put.ensures.counts (CountsPut pages c.args.block c.args.self.now c.put.new.self) (λ same. inl (has, same)),
+            has_put c.put.result _ _ _ _ _ _ (counts_put c.put.result c.in-Ok.is_mapped true c.ready.new.self.mapped c.args.self.now.mapped c.put.new.self.mapped w.if-not-is_mapped.false c.ready.ensures.same.0 c.put.ensures.counts (CountsPut pages c.args.block c.args.self.now c.put.new.self) (λ same. inl (has, same))) left,
             λ stop. inl has,
           )
     ]
