@@ -1,12 +1,13 @@
 -- What a session reads, on any pages, forged ones too.
-use Rattle.std.specs.Prelude.{◌≡◌, ◌≢◌, ◌↔◌, ◌⊎◌, ◌<◌, ◌≤◌, ◌+◌, ℕ, List, Option, None, Some, Result, Ok, Err, OnOk, replicate}
+use Rattle.std.specs.Prelude.{◌≡◌, ◌≢◌, ◌↔◌, ◌⊎◌, ◌<◌, ◌≤◌, ◌+◌, ◌-◌, ◌*◌, ℕ, List, Option, None, Some, Result, Ok, Err, OnOk, replicate}
 use Rattle.sdbt_base.specs.Arrays.{Blocks, content_of}
 use Rattle.platform.specs.declared.platforms.Platform.{Ghosts}
 use Rattle.node_codec.specs.declared.body.Entry.{Entry}
 use Rattle.node_codec.specs.Record.{DataRecord}
 use Rattle.page_store.specs.Places.{FitsAt, NothingFits, block_want}
 use Rattle.btree_update.specs.declared.groves.Grove.{Grove}
-use Rattle.btree_update.specs.Finding.{GroveFinds, GroveStops, KeepsWay}
+use Rattle.btree_walk.specs.Sights.{CachedFits}
+use Rattle.btree_update.specs.Finding.{GroveFinds, GroveStops, KeepsWay, RootFinds}
 use Rattle.device_session.specs.declared.refusals.ReadRefusal.{ReadRefusal}
 use Rattle.device_session.specs.declared.refusals.ReadRefusal.TheVariants as refusals
 use Rattle.device_session.specs.Open.{blocks_of}
@@ -53,6 +54,15 @@ pub record ReadsFew {S : Type 0} (P : Ghosts S) (block : ℕ) (platform after : 
   pub none : P.tells → blocks_of session ≤ block → P.reads after ≡ P.reads platform
   pub warm : P.tells → KeepsWayTo session block → P.reads after ≤ P.reads platform + 1
   pub fills : P.tells → OnOk result (now.grove.level ≤ room_of now → KeepsWayTo now block)
+
+-- the nodes in memory, and below them those that its cache keeps, say that the block isn't mapped
+abbrev pub KnowsUnmapped : Session → ℕ → Type 0
+KnowsUnmapped session block = RootFinds (CachedFits session.cache.nodes) session.grove.order block (session.grove.level - 1) session.grove.blocks session.grove.top None
+
+-- what a trim costs: two pages for each level of the tree at most; and where it is known that the block isn't mapped nothing is read or brought into memory
+pub record TrimsFew {S : Type 0} (P : Ghosts S) (block : ℕ) (platform after : S) (session now : Session) : Type 0 where
+  pub most : P.tells → P.reads after ≤ P.reads platform + 2 * session.grove.level
+  pub known : KnowsUnmapped session block → (after ≡ platform) × (now ≡ session)
 
 -- what was read of an array: the content of the block; a record that doesn't fit is never met
 abbrev pub ReadsArray : Blocks → ℕ → List ℕ → Result (Unit {0}) ReadRefusal → Type 0

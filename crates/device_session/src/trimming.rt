@@ -17,6 +17,7 @@ impl Session {
     ghost use Rattle.device_session.specs.Damage.{IsTrimMisfit, IsTrimDamage, NamesDamage, HasTaken};
     ghost use Rattle.device_session.specs.Going.{GoesOn, Updates};
     ghost use Rattle.device_session.specs.Keys.{StaysListed};
+    ghost use Rattle.device_session.specs.Reading.{TrimsFew};
 
     /// Unmaps a block, which then reads as zeros. One that is not mapped stays so, and nothing is touched: where the nodes in memory
     /// and the cache say so, that is answered at once, and nothing is read or brought into memory.
@@ -42,7 +43,7 @@ impl Session {
         ensures idle { self.new.mapped ≡ self.old.mapped → (is_touched self.new ≡ is_touched self.old) × KeepsTree self.old.grove self.new.grove }
         ensures listed { P.tells → StaysListed (P.history platform.old).present (P.history platform.new).present self.old self.new }
         ensures looks { Looks P.Platform platform.old platform.new }
-        ensures reads { P.tells → P.reads platform.new ≤ P.reads platform.old + 2 * self.old.grove.level }
+        ensures reads { TrimsFew P.Platform block platform.old platform.new self.old self.new }
         ensures cause { IsTrimCause block (blocks_of self.old) (P.faults platform.old) (P.faults platform.new) result }
     {
         if block >= self.root.blocks {

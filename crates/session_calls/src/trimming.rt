@@ -2,6 +2,7 @@ ghost use Rattle.std.specs.Prelude.{◌≡◌, ◌<◌, ◌≢◌, Some, OnOk};
 ghost use Rattle.sdbt_base.specs.Arrays.{Device, Session as OpenSession, mounted};
 ghost use Rattle.device_session.specs.Damage.{HasTaken};
 ghost use Rattle.device_session.specs.Open.{IsOpen, blocks_of};
+ghost use Rattle.device_session.specs.Reading.{KnowsUnmapped};
 ghost use Rattle.device_course.specs.States.{IsAt};
 ghost use Rattle.session_calls.specs.Along.{Drawn};
 ghost use Rattle.session_calls.specs.Damage.{IsMounted, TrimsAny};
@@ -11,7 +12,8 @@ use crate::stops::DeviceStop;
 use device_session::{Session, TrimRefusal};
 use platform::Platform;
 
-/// Unmaps a block that the device has, which then reads as zeros. One that is not mapped stays so.
+/// Unmaps a block that the device has, which then reads as zeros. One that is not mapped stays so: where the nodes in memory and the
+/// cache say so, nothing is read or brought into memory.
 ///
 /// The session goes on after a stop, with the array that it had.
 pub fn trim_block<P: Platform>(
@@ -28,7 +30,8 @@ pub fn trim_block<P: Platform>(
     // On any pages: why it is answered so.
     ensures any { TrimsAny (P.tells × IsMounted (P.history platform.old).present session.old) (P.history platform.old).present (P.history platform.new).present
         session.old block result }
-    // And what a trim makes of the tree.
+    // Where it is known that the block isn't mapped, and what a trim makes of the tree.
+    ensures known { KnowsUnmapped session.old block → (platform.new ≡ platform.old) × (session.new ≡ session.old) }
     ensures taken { P.tells → IsMounted (P.history platform.old).present session.old
         → OnOk result (HasTaken (P.history platform.old).present.readable (P.history platform.new).present.readable session.old session.new block) }
 {

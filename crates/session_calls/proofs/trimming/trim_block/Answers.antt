@@ -25,7 +25,7 @@ returns-in-Ok-clause-goes g c drawn = record {
       (trim_done _ _ device array c.args.block (is_touched c.args.session.now) at.there.session.1 (c.in-Ok.ensures.array told device array.contents at.there.session.0).array (served_still _ _ (c.trim.ensures.looks.time told) at.served)));
   needs_still = tt;
   mapped_still = tt;
-  reads = λ told. omega (arith, c.in-Ok.ensures.reads told);
+  reads = λ told. omega (arith, c.in-Ok.ensures.reads.most told);
   stops = tt;
   quiet = ap (λ (n : ℕ). counts n drawn.faults 0 0 0) c.in-Ok.ensures.cause.1;
   cause = tt;
@@ -39,7 +39,7 @@ returns-in-Err-clause-goes g c drawn = record {
       (c.in-Err.ensures.updates.touched_still ∙ at.there.session.1) (served_still _ _ (c.trim.ensures.looks.time told) at.served)));
   needs_still = c.in-Err.ensures.updates.needs_still;
   mapped_still = c.in-Err.ensures.updates.mapped_still;
-  reads = λ told. omega (arith, c.in-Err.ensures.reads told);
+  reads = λ told. omega (arith, c.in-Err.ensures.reads.most told);
   stops = trim_of_call c.in-Err.refusal _ c.stop_of_trim.ensures;
   quiet = tt;
   cause = trim_blamed c.in-Err.refusal _ _ _ (counts (g.P.Platform.faults c.args.platform.now) drawn.faults 0 0 0) (counts (g.P.Platform.faults c.trim.new.platform) drawn.faults 0 0 0) refl c.stop_of_trim.ensures c.in-Err.ensures.cause;
