@@ -52,10 +52,11 @@ pub record AreOf (tells : Type 0) (pages : List (List ℕ)) (root : Root) (entri
 abbrev pub IsSurvey : Type 0 → List (List ℕ) → Root → Survey → Type 0
 IsSurvey tells pages root found = AreOf tells pages root found.items.items found.nodes
 
--- each node of the tree of a root record fits, and was read twice
+-- each node of the tree of a root record fits, they list as many entries as it says, and each was read twice
 pub record ReadsTwice (pages : List (List ℕ)) (root : Root) (reads reads_now : ℕ) : Type 0 where
   pub nodes : List Node
   pub are : NodesOf pages root nodes
+  pub many : length (listed nodes) ≡ root.mapped
   pub read : reads_now ≡ reads + 2 * length nodes
 
 -- what was to be read of the tree of a root record was read, or no memory was given, or a record is named that doesn't fit, or the platform failed

@@ -16,7 +16,7 @@ use Rattle.page_store.specs.Stands.{Stands, StandsBy}
 use Rattle.page_store.specs.Tree.{Parts, Tree, Wrong}
 use Rattle.cert_maker.specs.Cert.{Cert}
 use Rattle.device_terms.specs.Certifying.{AddsSynced, IsOfTrees, PutsEntry}
-use Rattle.btree_walk.specs.Nodes.{Node, NodesOf, CutShort}
+use Rattle.btree_walk.specs.Nodes.{Node, NodesOf, CutShort, listed}
 use Rattle.tree_build.specs.Building.{DrewFew}
 use Rattle.tree_build.specs.Shape.{built}
 use Rattle.device_core.specs.Publishing.{IsUnmade}
@@ -84,12 +84,14 @@ pub record SpendsOn {S R : Type 0} (P : PlatformGhosts S) (T : TapeGhosts R) (pl
   pub draws : DrewFew (needed_of_root root) (T.drawn tape) (T.drawn tape_now)
   pub reads : P.tells → (nodes : List Node) × NodesOf (P.history platform).present.readable root nodes × (P.reads platform_now ≤ P.reads platform + (2 * length nodes + root.mapped))
 
--- of the tree of a root record nothing was read; or a walk over its nodes was cut short, and read none twice; or each node was read, and then each once more at
--- most, or by a second walk that was cut short
+-- of the tree of a root record nothing was read; or a walk over its nodes was cut short, and read none twice; or each node was read, and, only where they list as many entries as the
+-- root record says, each once more at most, or by a second walk that was cut short
 abbrev pub ReadsCut : List (List ℕ) → Root → ℕ → ℕ → Type 0
 ReadsCut pages root reads reads_now =
     (reads_now ≡ reads) ⊎ CutShort pages (root_want root) root.key reads reads_now
-    ⊎ ((nodes : List Node) × NodesOf pages root nodes × ((reads_now ≤ reads + 2 * length nodes) ⊎ CutShort pages (root_want root) root.key (reads + length nodes) reads_now))
+    ⊎ ((nodes : List Node) × NodesOf pages root nodes
+    × ((reads_now ≡ reads + length nodes)
+    ⊎ ((length (listed nodes) ≡ root.mapped) × ((reads_now ≤ reads + 2 * length nodes) ⊎ CutShort pages (root_want root) root.key (reads + length nodes) reads_now))))
 
 -- no page was read, or an upgrade of the root record in the cell began, and read so of its tree
 abbrev pub ReadsFew : {S : Type 0} → PlatformGhosts S → S → S → Type 0

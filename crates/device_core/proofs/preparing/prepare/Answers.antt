@@ -50,7 +50,7 @@ returns-in_err-items-clause-cut g c =
 
 -- or both were done, and no memory was given behind them
 twice_read : (pages : List (List ℕ)) (root : Root) (reads now : ℕ) → ReadsTwice pages root reads now → ReadsCut pages root reads now
-twice_read pages root reads now twice = inr (inr (twice.nodes, twice.are, inl (omega (arith, twice.read))))
+twice_read pages root reads now twice = inr (inr (twice.nodes, twice.are, inr (twice.many, inl (omega (arith, twice.read)))))
 
 pub returns-in_err-shape-clause-cut : goal.returns-in_err-shape-clause-cut
 returns-in_err-shape-clause-cut g c =
