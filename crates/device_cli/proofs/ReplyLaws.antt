@@ -26,12 +26,22 @@ so_later : (tells : Type 0) (old new : History) (from since : ℕ) (command : Co
 so_later tells old new from since command reply extends earlier p = record {
   at = p.at;
   later = omega (arith, earlier, p.later);
+  behind = p.behind;
+  after = p.after;
   within = omega (arith, p.within, extends.later);
   held = p.held;
   in_range = p.in_range;
-  mounted = subst (λ (i : Image). IfSome p.held (IsMounted i)) (sym (extends.same p.at p.within)) p.mounted;
-  may = subst (λ (i : Image). MayReply tells i p.held command reply) (sym (extends.same p.at p.within)) p.may;
+  mounted = subst (λ (i : Image). IfSome p.held (IsMounted i)) (sym there) p.mounted;
+  next = p.next;
+  mounted_then = subst (λ (i : Image). IfSome p.next (IsMounted i)) (sym behind_it) p.mounted_then;
+  may = subst (λ (i : Image). MayReply tells i (image_at new p.behind) p.held p.next command reply) (sym there) (subst (λ (i : Image). MayReply tells (image_at old p.at) i p.held p.next command reply) (sym behind_it) p.may);
 }
+  where
+    there : image_at new p.at ≡ image_at old p.at
+    there = extends.same p.at (omega (arith, p.after, p.within))
+
+    behind_it : image_at new p.behind ≡ image_at old p.behind
+    behind_it = extends.same p.behind p.within
 
 line_later : (tells : Type 0) (old new : History) (from since : ℕ) (line : List ℕ) (reply : Reply) → Extends old new → since ≤ from
     → (IsBad line × (reply ≡ Bad)) ⊎ IsOf (λ command. WasSo tells old from command reply) line → (IsBad line × (reply ≡ Bad)) ⊎ IsOf (λ command. WasSo tells new since command reply) line
@@ -82,22 +92,27 @@ in_range_of : (held : Option Session) (head : ℕ) → IfSome held (λ session. 
 in_range_of None head ready = tt
 in_range_of (Some session) head ready = ready.served.in_range
 
-pub so_there : (tells : Type 0) (held : Option Session) (head : ℕ) (old new : History) (line : List ℕ) (command : Command) (reply : Reply) → Spells line command → IfSome held (λ session. IsOpen session head)
-    → (tells → IfSome held (IsMounted old.present)) → (tells → Extends old new) → MayReply tells old.present held command reply
+pub so_there : (tells : Type 0) (held next : Option Session) (head : ℕ) (old new : History) (line : List ℕ) (command : Command) (reply : Reply) → Spells line command → IfSome held (λ session. IsOpen session head)
+    → (tells → IfSome held (IsMounted old.present)) → (tells → IfSome next (IsMounted new.present)) → (tells → Extends old new) → MayReply tells old.present new.present held next command reply
     → tells → (IsBad line × (reply ≡ Bad)) ⊎ IsOf (λ command. WasSo tells new (moment old) command reply) line
-so_there tells held head old new line command reply spells ready mounted extends may told =
+so_there tells held next head old new line command reply spells ready mounted then extends may told =
     let here : image_at new (moment old) ≡ old.present = (extends told).same (moment old) (omega arith) ∙ image_at-now old (moment old) (omega arith) in
+    let there : image_at new (moment new) ≡ new.present = image_at-now new (moment new) (omega arith) in
     inr (
       command,
       spells,
       record {
         at = moment old;
         later = omega arith;
-        within = (extends told).later;
+        behind = moment new;
+        after = (extends told).later;
+        within = omega arith;
         held = held;
         in_range = in_range_of held head ready;
         mounted = subst (λ (i : Image). IfSome held (IsMounted i)) (sym here) (mounted told);
-        may = subst (λ (i : Image). MayReply tells i held command reply) (sym here) may;
+        next = next;
+        mounted_then = subst (λ (i : Image). IfSome next (IsMounted i)) (sym there) (then told);
+        may = subst (λ (i : Image). MayReply tells i (image_at new (moment new)) held next command reply) (sym here) (subst (λ (i : Image). MayReply tells old.present i held next command reply) (sym there) may);
       },
     )
 
@@ -114,18 +129,18 @@ number_is session now number is same next = elim (cases_Bool (is_touched session
 ]
 
 -- a format of numbers that no device has
-refused_reply : (tells : Type 0) (image : Image) (held : Option Session) (blocks order : ℕ) (reply : Given) (buffer : List ℕ) → (reply ≡ given.NotEmpty) ⊎ (reply ≡ given.Range)
-    → (tells → ((reply ≡ given.NotEmpty) × (image.cell ≢ None)) ⊎ ((reply ≡ given.Range) × (image.cell ≡ None))) → in_limits blocks order ≡ false → MayReply tells image held (Format blocks order) (said reply buffer)
-refused_reply tells image held blocks order reply buffer (inl e) why past =
-    subst (λ (r : Given). MayReply tells image held (Format blocks order) (said r buffer)) (sym e) (tt, λ told. is_full (why told))
+refused_reply : (tells : Type 0) (image after : Image) (held next : Option Session) (blocks order : ℕ) (reply : Given) (buffer : List ℕ) → (reply ≡ given.NotEmpty) ⊎ (reply ≡ given.Range)
+    → (tells → ((reply ≡ given.NotEmpty) × (image.cell ≢ None)) ⊎ ((reply ≡ given.Range) × (image.cell ≡ None))) → in_limits blocks order ≡ false → MayReply tells image after held next (Format blocks order) (said reply buffer)
+refused_reply tells image after held next blocks order reply buffer (inl e) why past =
+    subst (λ (r : Given). MayReply tells image after held next (Format blocks order) (said r buffer)) (sym e) (tt, λ told. is_full (why told))
   where
     is_full : ((reply ≡ given.NotEmpty) × (image.cell ≢ None)) ⊎ ((reply ≡ given.Range) × (image.cell ≡ None)) → image.cell ≢ None
     is_full (inl (not_empty, full)) = full
     is_full (inr (range, empty)) = let never : given.NotEmpty ≡ given.Range = sym e ∙ range in absurd cc
-refused_reply tells image held blocks order reply buffer (inr e) why past = subst (λ (r : Given). MayReply tells image held (Format blocks order) (said r buffer)) (sym e) past
+refused_reply tells image after held next blocks order reply buffer (inr e) why past = subst (λ (r : Given). MayReply tells image after held next (Format blocks order) (said r buffer)) (sym e) past
 
 pub refused_any : (tells : Type 0) (old now : World) (blocks order : ℕ) (result : Result Given DeviceStop) (buffer : List ℕ) → IfOk result (λ reply. (reply ≡ given.NotEmpty) ⊎ (reply ≡ given.Range))
     → (tells → IfOk result (λ reply. ((reply ≡ given.NotEmpty) × (old.history.present.cell ≢ None)) ⊎ ((reply ≡ given.Range) × (old.history.present.cell ≡ None))))
     → IfErr result (λ stop. stop ≡ stops.Platform) → in_limits blocks order ≡ false → AnswersAny tells old now (Format blocks order) (outcome result buffer)
-refused_any tells old now blocks order (Ok reply) buffer either why cause past = refused_reply tells old.history.present old.session blocks order reply buffer either why past
+refused_any tells old now blocks order (Ok reply) buffer either why cause past = refused_reply tells old.history.present now.history.present old.session now.session blocks order reply buffer either why past
 refused_any tells old now blocks order (Err stop) buffer either why cause past = subst (λ (s : DeviceStop). MayStop tells old.session now.history.present now.head now.capacity (Format blocks order) s) (sym cause) tt

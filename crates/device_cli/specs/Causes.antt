@@ -6,7 +6,8 @@ use Rattle.root_codec.specs.declared.root.Root.{Root}
 use Rattle.root_codec.specs.RootRecord.{FitsRoot, root_bytes}
 use Rattle.page_store.specs.Roots.{IsBadCell, IsRootWithin}
 use Rattle.device_core.specs.Upgrading.{Begins}
-use Rattle.device_session.specs.Damage.{IsFound, HasRoom}
+use Rattle.sdbt_base.specs.Arrays.{padded}
+use Rattle.device_session.specs.Damage.{HasPut, HasTaken}
 use Rattle.device_session.specs.Open.{blocks_of, is_touched, number_of, root_of}
 use Rattle.device_session.specs.Reading.{FindsContent}
 use Rattle.device_session.specs.Sessions.{Session}
@@ -117,11 +118,12 @@ abbrev pub HasContent : Type 0 → Image → Option Session → Command → List
 HasContent tells image held (commands.Read block) bytes = OnHeld held (λ session. tells → IsLookedUp image block bytes session)
 HasContent tells image held _ bytes = ⊥
 
--- an update can be done: the block is mapped, or another one can be; and for a trim, it isn't mapped, or one is counted
-abbrev pub CanBeDone : Type 0 → Image → Option Session → Command → Type 0
-CanBeDone tells image held (commands.Write block content) = OnHeld held (λ session. tells → IsFound true image.readable session block ⊎ HasRoom session)
-CanBeDone tells image held (commands.Trim block) = OnHeld held (λ session. tells → IsFound false image.readable session block ⊎ (1 ≤ session.mapped))
-CanBeDone tells image held _ = ⊥
+-- an update is done, with this session and image behind it: look-ups come to the content that was written, or find the block no more, and come to what they came to of each other block; a block that wasn't
+-- mapped could be, and one that was is counted
+abbrev pub HasDone : Type 0 → Image → Image → Option Session → Option Session → Command → Type 0
+HasDone tells image after held next (commands.Write block content) = OnHeld held (λ session. OnHeld next (λ now. tells → HasPut image.readable after.readable session now block (padded content)))
+HasDone tells image after held next (commands.Trim block) = OnHeld held (λ session. OnHeld next (λ now. tells → HasTaken image.readable after.readable session now block))
+HasDone tells image after held next _ = ⊥
 
 -- the cell has a root record with this commit number
 abbrev pub HasNumber : Image → ℕ → Type 0
@@ -180,17 +182,17 @@ IsOfImage image commands.Upgrade given.Full = HasVersion image 1
 IsOfImage image commands.Seize (given.Seized pages nodes blocks) = IsCounted image pages nodes blocks
 IsOfImage image _ _ = Unit {0}
 
--- the command may have the reply
-abbrev pub MayReply : Type 0 → Image → Option Session → Command → Reply → Type 0
-MayReply tells image held command given.Range = IsOutOfRange held command
-MayReply tells image held command (given.Content bytes) = HasContent tells image held command bytes
-MayReply tells image held command given.Done = CanBeDone tells image held command
-MayReply tells image held command given.Unmounted = held ≡ None
-MayReply tells image held command reply = IsOwnReply held command reply × (tells → IsOfImage image command reply)
+-- the command may have the reply, over this image and with this session, or none, behind which there are these
+abbrev pub MayReply : Type 0 → Image → Image → Option Session → Option Session → Command → Reply → Type 0
+MayReply tells image after held next command given.Range = IsOutOfRange held command
+MayReply tells image after held next command (given.Content bytes) = HasContent tells image held command bytes
+MayReply tells image after held next command given.Done = HasDone tells image after held next command
+MayReply tells image after held next command given.Unmounted = held ≡ None
+MayReply tells image after held next command reply = IsOwnReply held command reply × (tells → IsOfImage image command reply)
 
 -- the one table of a command's answers on any image
 abbrev pub AnswersAny : Type 0 → World → World → Command → Result Reply DeviceStop → Type 0
-AnswersAny tells old now command (Ok reply) = MayReply tells old.history.present old.session command reply
+AnswersAny tells old now command (Ok reply) = MayReply tells old.history.present now.history.present old.session now.session command reply
 AnswersAny tells old now command (Err stop) = MayStop tells old.session now.history.present now.head now.capacity command stop
 
 -- ---- lines
@@ -207,15 +209,19 @@ HasCalled tells image command = (held : Option Session) × CallsPlatform tells h
 abbrev pub HasLacked : Type 0 → Image → ℕ → ℕ → Command → Type 0
 HasLacked tells image head capacity command = (held : Option Session) × LacksMemory tells held image head capacity command
 
--- at a moment, which is not before this one, there was a session on the root record in the cell, or none, with which the command may have the reply
+-- at a moment, which is not before this one, there was a session on the root record in the cell, or none, and at a later one such a session, or none, behind it, with which the command may have the reply
 pub record WasSo (tells : Type 0) (history : History) (from : ℕ) (command : Command) (reply : Reply) : Type 0 where
   pub at : ℕ
   pub later : from ≤ at
-  pub within : at ≤ moment history
+  pub behind : ℕ
+  pub after : at ≤ behind
+  pub within : behind ≤ moment history
   pub held : Option Session
   pub in_range : IfSome held (λ session. FitsRoot (root_of session))
   pub mounted : IfSome held (IsMounted (image_at history at))
-  pub may : MayReply tells (image_at history at) held command reply
+  pub next : Option Session
+  pub mounted_then : IfSome next (IsMounted (image_at history behind))
+  pub may : MayReply tells (image_at history at) (image_at history behind) held next command reply
 
 -- each of these replies is `bad` to a line outside the grammar, or was so of its line's command
 abbrev pub AreSo : Type 0 → History → ℕ → List (List ℕ) → List Reply → Type 0

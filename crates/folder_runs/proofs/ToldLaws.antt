@@ -4,14 +4,15 @@ use Rattle.platform.specs.Image.{Image}
 use Rattle.platform.specs.History.{History, image_at}
 use Rattle.device_session.specs.Open.{blocks_of, is_touched}
 use Rattle.device_session.specs.Sessions.{Session}
-use Rattle.device_session.specs.Damage.{HasRoom, IsFound}
+use Rattle.sdbt_base.specs.Arrays.{padded}
+use Rattle.device_session.specs.Damage.{HasPut, HasTaken}
 use Rattle.std.specs.Prelude.{◌<◌, ◌≤◌, true, false}
 use Rattle.script_lang.specs.Grammar.{IsBad}
 use Rattle.script_lang.specs.Commands.{Command}
 use Rattle.script_lang.specs.Commands as commands
 use Rattle.script_lang.specs.Replies.{Reply}
 use Rattle.script_lang.specs.Replies as given
-use Rattle.device_cli.specs.Causes.{AreSo, CanBeDone, HasContent, IsLookedUp, IsOf, LacksMemory, MayReply, OnHeld, OnMounted, WasSo}
+use Rattle.device_cli.specs.Causes.{AreSo, HasDone, HasContent, IsLookedUp, IsOf, LacksMemory, MayReply, OnHeld, OnMounted, WasSo}
 
 -- ---- replies
 
@@ -32,38 +33,43 @@ told_content tells image held commands.Upgrade bytes told h = absurd h
 told_content tells image held commands.Stat bytes told h = absurd h
 told_content tells image held commands.Seize bytes told h = absurd h
 
-told_done : (tells : Type 0) (image : Image) (held : Option Session) (command : Command) → tells → CanBeDone tells image held command → CanBeDone (Unit {0}) image held command
-told_done tells image held (commands.Write block content) told h = told_held tells held (λ (s : Session). IsFound true image.readable s block ⊎ HasRoom s) told h
-told_done tells image held (commands.Trim block) told h = told_held tells held (λ (s : Session). IsFound false image.readable s block ⊎ (1 ≤ s.mapped)) told h
-told_done tells image held (commands.Format blocks order) told h = absurd h
-told_done tells image held commands.Mount told h = absurd h
-told_done tells image held (commands.Read block) told h = absurd h
-told_done tells image held commands.Commit told h = absurd h
-told_done tells image held commands.Drop told h = absurd h
-told_done tells image held commands.Erase told h = absurd h
-told_done tells image held commands.Upgrade told h = absurd h
-told_done tells image held commands.Stat told h = absurd h
-told_done tells image held commands.Seize told h = absurd h
+told_both : (tells : Type 0) (held next : Option Session) (P : Session → Session → Type 0) → tells → OnHeld held (λ session. OnHeld next (λ now. tells → P session now)) → OnHeld held (λ session. OnHeld next (λ now. Unit {0} → P session now))
+told_both tells None next P told h = absurd h
+told_both tells (Some session) None P told h = absurd h
+told_both tells (Some session) (Some now) P told h = λ _. h told
 
-told_reply : (tells : Type 0) (image : Image) (held : Option Session) (command : Command) (reply : Reply) → tells → MayReply tells image held command reply → MayReply (Unit {0}) image held command reply
-told_reply tells image held command (given.Content bytes) told h = told_content tells image held command bytes told h
-told_reply tells image held command given.Done told h = told_done tells image held command told h
-told_reply tells image held command given.Range told h = h
-told_reply tells image held command given.Unmounted told h = h
-told_reply tells image held command given.Formatted told h = (h.0, λ _. h.1 told)
-told_reply tells image held command (given.Mounted number) told h = (h.0, λ _. h.1 told)
-told_reply tells image held command (given.Committed number) told h = (h.0, λ _. h.1 told)
-told_reply tells image held command given.Dropped told h = (h.0, λ _. h.1 told)
-told_reply tells image held command given.Erased told h = (h.0, λ _. h.1 told)
-told_reply tells image held command (given.Upgraded number) told h = (h.0, λ _. h.1 told)
-told_reply tells image held command (given.Stat mapped number) told h = (h.0, λ _. h.1 told)
-told_reply tells image held command (given.Seized pages nodes blocks) told h = (h.0, λ _. h.1 told)
-told_reply tells image held command given.Bad told h = (h.0, λ _. h.1 told)
-told_reply tells image held command given.AlreadyMounted told h = (h.0, λ _. h.1 told)
-told_reply tells image held command given.NotEmpty told h = (h.0, λ _. h.1 told)
-told_reply tells image held command given.NoDevice told h = (h.0, λ _. h.1 told)
-told_reply tells image held command given.AlreadyUpgraded told h = (h.0, λ _. h.1 told)
-told_reply tells image held command given.Full told h = (h.0, λ _. h.1 told)
+told_done : (tells : Type 0) (image after : Image) (held next : Option Session) (command : Command) → tells → HasDone tells image after held next command → HasDone (Unit {0}) image after held next command
+told_done tells image after held next (commands.Write block content) told h = told_both tells held next (λ (s n : Session). HasPut image.readable after.readable s n block (padded content)) told h
+told_done tells image after held next (commands.Trim block) told h = told_both tells held next (λ (s n : Session). HasTaken image.readable after.readable s n block) told h
+told_done tells image after held next (commands.Format blocks order) told h = absurd h
+told_done tells image after held next commands.Mount told h = absurd h
+told_done tells image after held next (commands.Read block) told h = absurd h
+told_done tells image after held next commands.Commit told h = absurd h
+told_done tells image after held next commands.Drop told h = absurd h
+told_done tells image after held next commands.Erase told h = absurd h
+told_done tells image after held next commands.Upgrade told h = absurd h
+told_done tells image after held next commands.Stat told h = absurd h
+told_done tells image after held next commands.Seize told h = absurd h
+
+told_reply : (tells : Type 0) (image after : Image) (held next : Option Session) (command : Command) (reply : Reply) → tells → MayReply tells image after held next command reply → MayReply (Unit {0}) image after held next command reply
+told_reply tells image after held next command (given.Content bytes) told h = told_content tells image held command bytes told h
+told_reply tells image after held next command given.Done told h = told_done tells image after held next command told h
+told_reply tells image after held next command given.Range told h = h
+told_reply tells image after held next command given.Unmounted told h = h
+told_reply tells image after held next command given.Formatted told h = (h.0, λ _. h.1 told)
+told_reply tells image after held next command (given.Mounted number) told h = (h.0, λ _. h.1 told)
+told_reply tells image after held next command (given.Committed number) told h = (h.0, λ _. h.1 told)
+told_reply tells image after held next command given.Dropped told h = (h.0, λ _. h.1 told)
+told_reply tells image after held next command given.Erased told h = (h.0, λ _. h.1 told)
+told_reply tells image after held next command (given.Upgraded number) told h = (h.0, λ _. h.1 told)
+told_reply tells image after held next command (given.Stat mapped number) told h = (h.0, λ _. h.1 told)
+told_reply tells image after held next command (given.Seized pages nodes blocks) told h = (h.0, λ _. h.1 told)
+told_reply tells image after held next command given.Bad told h = (h.0, λ _. h.1 told)
+told_reply tells image after held next command given.AlreadyMounted told h = (h.0, λ _. h.1 told)
+told_reply tells image after held next command given.NotEmpty told h = (h.0, λ _. h.1 told)
+told_reply tells image after held next command given.NoDevice told h = (h.0, λ _. h.1 told)
+told_reply tells image after held next command given.AlreadyUpgraded told h = (h.0, λ _. h.1 told)
+told_reply tells image after held next command given.Full told h = (h.0, λ _. h.1 told)
 
 told_line : (tells : Type 0) (history : History) (from : ℕ) (line : List ℕ) (reply : Reply) → tells → (IsBad line × (reply ≡ given.Bad)) ⊎ IsOf (λ command. WasSo tells history from command reply) line
     → (IsBad line × (reply ≡ given.Bad)) ⊎ IsOf (λ command. WasSo (Unit {0}) history from command reply) line
@@ -74,11 +80,15 @@ told_line tells history from line reply told (inr (command, spells, so)) = inr (
   record {
     at = so.at;
     later = so.later;
+    behind = so.behind;
+    after = so.after;
     within = so.within;
     held = so.held;
     in_range = so.in_range;
     mounted = so.mounted;
-    may = told_reply tells (image_at history so.at) so.held command reply told so.may;
+    next = so.next;
+    mounted_then = so.mounted_then;
+    may = told_reply tells (image_at history so.at) (image_at history so.behind) so.held so.next command reply told so.may;
   },
 )
 

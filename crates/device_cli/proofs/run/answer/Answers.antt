@@ -61,7 +61,7 @@ returns-in-Ok-clause-handled g c text kept =
     let extended : P.tells → Extends old.history new.history = λ told. (c.serve.ensures.keeps.serves told (c.requires.cell told)).extends in
     Handled-line P.tells old new no_line text reply c.put_reply-in-Ok.result (written c.args.output.now) (written c.put_reply-in-Ok.new.output)
     later (until_line old.drawn new.drawn text reply spent.0 (inr (command, c.in-Some.ensures.found text kept, spent.1)) spent.2)
-    (until_cut old.drawn new.drawn text command spent.0 (c.in-Some.ensures.found text kept) (λ none. ap g.T.Tape.drawn (c.in-Ok.ensures.still.undrawn none)) spent.2) (so_line P.tells old.history new.history text reply (λ told. extended told) (so_there P.tells c.args.desk.now.session _ old.history new.history text command reply (c.in-Some.ensures.found text kept) c.requires.ready c.requires.mounted (λ told. extended told) c.in-Ok.ensures.any))
+    (until_cut old.drawn new.drawn text command spent.0 (c.in-Some.ensures.found text kept) (λ none. ap g.T.Tape.drawn (c.in-Ok.ensures.still.undrawn none)) spent.2) (so_line P.tells old.history new.history text reply (λ told. extended told) (so_there P.tells c.args.desk.now.session c.serve.new.self.session _ old.history new.history text command reply (c.in-Some.ensures.found text kept) c.requires.ready c.requires.mounted c.in-Ok.ensures.after.mounted (λ told. extended told) c.in-Ok.ensures.any))
     (tells_short P.tells old.history.present old new text command reply (c.in-Some.ensures.found text kept) later (full_as_said c.in-Ok.reply c.serve.new.self.buffer _ c.in-Ok.ensures.after.full)) c.in-Ok.ensures.enough
     (looks_line P.tells old new text command _ (c.in-Some.ensures.found text kept) (λ told before warm look. let few = c.in-Ok.ensures.looks told before warm look in (few.0, λ done. few.1 refl)))
     (λ told entry updates rep enough. turned_command P.tells old new entry updates text command reply told (c.in-Some.ensures.found text kept) c.requires.ready

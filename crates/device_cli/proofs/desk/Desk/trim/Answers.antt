@@ -3,7 +3,7 @@ use Rattle.std.proofs.lemmas.Result.{err_from_is_err_and}
 use Rattle.std.proofs.lemmas.Grind.{common_steps}
 use Rattle.sdbt_base.specs.Arrays.{unmapped}
 use Rattle.device_course.proofs.KeysLaws.{on_start}
-use Rattle.device_session.specs.Damage.{IsFound}
+use Rattle.device_session.specs.Damage.{HasTaken}
 use Rattle.device_session.specs.Open.{blocks_of}
 use Rattle.device_session.specs.Sessions.{Session}
 use Rattle.script_lang.specs.Commands.{Trim}
@@ -84,8 +84,9 @@ pub returns-clause-any : goal.returns-clause-any
 returns-clause-any g c =
     let P = g.P.Platform in
     let pages = (P.history c.args.platform.now).present.readable in
-    held_has c.args.self.now.session c.in-Some.session (λ (s : Session). P.tells → IsFound false pages s c.args.block ⊎ (1 ≤ s.mapped)) c.in-Some.is
-    (λ told. c.in_ok-trim_block.ensures.any (told, mounted_held _ c.in-Some.session _ c.in-Some.is (c.requires.mounted told)))
+    let after = (P.history c.trim_block.new.platform).present.readable in
+    held_has c.args.self.now.session c.in-Some.session (λ (s : Session). P.tells → HasTaken pages after s c.trim_block.new.session c.args.block) c.in-Some.is
+    (λ told. c.in_ok-trim_block.ensures.taken told (mounted_held _ c.in-Some.session _ c.in-Some.is (c.requires.mounted told)))
 
 pub returns-then-block-blocks-clause-any : goal.returns-then-block-blocks-clause-any
 returns-then-block-blocks-clause-any g c = held_has c.args.self.now.session c.in-Some.session (λ (s : Session). blocks_of s ≤ c.args.block) c.in-Some.is (omega (arith, c.if-block-blocks.true, c.blocks-2.ensures))

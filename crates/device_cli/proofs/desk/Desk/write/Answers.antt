@@ -1,9 +1,9 @@
 use Rattle.std.proofs.Common.{◌≡◌, ◌<◌, ◌≤◌, ◌⊎◌, true, List, [], ◌∷◌, ℕ, None, Some, Err, refl, take, ◌∙◌, ap, rules, arith}
 use Rattle.std.proofs.lemmas.Grind.{common_steps}
 use Rattle.std.proofs.lemmas.Result.{err_from_is_err_and}
-use Rattle.sdbt_base.specs.Arrays.{written}
+use Rattle.sdbt_base.specs.Arrays.{padded, written}
 use Rattle.device_course.proofs.KeysLaws.{on_start}
-use Rattle.device_session.specs.Damage.{HasRoom, IsFound}
+use Rattle.device_session.specs.Damage.{HasPut}
 use Rattle.device_session.specs.Open.{blocks_of}
 use Rattle.device_session.specs.Sessions.{Session}
 use Rattle.script_lang.specs.Commands.{Write}
@@ -104,8 +104,10 @@ pub returns-clause-any : goal.returns-clause-any
 returns-clause-any g c =
     let P = g.P.Platform in
     let pages = (P.history c.args.platform.now).present.readable in
-    held_has c.args.self.now.session c.in-Some.session (λ (s : Session). P.tells → IsFound true pages s c.args.block ⊎ HasRoom s) c.in-Some.is
-    (λ told. c.in_ok-write_block.ensures.any (told, mounted_held _ c.in-Some.session _ c.in-Some.is (c.requires.before.mounted told)))
+    let after = (P.history c.write_block.new.platform).present.readable in
+    let bytes : List ℕ = take c.args.count c.args.self.now.buffer in
+    held_has c.args.self.now.session c.in-Some.session (λ (s : Session). P.tells → HasPut pages after s c.write_block.new.session c.args.block (padded bytes)) c.in-Some.is
+    (λ told. c.in_ok-write_block.ensures.written told (mounted_held _ c.in-Some.session _ c.in-Some.is (c.requires.before.mounted told)))
 
 pub returns-then-block-blocks-clause-any : goal.returns-then-block-blocks-clause-any
 returns-then-block-blocks-clause-any g c = held_has c.args.self.now.session c.in-Some.session (λ (s : Session). blocks_of s ≤ c.args.block) c.in-Some.is (omega (arith, c.if-block-blocks.true, c.blocks-2.ensures))
