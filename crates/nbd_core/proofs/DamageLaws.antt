@@ -1,9 +1,11 @@
--- Which outcomes tell of a record that doesn't fit.
-use Rattle.std.proofs.Common.{◌≡◌, ◌≢◌, ◌≤◌, ℕ, Bool, true, false, Option, Some, Result, Ok, Err, sym, subst, ◌∙◌, arith}
+-- Which outcomes say what is true.
+use Rattle.std.proofs.Common.{◌≡◌, ◌≢◌, ◌≤◌, ◌*◌, ◌++◌, ℕ, Bool, true, false, List, [], ◌∷◌, Option, Some, Result, Ok, Err, refl, sym, subst, ◌∙◌, arith}
 use Rattle.std.specs.Prelude.{IfOk, nat_lt, ◌+◌}
 use Rattle.platform.specs.Image.{Image}
-use Rattle.platform.specs.History.{Extends, History, moment}
+use Rattle.platform.specs.History.{Extends, History, image_at, moment}
 use Rattle.platform.proofs.Moments.{image_at-now}
+use Rattle.device_session.specs.Open.{blocks_of, needed_by}
+use Rattle.device_session.specs.Sessions.{Session}
 use Rattle.device_session.specs.declared.refusals.CommitReply.{CommitReply}
 use Rattle.device_session.specs.declared.refusals.CommitReply.TheVariants as replies
 use Rattle.nbd_lang.specs.Refusals.{refusal, refusal_by}
@@ -12,98 +14,198 @@ use Rattle.nbd_lang.specs.declared.replies.Outcome.TheVariants as outcomes
 use Rattle.nbd_lang.specs.declared.requests.Request.{Request}
 use Rattle.nbd_lang.specs.declared.requests.RequestKind.{RequestKind}
 use Rattle.nbd_lang.specs.declared.requests.RequestKind.TheVariants as kinds
-use Rattle.session_calls.specs.Damage.{MeetsDamage}
+use Rattle.session_calls.specs.Damage.{IsMounted, MeetsDamage}
 use Rattle.session_calls.specs.declared.stops.DeviceStop.{DeviceStop}
 use Rattle.session_calls.specs.declared.stops.DeviceStop.TheVariants as device
-use Rattle.nbd_core.specs.Damages.{HasWrongPage, IsDamage, MetDamage, TellsDamage}
-use Rattle.nbd_core.specs.Halts.{commit_outcome, outcome_after}
+use Rattle.nbd_core.specs.Damages.{HasDone, SaysTrue, TellsTrue, ToldTrue, WasTrue, WereTrue}
+use Rattle.nbd_core.specs.Exchanges.{Exchange}
+use Rattle.nbd_core.specs.Found.{HasRead}
+use Rattle.nbd_core.specs.Halts.{outcome_after}
+use Rattle.nbd_core.specs.Serving.{bytes_of_reply, reply_of}
+use Rattle.nbd_core.specs.Short.{FlushSpends}
 use Rattle.nbd_core.specs.declared.halts.Halt.{Halt}
 use Rattle.nbd_core.specs.declared.serving.Performed.{Performed}
 
-by_stop : (image : Image) (stop : DeviceStop) (outcome : Outcome) → MeetsDamage image stop → outcome_after stop ≡ Ok outcome → IsDamage image outcome
-by_stop image (device.BadRecord addr) outcome meets is = λ damaged. (addr, meets)
-by_stop image device.Memory outcome meets is = λ damaged. absurd (memory_told outcome is damaged)
-  where
-    memory_told : (o : Outcome) → outcome_after device.Memory ≡ Ok o → o ≡ outcomes.Damaged → ⊥
-    memory_told o is damaged = cc
-by_stop image device.Platform outcome meets is = absurd cc
-by_stop image device.Tape outcome meets is = absurd cc
-by_stop image device.Ledger outcome meets is = absurd cc
-by_stop image device.BadRoot outcome meets is = absurd cc
+by_stop : (image : Image) (Did : Type 0) (stop : DeviceStop) (outcome : Outcome) → MeetsDamage image stop → outcome_after stop ≡ Ok outcome → SaysTrue image Did outcome
+by_stop image Did (device.BadRecord addr) outcome meets is = let same : outcomes.Damaged ≡ outcome = cc in subst (SaysTrue image Did) same (addr, meets)
+by_stop image Did device.Memory outcome meets is = let same : outcomes.NoMemory ≡ outcome = cc in subst (SaysTrue image Did) same tt
+by_stop image Did device.Platform outcome meets is = absurd cc
+by_stop image Did device.Tape outcome meets is = absurd cc
+by_stop image Did device.Ledger outcome meets is = absurd cc
+by_stop image Did device.BadRoot outcome meets is = absurd cc
 
 -- a call that stopped, and what a request comes to
-pub damage_given : (image : Image) (stop : DeviceStop) (result : Result Outcome Halt) → MeetsDamage image stop → IfOk result (λ outcome. outcome_after stop ≡ Ok outcome) → TellsDamage image result
-damage_given image stop (Ok outcome) meets is = by_stop image stop outcome meets is
-damage_given image stop (Err halt) meets is = tt
+pub stop_given : (image : Image) (Did : Type 0) (stop : DeviceStop) (result : Result Outcome Halt) → MeetsDamage image stop → IfOk result (λ outcome. outcome_after stop ≡ Ok outcome) → IfOk result (SaysTrue image Did)
+stop_given image Did stop (Ok outcome) meets is = by_stop image Did stop outcome meets is
+stop_given image Did stop (Err halt) meets is = tt
 
 same_after : (stop : DeviceStop) (result : Result Outcome Halt) → result ≡ outcome_after stop → IfOk result (λ outcome. outcome_after stop ≡ Ok outcome)
 same_after stop (Ok outcome) is = sym is
 same_after stop (Err halt) is = tt
 
-pub damage_after : (image : Image) (stop : DeviceStop) (result : Result Outcome Halt) → MeetsDamage image stop → result ≡ outcome_after stop → TellsDamage image result
-damage_after image stop result meets is = damage_given image stop result meets (same_after stop result is)
+pub stop_after : (image : Image) (Did : Type 0) (stop : DeviceStop) (result : Result Outcome Halt) → MeetsDamage image stop → result ≡ outcome_after stop → IfOk result (SaysTrue image Did)
+stop_after image Did stop result meets is = stop_given image Did stop result meets (same_after stop result is)
 
--- others tell of none
-pub done_sound : (image : Image) → IsDamage image outcomes.Done
-done_sound image = λ damaged. absurd cc
+-- one that says what is true whatever the image is
+pub given_says : (image : Image) (Did : Type 0) (one : Outcome) (result : Result Outcome Halt) → SaysTrue image Did one → IfOk result (λ outcome. outcome ≡ one) → IfOk result (SaysTrue image Did)
+given_says image Did one (Ok outcome) says is = subst (SaysTrue image Did) (sym is) says
+given_says image Did one (Err halt) says is = tt
 
-pub memory_sound : (image : Image) → IsDamage image outcomes.NoMemory
-memory_sound image = λ damaged. absurd cc
+refused_by : (image : Image) (Did : Type 0) (kind : RequestKind) (flags long past : Bool) (why : Outcome) → refusal_by kind flags long past ≡ Some why → SaysTrue image Did why
+refused_by image Did kinds.Read true long past why is = let same : outcomes.Invalid ≡ why = cc in subst (SaysTrue image Did) same tt
+refused_by image Did kinds.Read false true past why is = let same : outcomes.Invalid ≡ why = cc in subst (SaysTrue image Did) same tt
+refused_by image Did kinds.Read false false true why is = let same : outcomes.Invalid ≡ why = cc in subst (SaysTrue image Did) same tt
+refused_by image Did kinds.Read false false false why is = absurd cc
+refused_by image Did kinds.Write true long past why is = let same : outcomes.Invalid ≡ why = cc in subst (SaysTrue image Did) same tt
+refused_by image Did kinds.Write false true past why is = let same : outcomes.Invalid ≡ why = cc in subst (SaysTrue image Did) same tt
+refused_by image Did kinds.Write false false true why is = let same : outcomes.NoSpace ≡ why = cc in subst (SaysTrue image Did) same tt
+refused_by image Did kinds.Write false false false why is = absurd cc
+refused_by image Did kinds.Disconnect flags long past why is = absurd cc
+refused_by image Did kinds.Flush true long past why is = let same : outcomes.Invalid ≡ why = cc in subst (SaysTrue image Did) same tt
+refused_by image Did kinds.Flush false long past why is = absurd cc
+refused_by image Did kinds.Trim true long past why is = let same : outcomes.Invalid ≡ why = cc in subst (SaysTrue image Did) same tt
+refused_by image Did kinds.Trim false long true why is = let same : outcomes.Invalid ≡ why = cc in subst (SaysTrue image Did) same tt
+refused_by image Did kinds.Trim false long false why is = absurd cc
+refused_by image Did (kinds.Other number) flags long past why is = let same : outcomes.Invalid ≡ why = cc in subst (SaysTrue image Did) same tt
 
-pub space_sound : (image : Image) (result : Result Outcome Halt) → IfOk result (λ outcome. outcome ≡ outcomes.NoSpace) → TellsDamage image result
-space_sound image (Ok outcome) is = λ damaged. absurd (let no : outcomes.NoSpace ≡ outcomes.Damaged = sym is ∙ damaged in cc)
-space_sound image (Err halt) is = tt
+-- what its head is refused with says no more than that
+pub refused_says : (image after : Image) (session now : Session) (size : ℕ) (request : Request) (gone room : List ℕ) (refused : Option Outcome) (why : Outcome) (result : Result Outcome Halt) → refused ≡ refusal size request → refused ≡ Some why → IfOk result (λ outcome. outcome ≡ why)
+    → IfOk result (λ outcome. TellsTrue image after session now (record { head = request; bytes = gone }) (reply_of request outcome room))
+refused_says image after session now size request gone room refused why (Ok outcome) whole is same =
+    refused_by after (HasDone request.kind image after session now request gone (bytes_of_reply request.kind request.length outcome room)) request.kind (nat_lt 0 request.flags) (nat_lt 33554432 request.length) (nat_lt size (request.offset + request.length)) outcome
+    (sym whole ∙ is ∙ (λ i. Some (sym same i)))
+refused_says image after session now size request gone room refused why (Err halt) whole is same = tt
 
-refused_by : (kind : RequestKind) (flags long past : Bool) (why : Outcome) → refusal_by kind flags long past ≡ Some why → why ≢ outcomes.Damaged
-refused_by kinds.Read true long past why is = λ damaged. cc
-refused_by kinds.Read false true past why is = λ damaged. cc
-refused_by kinds.Read false false true why is = λ damaged. cc
-refused_by kinds.Read false false false why is = λ damaged. cc
-refused_by kinds.Write true long past why is = λ damaged. cc
-refused_by kinds.Write false true past why is = λ damaged. cc
-refused_by kinds.Write false false true why is = λ damaged. cc
-refused_by kinds.Write false false false why is = λ damaged. cc
-refused_by kinds.Disconnect flags long past why is = λ damaged. cc
-refused_by kinds.Flush true long past why is = λ damaged. cc
-refused_by kinds.Flush false long past why is = λ damaged. cc
-refused_by kinds.Trim true long past why is = λ damaged. cc
-refused_by kinds.Trim false long true why is = λ damaged. cc
-refused_by kinds.Trim false long false why is = λ damaged. cc
-refused_by (kinds.Other number) flags long past why is = λ damaged. cc
+-- ---- a request of a kind
 
-pub refused_sound : (image : Image) (size : ℕ) (request : Request) (refused : Option Outcome) (why : Outcome) (result : Result Outcome Halt) → refused ≡ refusal size request → refused ≡ Some why → IfOk result (λ outcome. outcome ≡ why) → TellsDamage image result
-refused_sound image size request refused why (Ok outcome) whole is same = λ damaged.
-    absurd (refused_by request.kind (nat_lt 0 request.flags) (nat_lt 33554432 request.length) (nat_lt size (request.offset + request.length)) why (sym whole ∙ is) (sym same ∙ damaged))
-refused_sound image size request refused why (Err halt) whole is same = tt
+-- what was done for a request of this kind, if it is done
+done_as : (image after : Image) (session now : Session) (request : Request) (gone room : List ℕ) (kind : RequestKind) (Did : Type 0) (outcome : Outcome) → request.kind ≡ kind
+    → (Did → HasDone kind image after session now request gone (bytes_of_reply kind request.length outcomes.Done room)) → SaysTrue after Did outcome → TellsTrue image after session now (record { head = request; bytes = gone }) (reply_of request outcome room)
+done_as image after session now request gone room kind Did outcomes.Done is then' says =
+    subst (λ (k : RequestKind). HasDone k image after session now request gone (bytes_of_reply k request.length outcomes.Done room)) (sym is) (then' says)
+done_as image after session now request gone room kind Did outcomes.Damaged is then' says = says
+done_as image after session now request gone room kind Did outcomes.NoMemory is then' says = tt
+done_as image after session now request gone room kind Did outcomes.Invalid is then' says = tt
+done_as image after session now request gone room kind Did outcomes.NoSpace is then' says = tt
 
-pub commit_sound : (reply : CommitReply) (outcome : Outcome) → outcome ≡ commit_outcome reply → outcome ≢ outcomes.Damaged
+pub kind_says : (image after : Image) (session now : Session) (request : Request) (gone room : List ℕ) (kind : RequestKind) (Did : Type 0) (result : Result Outcome Halt) → request.kind ≡ kind
+    → (Did → HasDone kind image after session now request gone (bytes_of_reply kind request.length outcomes.Done room)) → IfOk result (SaysTrue after Did)
+    → IfOk result (λ outcome. TellsTrue image after session now (record { head = request; bytes = gone }) (reply_of request outcome room))
+kind_says image after session now request gone room kind Did (Ok outcome) is then' says = done_as image after session now request gone room kind Did outcome is then' says
+kind_says image after session now request gone room kind Did (Err halt) is then' says = tt
+
+-- a flush that was done leaves no changes
+pub flush_says : (image after : Image) (session : Session) (needed free head head_now : ℕ) (request : Request) (gone room : List ℕ) (result : Result Performed Halt) → request.kind ≡ kinds.Flush
+    → IfOk result (λ done. FlushSpends needed free head head_now done.session done.outcome) → IfOk result (λ done. done.outcome ≢ outcomes.Damaged)
+    → IfOk result (λ done. TellsTrue image after session done.session (record { head = request; bytes = gone }) (reply_of request done.outcome room))
+flush_says image after session needed free head head_now request gone room (Err halt) is spends sound = tt
+flush_says image after session needed free head head_now request gone room (Ok done) is spends sound =
+    done_as image after session done.session request gone room kinds.Flush (needed_by done.session ≡ 0) done.outcome is (λ none. none) (by done.outcome spends.done sound)
+  where
+    by : (outcome : Outcome) → (outcome ≡ outcomes.Done → needed_by done.session ≡ 0) → outcome ≢ outcomes.Damaged → SaysTrue after (needed_by done.session ≡ 0) outcome
+    by outcomes.Done none sound = none refl
+    by outcomes.Damaged none sound = absurd (sound refl)
+    by outcomes.NoMemory none sound = tt
+    by outcomes.Invalid none sound = tt
+    by outcomes.NoSpace none sound = tt
+
+pub commit_sound : (reply : CommitReply) (outcome : Outcome) → outcome ≡ Rattle.nbd_core.specs.Halts.commit_outcome reply → outcome ≢ outcomes.Damaged
 commit_sound (replies.Committed number) outcome is damaged = let no : outcomes.Done ≡ outcomes.Damaged = sym is ∙ damaged in cc
 commit_sound (replies.Full needed free) outcome is damaged = let no : outcomes.NoSpace ≡ outcomes.Damaged = sym is ∙ damaged in cc
 
-pub on_performed : (image : Image) (result : Result Performed Halt) → IfOk result (λ done. done.outcome ≢ outcomes.Damaged) → IfOk result (λ done. IsDamage image done.outcome)
-on_performed image (Ok done) sound = λ damaged. absurd (sound damaged)
-on_performed image (Err halt) sound = tt
-
 -- ---- at moments of a run
 
--- at the last moment
-pub damage_now : (old new : History) → moment old ≤ moment new → HasWrongPage new.present → MetDamage old new
-damage_now old new later wrong = record {
-  at = moment new;
-  from = later;
+-- at two moments that were
+was_later : (size : ℕ) (second third : History) (at behind : ℕ) (session now : Session) (exchange : Exchange) → Extends second third → behind ≤ moment second → WasTrue size second at behind session now exchange → WasTrue size third at behind session now exchange
+was_later size second third at behind session now exchange extends to was =
+    let first : image_at second at ≡ image_at third at = sym (extends.same at (omega (arith, was.later, to))) in
+    let then' : image_at second behind ≡ image_at third behind = sym (extends.same behind to) in
+    record {
+      later = was.later;
+      size_is = was.size_is;
+      mounted = subst (λ (image : Image). IsMounted image session) first was.mounted;
+      mounted_now = subst (λ (image : Image). IsMounted image now) then' was.mounted_now;
+      is = subst (λ (image : Image). TellsTrue image (image_at third behind) session now exchange.sent exchange.reply) first
+          (subst (λ (image : Image). TellsTrue (image_at second at) image session now exchange.sent exchange.reply) then' was.is);
+    }
+
+-- time goes on
+were_on : (size : ℕ) (history : History) (at : ℕ) (session : Session) (exchanges : List Exchange) (end : ℕ) (last : Session) → WereTrue size history at session exchanges end last → at ≤ end
+were_on size history at session [] end last (is, same) = omega (arith, is)
+were_on size history at session (exchange ∷ more) end last (behind, now, was, others) = omega (arith, was.later, were_on size history behind now more end last others)
+
+were_later : (size : ℕ) (second third : History) (at : ℕ) (session : Session) (exchanges : List Exchange) (end : ℕ) (last : Session) → Extends second third → end ≤ moment second → WereTrue size second at session exchanges end last → WereTrue size third at session exchanges end last
+were_later size second third at session [] end last extends to (is, same) = (is, same)
+were_later size second third at session (exchange ∷ more) end last extends to (behind, now, was, others) = (
+  behind,
+  now,
+  was_later size second third at behind session now exchange extends (omega (arith, to, were_on size second behind now more end last others)) was,
+  were_later size second third behind now more end last extends to others,
+)
+
+were_push : (size : ℕ) (history : History) (at : ℕ) (session : Session) (exchanges : List Exchange) (end : ℕ) (last : Session) (behind : ℕ) (now : Session) (exchange : Exchange) → WereTrue size history at session exchanges end last
+    → WasTrue size history end behind last now exchange → WereTrue size history at session (exchanges ++ exchange ∷ []) behind now
+were_push size history at session [] end last behind now exchange (is, same) was =
+    (behind, now, subst (λ (m : ℕ). WasTrue size history m behind session now exchange) (sym is) (subst (λ (s : Session). WasTrue size history end behind s now exchange) (sym same) was), (refl, refl))
+were_push size history at session (one ∷ more) end last behind now exchange (mid, between, first, others) was = (mid, between, first, were_push size history mid between more end last behind now exchange others was)
+
+-- no request yet
+pub told_nothing : (size : ℕ) (history : History) (session : Session) → IsMounted history.present session → needed_by session ≡ 0 → ToldTrue size history history [] (moment history) session
+told_nothing size history session mounted fresh = record {
+  start = moment history;
+  first = session;
+  from = omega arith;
   to = omega arith;
-  wrong = subst HasWrongPage (sym (image_at-now new (moment new) (omega arith))) wrong;
+  mounted = subst (λ (image : Image). IsMounted image session) (sym (image_at-now history (moment history) (omega arith))) mounted;
+  fresh = fresh;
+  told = (refl, refl);
 }
 
--- it was so, at later moments too
-pub damage_later : (first second third : History) → Extends second third → MetDamage first second → MetDamage first third
-damage_later first second third extends met = record {
-  at = met.at;
-  from = met.from;
-  to = omega (arith, met.to, extends.later);
-  wrong = subst HasWrongPage (sym (extends.same met.at met.to)) met.wrong;
+-- seen from later
+pub told_later : (size : ℕ) (first second third : History) (exchanges : List Exchange) (end : ℕ) (last : Session) → Extends second third → ToldTrue size first second exchanges end last → ToldTrue size first third exchanges end last
+told_later size first second third exchanges end last extends told = record {
+  start = told.start;
+  first = told.first;
+  from = told.from;
+  to = omega (arith, told.to, extends.later);
+  mounted = subst (λ (image : Image). IsMounted image told.first) (sym (extends.same told.start (omega (arith, told.to, were_on size second told.start told.first exchanges end last told.told)))) told.mounted;
+  fresh = told.fresh;
+  told = were_later size second third told.start told.first exchanges end last extends told.to told.told;
 }
 
--- and from an earlier moment on
-pub damage_since : (first second third : History) → Extends first second → MetDamage second third → MetDamage first third
-damage_since first second third extends met = record { at = met.at; from = omega (arith, met.from, extends.later); to = met.to; wrong = met.wrong }
+-- one request more
+pub told_more : (size : ℕ) (first second third : History) (exchanges : List Exchange) (session now : Session) (exchange : Exchange) → Extends second third → 4096 * blocks_of session ≡ size → IsMounted second.present session → IsMounted third.present now
+    → TellsTrue second.present third.present session now exchange.sent exchange.reply → ToldTrue size first second exchanges (moment second) session → ToldTrue size first third (exchanges ++ exchange ∷ []) (moment third) now
+told_more size first second third exchanges session now exchange extends size_is mounted mounted_now is so_far =
+    let told = told_later size first second third exchanges (moment second) session extends so_far in
+    let was : second.present ≡ image_at third (moment second) = sym (extends.same (moment second) (omega arith) ∙ image_at-now second (moment second) (omega arith)) in
+    let then' : third.present ≡ image_at third (moment third) = sym (image_at-now third (moment third) (omega arith)) in
+    record {
+      start = told.start;
+      first = told.first;
+      from = told.from;
+      to = omega arith;
+      mounted = told.mounted;
+      fresh = told.fresh;
+      told = were_push size third told.start told.first exchanges (moment second) session (moment third) now exchange told.told
+          (record {
+            later = extends.later;
+            size_is = size_is;
+            mounted = subst (λ (image : Image). IsMounted image session) was mounted;
+            mounted_now = subst (λ (image : Image). IsMounted image now) then' mounted_now;
+            is = subst (λ (image : Image). TellsTrue image (image_at third (moment third)) session now exchange.sent exchange.reply) was
+                (subst (λ (image : Image). TellsTrue second.present image session now exchange.sent exchange.reply) then' is);
+          });
+    }
+
+-- from an earlier moment on
+pub told_since : (size : ℕ) (first second third : History) (exchanges : List Exchange) (end : ℕ) (last : Session) → Extends first second → ToldTrue size second third exchanges end last → ToldTrue size first third exchanges end last
+told_since size first second third exchanges end last extends told = record {
+  start = told.start;
+  first = told.first;
+  from = omega (arith, told.from, extends.later);
+  to = told.to;
+  mounted = told.mounted;
+  fresh = told.fresh;
+  told = told.told;
+}

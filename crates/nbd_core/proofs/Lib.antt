@@ -11,6 +11,7 @@ pub mod StatusLaws
 pub mod ServedLaws
 pub mod ArrayLaws
 pub mod TurnLaws
+pub mod FoundLaws
 pub mod DamageLaws
 pub mod TookLaws
 pub mod AmpleLaws

@@ -12,7 +12,7 @@ use Rattle.sdbt_base.proofs.ToldLaws.{Got-nothing, Got-then}
 use Rattle.sdbt_base.specs.Arrays.{closed}
 use Rattle.device_course.specs.States.{Outside}
 use Rattle.device_course.proofs.MadeLaws.{made_start, shut}
-use Rattle.device_session.specs.Open.{needed_by}
+use Rattle.device_session.specs.Open.{blocks_of, needed_by}
 use Rattle.device_session.specs.Sessions.{Session}
 use Rattle.nbd_lang.specs.Replies.{Reply, reply_bytes}
 use Rattle.nbd_lang.specs.Requests.{RequestSent, FitsRequest, FitsSent, bytes_behind, request_head, request_bytes}
@@ -24,10 +24,11 @@ use Rattle.device_course.specs.Leading.{last_of}
 use Rattle.nbd_terms.specs.Turn.{Ends, IsUnfinished, Turn}
 use Rattle.nbd_core.specs.Room.{Room, Came, IsShorter}
 use Rattle.nbd_core.specs.Requests.{AwaitsRequest, HeadCame, HeadEnd, DataEnd}
-use Rattle.platform.specs.History.{Extends, History}
+use Rattle.platform.specs.History.{Extends, moment}
 use Rattle.platform.proofs.Moments.{Extends-refl}
-use Rattle.nbd_core.specs.Damages.{HasMetDamage, IsDamage}
-use Rattle.nbd_core.proofs.DamageLaws.{damage_later, damage_now}
+use Rattle.session_calls.specs.Damage.{IsMounted}
+use Rattle.nbd_core.specs.Damages.{TellsTrue, ToldTrue}
+use Rattle.nbd_core.proofs.DamageLaws.{told_later, told_more, told_nothing}
 use Rattle.nbd_core.specs.Exchanges.{Exchange, sent_of, told_of}
 use Rattle.nbd_core.specs.Served.{Answered, AnswerEnd, AwaitsMore, EndsByDisconnect, EndsFrom, FitsExchange, IsAhead, IsCommit, IsCutOff, IsGoodbye, IsReplyTo, Served, ServedEnd, bytes_told, sent_bytes, replied_bytes}
 use Rattle.nbd_core.specs.Short.{AreShort, updates_in}
@@ -78,14 +79,14 @@ pub record Replied (From : Held → Type 0) (tells : Type 0) (before mid : Outsi
   pub fit : All (FitsExchange size) exchanges
   pub said : came ≡ flat_map sent_bytes exchanges ++ now.ahead
   pub replied : put ≡ flat_map replied_bytes exchanges
-  pub damage : tells → All (HasMetDamage before.history mid.history) exchanges
+  pub damage : tells → ToldTrue size before.history mid.history exchanges (moment mid.history) session
   pub short : AreShort size (mid.capacity - mid.head) 0 exchanges
   pub needs : needed_by session ≤ 41 * updates_in size 0 exchanges
   pub led : (entry : Held) → From entry → LedTo before.capacity before mid session entry (map sent_of exchanges) (map told_of exchanges)
 
 pub replied_nothing : (From : Held → Type 0) (tells : Type 0) (here : Outside) (session : Session) (size : ℕ) (left : Option (List ℕ)) (old : Room) (written : Option (List ℕ)) → ((entry : Held) → From entry → IsHeld here.history.present here.head session entry) → needed_by session ≡ 0
-    → Replied From tells here here session size left left old old written written []
-replied_nothing From tells here session size left old written held fresh = record {
+    → (tells → IsMounted here.history.present session) → Replied From tells here here session size left left old old written written []
+replied_nothing From tells here session size left old written held fresh mounted = record {
   came = old.ahead;
   put = [];
   takes = came_nothing left old (AwaitsMore []);
@@ -93,7 +94,7 @@ replied_nothing From tells here session size left old written held fresh = recor
   fit = λ k d below. absurd (omega (arith, below));
   said = refl;
   replied = refl;
-  damage = λ told k d below. absurd (omega (arith, below));
+  damage = λ told. told_nothing size here.history session (mounted told) fresh;
   short = tt;
   needs = omega (arith, fresh);
   led = λ entry from. led_start here.capacity here session entry (held entry from);
@@ -117,15 +118,12 @@ whole_came b c d mid read left_to_take request came head next =
 same_count : (exchanges : List Exchange) → length (map told_of exchanges) ≡ length (map sent_of exchanges)
 same_count exchanges = length-map exchanges told_of ∙ sym (length-map exchanges sent_of)
 
-damages_later : (first second third : History) (exchanges : List Exchange) → Extends second third → All (HasMetDamage first second) exchanges → All (HasMetDamage first third) exchanges
-damages_later first second third exchanges extends all = λ k d below. λ damaged. damage_later first second third extends (all k d below damaged)
-
 -- one request more, and its reply
 pub replied_more : (From : Held → Type 0) (tells : Type 0) (before mid_outside after : Outside) (session next : Session) (size : ℕ) (a b c d : Option (List ℕ)) (old mid read now : Room) (w0 w1 w2 : Option (List ℕ)) (exchanges : List Exchange) (request : Request)
     → ((entry : Held) → From entry → tells) → mid_outside.capacity ≡ before.capacity → after.capacity ≡ mid_outside.capacity → mid_outside.head ≤ after.head → (tells → Extends before.history mid_outside.history) → (tells → Extends mid_outside.history after.history) → request.kind ≢ kinds.Disconnect
-    → Replied From tells before mid_outside session size a b old mid w0 w1 exchanges → HeadCame b c mid read (Ok (Some request)) → Answered tells mid_outside after session size request c d read now w1 w2 (Ok next)
+    → 4096 * blocks_of session ≡ size → (tells → IsMounted mid_outside.history.present session) → (tells → IsMounted after.history.present next) → Replied From tells before mid_outside session size a b old mid w0 w1 exchanges → HeadCame b c mid read (Ok (Some request)) → Answered tells mid_outside after session size request c d read now w1 w2 (Ok next)
     → (exchange : Exchange) × Replied From tells before after next size a d old now w0 w2 (exchanges ++ exchange ∷ [])
-replied_more From tells before mid_outside after session next size a b c d old mid read now w0 w1 w2 exchanges request told same room rises until on other so_far head answered =
+replied_more From tells before mid_outside after session next size a b c d old mid read now w0 w1 w2 exchanges request told same room rises until on other size_is mounted mounted_now so_far head answered =
     let sent : RequestSent = record { head = request; bytes = answered.gone } in
     let reply : Reply = answered.ends.1 in
     let exchange : Exchange = record { sent = sent; reply = reply } in
@@ -144,10 +142,7 @@ replied_more From tells before mid_outside after session next size a b c d old m
             ap (λ (l : List ℕ). flat_map sent_bytes exchanges ++ l) (sym (append_assoc (request_head request) answered.gone now.ahead)) ∙ sym (append_assoc (flat_map sent_bytes exchanges) (request_bytes sent) now.ahead)
             ∙ ap (λ (l : List ℕ). (flat_map sent_bytes exchanges ++ l) ++ now.ahead) (sym (append-nil (request_bytes sent))) ∙ ap (λ (l : List ℕ). l ++ now.ahead) (sym words);
         replied = ap (λ (l : List ℕ). l ++ reply_bytes reply) so_far.replied ∙ ap (λ (l : List ℕ). flat_map replied_bytes exchanges ++ l) (sym (append-nil (reply_bytes reply))) ∙ sym answers;
-        damage = λ told_so.
-            All-push (HasMetDamage before.history after.history) exchanges exchange
-            (damages_later before.history mid_outside.history after.history exchanges (on told_so) (so_far.damage told_so))
-            (λ damaged. damage_now before.history after.history (omega (arith, (until told_so).later, (on told_so).later)) (answered.ends.5 told_so damaged));
+        damage = λ told_so. told_more size before.history mid_outside.history after.history exchanges session next exchange (on told_so) size_is (mounted told_so) (mounted_now told_so) (answered.ends.5 told_so) (so_far.damage told_so);
         short = short_push size (after.capacity - after.head) 0 exchanges exchange
             (short_less size (mid_outside.capacity - mid_outside.head) (after.capacity - after.head) 0 exchanges (omega (arith, room, rises)) so_far.short)
             (answered.ends.6 (updates_in size 0 exchanges) so_far.needs).short;
@@ -187,7 +182,7 @@ served_by From tells before there after session size a b c old mid now w0 w1 w2 
   replied = ap (λ (l : List ℕ). l ++ part) so_far.replied;
   ends = ends;
   limit = limit;
-  damage = λ told. damages_later before.history there.history after.history exchanges (on told) (so_far.damage told);
+  damage = λ told. (moment there.history, session, told_later size before.history there.history after.history exchanges (moment there.history) session (on told) (so_far.damage told));
   short = short_less size (there.capacity - there.head) (after.capacity - after.head) 0 exchanges (omega (arith, room, rises)) so_far.short;
   unfinished = λ is. omega (arith, lacks is, so_far.needs);
   led = λ entry from.
@@ -424,7 +419,8 @@ is_reply size request outcome room comes there = record { cookie = refl; comes =
 
 -- one that could not be told whole
 pub answer_cut : (tells : Type 0) (before after : Outside) (session : Session) (size : ℕ) (request : Request) (left : Option (List ℕ)) (gone ahead : List ℕ) (written written_now : Option (List ℕ)) (stop : Stop) (reply : Reply) → stop ≡ stops.Sink
-    → length gone ≡ bytes_behind request.kind request.length → IsReplyTo size request reply → GotPart written (reply_bytes reply) written_now → Turns tells before after session None (record { head = request; bytes = gone }) reply → (tells → IsDamage after.history.present reply.outcome)
+    → length gone ≡ bytes_behind request.kind request.length → IsReplyTo size request reply → GotPart written (reply_bytes reply) written_now → Turns tells before after session None (record { head = request; bytes = gone }) reply
+    → (tells → (now : Session) × IsMounted after.history.present now × TellsTrue before.history.present after.history.present session now (record { head = request; bytes = gone }) reply)
     → AnswerEnd tells before after session size request left gone ahead written written_now (Err (halts.Client stop))
 answer_cut tells before after session size request left gone ahead written written_now stop reply is whole fits part turns damage =
     subst (λ (s : Stop). AnswerEnd tells before after session size request left gone ahead written written_now (Err (halts.Client s))) (sym is) (whole, reply, fits, part, turns, damage)

@@ -40,7 +40,7 @@ use Rattle.session_calls.specs.Spans.{Spans}
 use Rattle.session_calls.proofs.SpanLaws.{led_of, mounted_at}
 use Rattle.nbd_core.specs.declared.halts.Halt.{Halt}
 use Rattle.session_calls.proofs.CarryLaws.{stays_at}
-use Rattle.nbd_core.proofs.DamageLaws.{damage_since}
+use Rattle.nbd_core.proofs.DamageLaws.{told_since}
 use Rattle.nbd_core.proofs.TurnLaws.{array_since}
 
 -- a look at the platform, and what comes behind it
@@ -137,7 +137,9 @@ served_since Earlier From tells first second third size left left_now old new wr
       let s = since entry early in
       array_since first second third entry (map sent_of served.exchanges) (map told_of served.exchanges) (EndsFrom second.capacity size served.rest new.ahead served.part third.head result) (EndsFrom first.capacity size served.rest new.ahead served.part third.head result) same
       (λ last ahead is. record { to = subst (λ (n : ℕ). IsAhead n size served.rest new.ahead served.part result last ahead) same is.to; near = is.near }) s.1 (served.led entry s.0);
-  damage = λ told k d below. λ damaged. damage_since first.history second.history third.history (extends told) (served.damage told k d below damaged);
+  damage = λ told.
+      let was = served.damage told in
+      (was.0, was.1, told_since size first.history second.history third.history served.exchanges was.0 was.1 (extends told) was.2);
   short = served.short;
   unfinished = served.unfinished;
   complete = λ entry early is room. served.complete entry (since entry early).0 is (subst (λ (n : ℕ). HasRoom n size entry served.exchanges) (sym same) room);

@@ -7,6 +7,7 @@ pub mod Requests
 pub mod Serving
 pub mod Turns
 pub mod Exchanges
+pub mod Found
 pub mod Damages
 pub mod Ample
 pub mod Short

@@ -5,6 +5,7 @@ use Rattle.sdbt_base.specs.Told.{Got, GotPart, IsAtEnd}
 use Rattle.device_course.specs.States.{Outside}
 use Rattle.device_session.specs.Open.{needed_by}
 use Rattle.device_session.specs.Sessions.{Session}
+use Rattle.session_calls.specs.Damage.{IsMounted}
 use Rattle.nbd_lang.specs.Refusals.{refusal}
 use Rattle.nbd_lang.specs.Replies.{Reply, reply_bytes}
 use Rattle.nbd_lang.specs.Requests.{FitsSent, bytes_behind, request_head, request_bytes}
@@ -17,7 +18,7 @@ use Rattle.device_course.specs.Held.{Held}
 use Rattle.nbd_terms.specs.Bytes.{size_of}
 use Rattle.nbd_terms.specs.Turn.{Turn, Ends, IsUnfinished}
 use Rattle.nbd_core.specs.Ample.{Completes, HasRoom}
-use Rattle.nbd_core.specs.Damages.{HasMetDamage, IsDamage}
+use Rattle.nbd_core.specs.Damages.{TellsTrue, ToldTrue}
 use Rattle.nbd_core.specs.Exchanges.{Exchange, sent_of, told_of}
 use Rattle.nbd_core.specs.Room.{Room, Came, IsShorter}
 use Rattle.nbd_core.specs.Requests.{AwaitsRequest, IsBrokenRequest, DataEnd}
@@ -45,11 +46,12 @@ pub record IsReplyTo (size : ℕ) (request : Request) (reply : Reply) : Type 0 w
 abbrev pub AnswerEnd : Type 0 → Outside → Outside → Session → ℕ → Request → Option (List ℕ) → List ℕ → List ℕ → Option (List ℕ) → Option (List ℕ) → Result Session Halt → Type 0
 AnswerEnd tells before after session size request left gone ahead written written_now (Ok next) =
     (length gone ≡ bytes_behind request.kind request.length) × (reply : Reply) × IsReplyTo size request reply × Got written (reply_bytes reply) written_now
-    × Turns tells before after session (Some next) (record { head = request; bytes = gone }) reply × (tells → IsDamage after.history.present reply.outcome)
+    × Turns tells before after session (Some next) (record { head = request; bytes = gone }) reply × (tells → TellsTrue before.history.present after.history.present session next (record { head = request; bytes = gone }) reply)
     × ((n : ℕ) → needed_by session ≤ 41 * n → Spends size (after.capacity - after.head) n request next reply.outcome)
 AnswerEnd tells before after session size request left gone ahead written written_now (Err (halts.Client stops.Sink)) =
     (length gone ≡ bytes_behind request.kind request.length) × (reply : Reply) × IsReplyTo size request reply × GotPart written (reply_bytes reply) written_now
-    × Turns tells before after session None (record { head = request; bytes = gone }) reply × (tells → IsDamage after.history.present reply.outcome)
+    × Turns tells before after session None (record { head = request; bytes = gone }) reply
+    × (tells → (now : Session) × IsMounted after.history.present now × TellsTrue before.history.present after.history.present session now (record { head = request; bytes = gone }) reply)
 AnswerEnd tells before after session size request left gone ahead written written_now (Err halt) =
     (written_now ≡ written) × DataEnd left (bytes_behind request.kind request.length) (gone ++ ahead) halt × MayHalt request.kind (refusal size request) halt
     × Halts tells before after session request.kind halt × ((n : ℕ) → needed_by session ≤ 41 * n → after.head ≤ before.head + left_by halt (needed_for size request n))
@@ -148,7 +150,7 @@ pub record Served (From : Held → Type 0) (tells : Type 0) (before after : Outs
   pub ends : ServedEnd size rest part left_now new.ahead result
   pub limit : IfErr result (λ halt. halt ≡ halts.Client stops.Limit → new.left ≡ 0)
   pub led : (entry : Held) → From entry → OnArray before after entry (map sent_of exchanges) (map told_of exchanges) (EndsFrom before.capacity size rest new.ahead part after.head result)
-  pub damage : tells → All (HasMetDamage before.history after.history) exchanges
+  pub damage : tells → (end : ℕ) × (last : Session) × ToldTrue size before.history after.history exchanges end last
   pub short : AreShort size (after.capacity - after.head) 0 exchanges
   pub unfinished : result ≡ Err halts.Unfinished → after.capacity - after.head < 41 * updates_in size 0 exchanges
   pub complete : (entry : Held) → From entry → size ≡ size_of entry → HasRoom before.capacity size entry exchanges → Completes size exchanges result

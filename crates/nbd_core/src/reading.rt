@@ -6,8 +6,9 @@ ghost use Rattle.sdbt_base.specs.Counts.{Counts};
 ghost use Rattle.sdbt_base.specs.Arrays.{Device, Session as OpenSession, mounted};
 ghost use Rattle.device_course.specs.States.{IsAt};
 ghost use Rattle.nbd_core.specs.Arrays.{ReadsBytes};
-ghost use Rattle.session_calls.specs.Damage.{IsMounted, MeetsDamage};
-ghost use Rattle.nbd_core.specs.Damages.{TellsDamage};
+ghost use Rattle.session_calls.specs.Damage.{IsMounted};
+ghost use Rattle.nbd_core.specs.Damages.{SaysTrue};
+ghost use Rattle.nbd_core.specs.Found.{HasRead, ReadsFound};
 ghost use Rattle.nbd_core.specs.Halts.{Blames};
 ghost use Rattle.nbd_terms.specs.Turn.{Reads};
 ghost use Rattle.session_calls.specs.Calling.{Calls};
@@ -44,8 +45,12 @@ pub(crate) fn read<P: Platform>(
     ensures leads { LeadsOn P.Platform platform.old platform.new session.old session.new
         (λ outcome entry next. Reads entry request.now outcome
         (bytes_of_reply RequestKind.Read request.now.length outcome reply.new.items) next) result }
+    // On any pages: it has these bytes of the look-ups, or there is damage.
     ensures damage { P.tells → IsMounted (P.history platform.old).present session.old
-        → TellsDamage (P.history platform.new).present result }
+        → IfOk result (SaysTrue (P.history platform.new).present
+        (HasRead (P.history platform.old).present (P.history platform.new).present
+        session.old session.new request.now.offset
+        (bytes_of_reply RequestKind.Read request.now.length Outcome.Done reply.new.items))) }
 {
     let length = request.length as usize;
     if !has_room(reply, REPLY_HEAD + length) {
@@ -81,8 +86,10 @@ fn read_range<P: Platform>(
     ensures reads { P.tells → (device : Device) (array : OpenSession)
         → IsAt (P.history platform.old).present (Some session.old) (mounted device array)
         → ReadsBytes (P.history platform.new).present session.new device array at out.new result }
+    // On any pages.
     ensures damage { P.tells → IsMounted (P.history platform.old).present session.old
-        → IfErr result (MeetsDamage (P.history platform.new).present) }
+        → ReadsFound (P.history platform.old).present (P.history platform.new).present
+        session.old session.new at out.new result }
 {
     let mut done = 0;
     while done < out.len() {
@@ -115,8 +122,10 @@ fn read_part<P: Platform>(
         → IsAt (P.history platform.old).present (Some session.old) (mounted device array)
         → ReadsBytes (P.history platform.new).present session.new device array
         (4096 * part.block + part.start) out.new result }
+    // On any pages.
     ensures damage { P.tells → IsMounted (P.history platform.old).present session.old
-        → IfErr result (MeetsDamage (P.history platform.new).present) }
+        → ReadsFound (P.history platform.old).present (P.history platform.new).present
+        session.old session.new (4096 * part.block + part.start) out.new result }
 {
     if part.is_whole() {
         return read_block(session, platform, part.block, out);

@@ -1,8 +1,7 @@
 //! Requests, one after another.
 ghost use Rattle.std.specs.Prelude.{◌≡◌, ◌≢◌, ◌+◌, ◌-◌, ◌*◌, ◌≤◌, ◌<◌, ℕ, List, Option, None, Some, Err, IsOk, IfOk, IfErr, OnOk, OnErr, IfSome, IsTrue, ◌↔◌, [], length, take, drop};
-ghost use Rattle.session_calls.specs.Damage.{IsMounted};
 ghost use Rattle.nbd_core.specs.Ample.{blocks_of_range, unless_refused};
-ghost use Rattle.nbd_core.specs.Damages.{IsDamage, TellsDamage};
+ghost use Rattle.nbd_core.specs.Damages.{AnswersTrue, PerformsTrue};
 ghost use Rattle.nbd_core.specs.Near.{left_by, needed_at, needed_for};
 ghost use Rattle.nbd_core.specs.Short.{FlushSpends, Spends};
 ghost use Rattle.nbd_core.specs.Stops.{TellsPut};
@@ -218,13 +217,13 @@ fn perform<P: Platform, T: Tape, I: Source, L: Sink>(
         (λ gone. Performs P.tells
         (around P.Platform T.Tape L.Sink platform.old tape.old ledger.old)
         (around P.Platform T.Tape L.Sink platform.new tape.new ledger.new) first
+        (record { head = request.now; bytes = gone }) desk.new.reply.items result
+        × PerformsTrue P.Platform platform.old platform.new first
         (record { head = request.now; bytes = gone }) desk.new.reply.items result) result }
     ensures room { IfOk result (λ done. request.now.kind ≡ RequestKind.Read → done.outcome ≡ Outcome.Done
         → 16 + request.now.length ≤ length desk.new.reply.items) }
     ensures comes { IfOk result (λ done. ComesTo request.now.kind (refusal (4096 * blocks_of first) request.now) done.outcome) }
     ensures halted { IfErr result (MayHalt request.now.kind (refusal (4096 * blocks_of first) request.now)) }
-    ensures damage { P.tells → IfOk result
-        (λ done. IsDamage (P.history platform.new).present done.outcome) }
     ensures adds { (n : ℕ) → needed_by first ≤ 41 * n → IfErr result
         (λ halt. P.head platform.new ≤ P.head platform.old
         + left_by halt (needed_for (4096 * blocks_of first) request.now n)) }
@@ -286,14 +285,14 @@ fn serve_blocks<P: Platform, T: Tape, I: Source>(
         (λ outcome entry next. Answers (P.capacity platform.old - entry.pages) refused entry
         (record { head = request.now; bytes = gone }) outcome
         (bytes_of_reply request.now.kind request.now.length outcome desk.new.reply.items) next)
-        result) result }
+        result
+        × AnswersTrue P.Platform platform.old platform.new session.old session.new
+        (record { head = request.now; bytes = gone }) desk.new.reply.items result) result }
     ensures room { IfOk result (λ outcome. request.now.kind ≡ RequestKind.Read → outcome ≡ Outcome.Done
         → 16 + request.now.length ≤ length desk.new.reply.items) }
     ensures ends { IsByHead request.now.kind refused result }
     ensures adds { P.head platform.new ≤ P.head platform.old
         + unless_refused refused (needed_at request.now.kind 0 request.now.offset request.now.length) }
-    ensures damage { P.tells → IsMounted (P.history platform.old).present session.old
-        → TellsDamage (P.history platform.new).present result }
     ensures short { IfOk result (λ outcome. refused ≡ None → request.now.kind ≡ RequestKind.Write
         → outcome ≡ Outcome.NoSpace → P.capacity platform.new - P.head platform.new
         < length (touched_blocks request.now.offset request.now.length)) }

@@ -6,7 +6,7 @@ ghost use Rattle.nbd_terms.specs.Turn.{Trims};
 ghost use Rattle.session_calls.specs.Along.{Along, Drawn};
 ghost use Rattle.sdbt_base.specs.Counts.{Counts};
 ghost use Rattle.session_calls.specs.Damage.{IsMounted};
-ghost use Rattle.nbd_core.specs.Damages.{TellsDamage};
+ghost use Rattle.nbd_core.specs.Damages.{SaysTrue};
 ghost use Rattle.nbd_core.specs.Halts.{Blames};
 ghost use Rattle.nbd_core.specs.Serving.{IsWithin};
 ghost use Rattle.nbd_core.specs.Turns.{LeadsOn, MayCome};
@@ -39,7 +39,7 @@ pub(crate) fn trim<P: Platform>(
         (λ outcome entry next. Trims entry
         (covered_blocks request.now.offset request.now.length) outcome next) result }
     ensures damage { P.tells → IsMounted (P.history platform.old).present session.old
-        → TellsDamage (P.history platform.new).present result }
+        → IfOk result (SaysTrue (P.history platform.new).present (Unit {0})) }
 {
     let blocks = covered(request.offset, request.length as u64);
     for block in blocks.start..blocks.end {

@@ -10,7 +10,7 @@ ghost use Rattle.session_calls.specs.Along.{Along, drawn_by};
 ghost use Rattle.sdbt_base.specs.Counts.{Counts, NoneFell};
 ghost use Rattle.session_calls.specs.Blame.{HasCause, IsOfCall};
 ghost use Rattle.session_calls.specs.Damage.{IsMounted, MeetsDamage};
-ghost use Rattle.nbd_core.specs.Damages.{TellsDamage};
+ghost use Rattle.nbd_core.specs.Damages.{SaysTrue};
 ghost use Rattle.nbd_core.specs.Halts.{Blames, outcome_after};
 ghost use Rattle.session_calls.specs.Calling.{Calls};
 ghost use Rattle.nbd_core.specs.Serving.{IsWithin};
@@ -53,7 +53,7 @@ pub(crate) fn write<P: Platform, T: Tape, I: Source>(
         outcome next) result) result }
     ensures ends { EndsAs RequestKind.Write result }
     ensures damage { P.tells → IsMounted (P.history platform.old).present session.old
-        → TellsDamage (P.history platform.new).present result }
+        → IfOk result (SaysTrue (P.history platform.new).present (Unit {0})) }
     ensures short { IfOk result (λ outcome. outcome ≡ Outcome.NoSpace
         → P.capacity platform.new - P.head platform.new
         < length (touched_blocks request.now.offset request.now.length)) }
@@ -104,7 +104,7 @@ fn write_range<P: Platform, T: Tape, I: Source>(
         (touched_blocks at count))) result }
     ensures ends { EndsAs RequestKind.Write result }
     ensures damage { P.tells → IsMounted (P.history platform.old).present session.old
-        → TellsDamage (P.history platform.new).present result }
+        → IfOk result (SaysTrue (P.history platform.new).present (Unit {0})) }
     ensures room { IfOk result (λ outcome. outcome ≢ Outcome.NoSpace) }
 {
     let mut done = 0;

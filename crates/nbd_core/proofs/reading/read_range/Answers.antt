@@ -1,4 +1,4 @@
-use Rattle.std.proofs.Common.{List, [], ap, arith, inl, length, refl, sym, ℕ, ◌*◌, ◌+◌, ◌∙◌, ◌≡◌}
+use Rattle.std.proofs.Common.{List, [], ap, arith, inl, length, refl, sym, subst, ℕ, ◌*◌, ◌+◌, ◌∙◌, ◌≡◌}
 use Rattle.std.proofs.lemmas.List.{take_all}
 use Rattle.std.proofs.lemmas.Slice.{take-put_mid}
 use Rattle.byte_arrays.specs.Arrays.{bytes_at}
@@ -7,6 +7,8 @@ use Rattle.session_calls.proofs.AlongLaws.{along_start, along_then}
 use Rattle.nbd_core.proofs.ArrayLaws.{range_stopped, read_more}
 use Rattle.sdbt_base.specs.Counts.{counts}
 use Rattle.session_calls.proofs.CallLaws.{calls_then, no_draw, platform_quiet}
+use Rattle.nbd_core.specs.Found.{FindsBytes}
+use Rattle.nbd_core.proofs.FoundLaws.{finds_nothing, read_then, same_start, same_then}
 use Rattle.nbd_core.proofs.reading.read_range.Goals as goal
 
 pub loop-done-init : goal.loop-done-init
@@ -15,6 +17,7 @@ loop-done-init g c = record {
   within = omega arith;
   quiet = refl;
   reads = λ told device array at. (at, refl);
+  found = λ told mounted. record { found = finds_nothing _ _ c.args.at; same = same_start _ _ };
 }
 
 pub read_part-requires-clause-open : goal.read_part-requires-clause-open
@@ -39,6 +42,16 @@ loop-done-preserved g c = record {
         read_more array c.args.at c.loop-done.done k (4096 * c.first-part.result.block + c.first-part.result.start) out piece _ before.1 led.1 (omega (arith, part.at)) size
             (take-put_mid c.loop-done.done _ out piece (c.loop-done.done + k) (omega (arith, size)) c.loop-done.invariant.within),
       );
+  found = λ told mounted.
+      let before = c.loop-done.invariant.found told mounted in
+      let here = c.in-Ok.ensures.damage told ((c.loop-done.invariant.along no_draw).mounted told mounted) in
+      let part = c.first-part.ensures (c.args.at + c.loop-done.done) 0 (omega arith) (inl refl) in
+      let k : ℕ = c.first-part.result.count in
+      let out : List ℕ = c.loop-done.out in
+      let piece : List ℕ = c.read_part.new.out in
+      let size : length piece ≡ k = omega (arith, c.in-Ok.ensures.size, part.within) in
+      read_then _ _ _ _ _ _ c.args.at c.loop-done.done k (4096 * c.first-part.result.block + c.first-part.result.start) out piece _ before here (omega (arith, part.at)) c.loop-done.invariant.within
+      (take-put_mid c.loop-done.done _ out piece (c.loop-done.done + k) (omega (arith, size)) c.loop-done.invariant.within);
   along = λ drawn. along_then g.P.Platform 0 0 _ _ _ drawn drawn drawn _ _ _ (c.loop-done.invariant.along drawn) (c.in-Ok.ensures.calls drawn).along;
   quiet = platform_quiet _ _ (c.in-Ok.ensures.calls no_draw).quiet ∙ c.loop-done.invariant.quiet;
   within =
@@ -73,4 +86,12 @@ returns-clause-reads g c told device array at =
     (so_far.0, sym (take_all c.loop-done.done c.loop-done.out (omega (arith, all))) ∙ so_far.1 ∙ ap (bytes_at (array_of array) c.args.at) all)
 
 pub returns-in-Err-clause-damage : goal.returns-in-Err-clause-damage
-returns-in-Err-clause-damage g c told mounted = c.in-Err.ensures.damage told ((c.loop-done.invariant.along no_draw).mounted told mounted)
+returns-in-Err-clause-damage g c told mounted =
+    let here = c.in-Err.ensures.damage told ((c.loop-done.invariant.along no_draw).mounted told mounted) in
+    record { same = same_then _ _ _ _ _ _ (c.loop-done.invariant.found told mounted).same here.same; found = tt; met = here.met }
+
+pub returns-clause-damage : goal.returns-clause-damage
+returns-clause-damage g c told mounted =
+    let so_far = c.loop-done.invariant.found told mounted in
+    let all : c.loop-done.done ≡ length c.loop-done.out = omega (arith, c.loop-done.invariant.within, c.loop-done-test.false) in
+    record { same = so_far.same; found = subst (FindsBytes _ _ c.args.at) (take_all c.loop-done.done c.loop-done.out (omega (arith, all))) so_far.found; met = tt }

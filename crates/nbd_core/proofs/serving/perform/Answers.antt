@@ -7,7 +7,7 @@ use Rattle.nbd_lang.specs.declared.replies.Outcome.{Outcome}
 use Rattle.device_session.specs.Sessions.{Session}
 use Rattle.nbd_core.proofs.DataLaws.{data_over, data_went, no_data}
 use Rattle.nbd_core.proofs.BlameLaws.{blame_as, blame_on, flush_comes, flush_may_halt}
-use Rattle.nbd_core.proofs.DamageLaws.{on_performed}
+use Rattle.nbd_core.proofs.DamageLaws.{flush_says}
 use Rattle.nbd_core.proofs.NearLaws.{blocks_add, flush_adds}
 use Rattle.nbd_core.proofs.ShortLaws.{blocks_spend, flush_spends}
 use Rattle.nbd_core.proofs.TurnLaws.{blocks_halted, blocks_performed, flush_performed}
@@ -37,25 +37,24 @@ returns-then-is_flush-clause-blame g c rest = c.flush.ensures.blame (record rest
 pub returns-then-is_flush-clause-bytes : goal.returns-then-is_flush-clause-bytes
 returns-then-is_flush-clause-bytes g c =
     let both = c.if-is_flush.ensures.0 refl in
-    no_data (g.I.Source.left c.args.input.now) c.args.intake.now _ _ c.flush.result (ap (λ k. bytes_behind k c.args.request.now.length) both.0) (c.flush.ensures.halts (g.I.Source.left c.args.input.now) c.args.intake.now.ahead)
-    (flush_performed _ _ _ _ c.args.request.now _ c.flush.result both.0 (ap (λ (n : ℕ). refusal n c.args.request.now) (size_of_session c.args.first _ c.blocks-2.ensures) ∙ sym c.refusal-refused.ensures ∙ both.1) c.flush.ensures.flushes)
+    no_data (g.I.Source.left c.args.input.now) c.args.intake.now _ _ c.flush.result (ap (λ k. bytes_behind k c.args.request.now.length) both.0) (c.flush.ensures.halts (g.I.Source.left c.args.input.now) c.args.intake.now.ahead) (
+      flush_performed _ _ _ _ c.args.request.now _ c.flush.result both.0 (ap (λ (n : ℕ). refusal n c.args.request.now) (size_of_session c.args.first _ c.blocks-2.ensures) ∙ sym c.refusal-refused.ensures ∙ both.1) c.flush.ensures.flushes,
+      (λ told. flush_says _ _ _ _ _ _ _ c.args.request.now [] _ c.flush.result both.0 c.flush.ensures.spends c.flush.ensures.sound),
+    )
 
 pub returns-in-Ok-clause-bytes : goal.returns-in-Ok-clause-bytes
 returns-in-Ok-clause-bytes g c =
     let whole = c.refusal-refused.ensures ∙ ap (λ (n : ℕ). refusal n c.args.request.now) (sym (size_of_session c.args.first _ c.blocks-2.ensures)) in
     data_went _ _ _ _ _ _ _ c.in-Ok.outcome (record { session = c.serve_blocks.new.session; outcome = c.in-Ok.outcome })
-    (λ gone leads. blocks_performed g.P.Platform g.T.Tape g.L.Sink _ _ _ _ _ _ _ c.args.request.now c.refusal-refused.result gone _ whole c.in-Ok.ensures.along.cell leads) c.in-Ok.ensures.bytes
+    (λ gone both. (
+      blocks_performed g.P.Platform g.T.Tape g.L.Sink _ _ _ _ _ _ _ c.args.request.now c.refusal-refused.result gone _ whole c.in-Ok.ensures.along.cell both.0,
+      (λ told. both.1 told (c.requires.ready.mounted told)),
+    )) c.in-Ok.ensures.bytes
 
 pub returns-in-Err-clause-bytes : goal.returns-in-Err-clause-bytes
 returns-in-Err-clause-bytes g c =
     data_over _ _ _ _ _ _ _ c.in-Err.halt
-    (λ gone ends told entry held. blocks_halted _ _ _ entry c.args.request.now.kind _ _ _ c.in-Err.halt held ends (c.in-Err.ensures.along.cell told)) c.in-Err.ensures.bytes
-
-pub returns-then-is_flush-clause-damage : goal.returns-then-is_flush-clause-damage
-returns-then-is_flush-clause-damage g c told = on_performed _ c.flush.result c.flush.ensures.sound
-
-pub returns-in-Ok-clause-damage : goal.returns-in-Ok-clause-damage
-returns-in-Ok-clause-damage g c told = c.in-Ok.ensures.damage told (c.requires.ready.mounted told)
+    (λ gone ends. ((λ told entry held. blocks_halted _ _ _ entry c.args.request.now.kind _ _ _ c.in-Err.halt held ends (c.in-Err.ensures.along.cell told)), (λ told. tt))) c.in-Err.ensures.bytes
 
 pub returns-then-is_flush-clause-spends : goal.returns-then-is_flush-clause-spends
 returns-then-is_flush-clause-spends g c n few =

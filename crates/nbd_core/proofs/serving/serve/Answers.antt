@@ -13,7 +13,7 @@ use Rattle.nbd_core.proofs.serving.serve.Goals as goal
 pub requests-init : goal.requests-init
 requests-init g c = record {
   exchanges = [];
-  replied = replied_nothing _ _ _ _ _ _ _ _ (λ entry from. from.1) c.requires.fresh;
+  replied = replied_nothing _ _ _ _ _ _ _ _ (λ entry from. from.1) c.requires.fresh c.requires.ready.mounted;
   carries = carries_start _ _ _ c.requires.ready;
   quiet = refl;
 }
@@ -48,7 +48,7 @@ requests-preserved g c =
     let head = subst (λ (it : Option Request). HeadCame (g.I.Source.left c.requests.input) (g.I.Source.left c.next_request.new.input) c.requests.intake c.next_request.new.intake (Ok it)) c.in-Some.is c.in_ok-request.ensures.came in
     let size : 4096 * blocks_of c.requests.session ≡ 4096 * blocks_of c.args.first = ap (λ (n : ℕ). 4096 * n) so_far.carries.blocks in
     let answered = answered_on _ _ _ _ _ _ _ _ _ _ _ _ _ _ size c.in-Ok.ensures.answered in
-    let more = replied_more _ _ _ _ _ _ c.in-Ok.next (4096 * blocks_of c.args.first) _ _ _ _ _ _ _ _ _ _ _ so_far.exchanges c.in-Some.request (λ entry from. from.0) so_far.carries.capacity c.in-Ok.ensures.carries.capacity c.in-Ok.ensures.carries.rises so_far.carries.keeps.keys.extends c.in-Ok.ensures.carries.keeps.keys.extends (λ is. let no : false ≡ true = c.if-is_disconnect.ensures.1 is in cc) so_far.replied head answered in
+    let more = replied_more _ _ _ _ _ _ c.in-Ok.next (4096 * blocks_of c.args.first) _ _ _ _ _ _ _ _ _ _ _ so_far.exchanges c.in-Some.request (λ entry from. from.0) so_far.carries.capacity c.in-Ok.ensures.carries.capacity c.in-Ok.ensures.carries.rises so_far.carries.keeps.keys.extends c.in-Ok.ensures.carries.keeps.keys.extends (λ is. let no : false ≡ true = c.if-is_disconnect.ensures.1 is in cc) size so_far.carries.ready.mounted c.in-Ok.ensures.carries.ready.mounted so_far.replied head answered in
     record {
       exchanges = so_far.exchanges ++ more.0 ∷ [];
       replied = more.1;

@@ -9,7 +9,7 @@ use Rattle.nbd_lang.specs.Requests.{bytes_behind}
 use Rattle.session_calls.specs.Along.{drawn_by}
 use Rattle.session_calls.proofs.AlongLaws.{along_start}
 use Rattle.nbd_core.proofs.BlameLaws.{by_head_platform, by_head_refused, by_head_write, platform_ends}
-use Rattle.nbd_core.proofs.DamageLaws.{refused_sound}
+use Rattle.nbd_core.proofs.DamageLaws.{kind_says, refused_says}
 use Rattle.nbd_core.proofs.DataLaws.{data_did, no_data}
 use Rattle.nbd_core.proofs.TurnLaws.{answers_read, answers_refused, answers_trim, answers_write, leads_as, leads_idle}
 use Rattle.nbd_core.proofs.serving.serve_blocks.Goals as goal
@@ -28,8 +28,10 @@ returns-in-Read-clause-blame g c rest = c.read.ensures.blame (record rest { tape
 
 pub returns-in-Read-clause-bytes : goal.returns-in-Read-clause-bytes
 returns-in-Read-clause-bytes g c =
-    no_data (g.I.Source.left c.args.input.now) c.args.intake.now _ _ c.read.result (ap (λ k. bytes_behind k c.args.request.now.length) c.in-Read.is) (platform_ends c.read.result (g.I.Source.left c.args.input.now) c.args.intake.now.ahead c.read.ensures.halts)
-    (leads_as g.P.Platform _ _ _ _ _ _ _ (λ outcome entry next is. answers_read _ entry next c.args.request.now _ outcome [] _ c.in-Read.is c.in_default.is is) c.read.ensures.leads)
+    no_data (g.I.Source.left c.args.input.now) c.args.intake.now _ _ c.read.result (ap (λ k. bytes_behind k c.args.request.now.length) c.in-Read.is) (platform_ends c.read.result (g.I.Source.left c.args.input.now) c.args.intake.now.ahead c.read.ensures.halts) (
+      leads_as g.P.Platform _ _ _ _ _ _ _ (λ outcome entry next is. answers_read _ entry next c.args.request.now _ outcome [] _ c.in-Read.is c.in_default.is is) c.read.ensures.leads,
+      (λ told mounted. kind_says _ _ _ _ c.args.request.now [] _ Read _ c.read.result c.in-Read.is (λ has. has) (c.read.ensures.damage told mounted)),
+    )
 
 pub returns-in-Trim-clause-along : goal.returns-in-Trim-clause-along
 returns-in-Trim-clause-along g c =
@@ -58,23 +60,28 @@ returns-in-Trim-clause-blame g c rest = c.trim.ensures.blame (record rest { tape
 
 pub returns-in-Trim-clause-bytes : goal.returns-in-Trim-clause-bytes
 returns-in-Trim-clause-bytes g c =
-    no_data (g.I.Source.left c.args.input.now) c.args.intake.now _ _ c.trim.result (ap (λ k. bytes_behind k c.args.request.now.length) c.in-Trim.is) (platform_ends c.trim.result (g.I.Source.left c.args.input.now) c.args.intake.now.ahead c.trim.ensures.halts)
-    (leads_as g.P.Platform _ _ _ _ _ _ _ (λ outcome entry next is. answers_trim _ entry next c.args.request.now _ outcome [] _ c.in-Trim.is c.in_default.is is) c.trim.ensures.leads)
+    no_data (g.I.Source.left c.args.input.now) c.args.intake.now _ _ c.trim.result (ap (λ k. bytes_behind k c.args.request.now.length) c.in-Trim.is) (platform_ends c.trim.result (g.I.Source.left c.args.input.now) c.args.intake.now.ahead c.trim.ensures.halts) (
+      leads_as g.P.Platform _ _ _ _ _ _ _ (λ outcome entry next is. answers_trim _ entry next c.args.request.now _ outcome [] _ c.in-Trim.is c.in_default.is is) c.trim.ensures.leads,
+      (λ told mounted. kind_says _ _ _ _ c.args.request.now [] _ Trim _ c.trim.result c.in-Trim.is (λ has. has) (c.trim.ensures.damage told mounted)),
+    )
 
 pub returns-in-Some-clause-bytes : goal.returns-in-Some-clause-bytes
 returns-in-Some-clause-bytes g c =
     data_did _ _ _ _ _ _ _ _ _ c.bytes_of.ensures
-    (λ gone nothing. leads_idle g.P.Platform _ _ _ _ _ c.let_go.ensures.outcome (λ outcome entry held is. answers_refused _ entry _ c.args.request.now _ c.in-Some.outcome outcome gone _ c.requires.refusal c.in-Some.is is))
+    (λ gone nothing. (
+      leads_idle g.P.Platform _ _ _ _ _ c.let_go.ensures.outcome (λ outcome entry held is. answers_refused _ entry _ c.args.request.now _ c.in-Some.outcome outcome gone _ c.requires.refusal c.in-Some.is is),
+      (λ told mounted. refused_says _ _ _ _ _ c.args.request.now gone _ _ c.in-Some.outcome c.let_go.result c.requires.refusal c.in-Some.is c.let_go.ensures.outcome),
+    ))
     c.let_go.ensures.bytes
 
 pub returns-in-Write-clause-bytes : goal.returns-in-Write-clause-bytes
 returns-in-Write-clause-bytes g c =
     data_did _ _ _ _ _ _ _ _ _ (sym (ap (λ k. bytes_behind k c.args.request.now.length) c.in-Write.is))
-    (λ gone leads. leads_as g.P.Platform _ _ _ _ _ _ _ (λ outcome entry next is. answers_write _ entry next c.args.request.now _ outcome gone _ c.in-Write.is c.in_default.is is) leads)
+    (λ gone leads. (
+      leads_as g.P.Platform _ _ _ _ _ _ _ (λ outcome entry next is. answers_write _ entry next c.args.request.now _ outcome gone _ c.in-Write.is c.in_default.is is) leads,
+      (λ told mounted. kind_says _ _ _ _ c.args.request.now gone _ Write _ c.write.result c.in-Write.is (λ has. has) (c.write.ensures.damage told mounted)),
+    ))
     c.write.ensures.bytes
-
-pub returns-in-Some-clause-damage : goal.returns-in-Some-clause-damage
-returns-in-Some-clause-damage g c told mounted = refused_sound _ _ c.args.request.now _ c.in-Some.outcome _ c.requires.refusal c.in-Some.is c.let_go.ensures.outcome
 
 pub returns-in-Some-clause-ends : goal.returns-in-Some-clause-ends
 returns-in-Some-clause-ends g c = by_head_refused c.args.request.now.kind c.args.refused c.in-Some.outcome c.let_go.result c.in-Some.is c.let_go.ensures.outcome (c.let_go.ensures.halted c.args.request.now.kind c.args.refused)

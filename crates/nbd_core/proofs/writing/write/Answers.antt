@@ -7,7 +7,7 @@ use Rattle.session_calls.proofs.AlongLaws.{along_start}
 use Rattle.session_calls.proofs.CallLaws.{along_more}
 use Rattle.nbd_lang.specs.declared.replies.Outcome.TheVariants.{NoSpace}
 use Rattle.nbd_core.proofs.BlameLaws.{given_ends}
-use Rattle.nbd_core.proofs.DamageLaws.{space_sound}
+use Rattle.nbd_core.proofs.DamageLaws.{given_says}
 use Rattle.nbd_core.proofs.ShortLaws.{never_short}
 use Rattle.nbd_core.proofs.DataLaws.{data_did}
 use Rattle.nbd_core.proofs.TurnLaws.{leads_idle, no_space, on_outcome, writes_held}
@@ -47,7 +47,7 @@ returns-clause-bytes g c =
     c.write_range.ensures.bytes
 
 pub returns-then-blocks-capacity-clause-damage : goal.returns-then-blocks-capacity-clause-damage
-returns-then-blocks-capacity-clause-damage g c told mounted = space_sound _ _ c.let_go.ensures.outcome
+returns-then-blocks-capacity-clause-damage g c told mounted = given_says _ _ NoSpace _ tt c.let_go.ensures.outcome
 
 pub returns-then-blocks-capacity-clause-short : goal.returns-then-blocks-capacity-clause-short
 returns-then-blocks-capacity-clause-short g c =

@@ -11,7 +11,7 @@ use Rattle.nbd_core.proofs.BlameLaws.{blame_done, blame_take, blame_then, cause_
 use Rattle.session_calls.proofs.CallLaws.{along_more, platform_quiet, tape_quiet}
 use Rattle.nbd_core.proofs.ShortLaws.{done_no_space, stop_no_space}
 use Rattle.nbd_core.proofs.CameLaws.{came_nothing, length-gone}
-use Rattle.nbd_core.proofs.DamageLaws.{damage_given, done_sound}
+use Rattle.nbd_core.proofs.DamageLaws.{stop_given}
 use Rattle.nbd_core.proofs.DataLaws.{gone_then, gone_skip, data_whole, data_short, data_broken, data_then}
 use Rattle.nbd_core.proofs.PartLaws.{part_front, part_touched}
 use Rattle.nbd_core.proofs.writing.write_range.Goals as goal
@@ -221,10 +221,10 @@ returns-in-Err-written-clause-bytes g c =
 
 pub returns-in-Err-written-clause-damage : goal.returns-in-Err-written-clause-damage
 returns-in-Err-written-clause-damage g c told mounted =
-    damage_given _ c.in-Err-written.stop _ (c.in-Err-written.ensures.damage told (c.loop-done.invariant.along.mounted told mounted)) c.give_up.ensures.outcome
+    stop_given _ _ c.in-Err-written.stop _ (c.in-Err-written.ensures.damage told (c.loop-done.invariant.along.mounted told mounted)) c.give_up.ensures.outcome
 
 pub returns-clause-damage : goal.returns-clause-damage
-returns-clause-damage g c told mounted = done_sound _
+returns-clause-damage g c told mounted = tt
 
 pub returns-in-Err-written-clause-room : goal.returns-in-Err-written-clause-room
 returns-in-Err-written-clause-room g c = stop_no_space c.in-Err-written.stop _ c.give_up.ensures.outcome
