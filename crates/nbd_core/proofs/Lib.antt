@@ -12,6 +12,7 @@ pub mod ServedLaws
 pub mod ArrayLaws
 pub mod TurnLaws
 pub mod FoundLaws
+pub mod KeptLaws
 pub mod DamageLaws
 pub mod TookLaws
 pub mod AmpleLaws

@@ -1,5 +1,6 @@
 -- What replies say of any pages, forged ones too: that a record doesn't fit, or that all is well.
 use Rattle.std.specs.Prelude.{◌≡◌, ◌≤◌, ◌*◌, ℕ, List, [], ◌∷◌, Result, IfOk}
+use Rattle.byte_arrays.specs.Ranges.{covered_blocks}
 use Rattle.platform.specs.Image.{Image}
 use Rattle.platform.specs.History.{History, image_at, moment}
 use Rattle.platform.specs.declared.platforms.Platform.{Ghosts as PlatformGhosts}
@@ -14,7 +15,7 @@ use Rattle.nbd_lang.specs.declared.requests.RequestKind.TheVariants as kinds
 use Rattle.nbd_lang.specs.declared.requests.RequestKind.{RequestKind}
 use Rattle.session_calls.specs.Damage.{IsMounted, IsWrongPage}
 use Rattle.nbd_core.specs.Exchanges.{Exchange}
-use Rattle.nbd_core.specs.Found.{HasRead}
+use Rattle.nbd_core.specs.Found.{HasRead, HasTrimmed, HasWritten}
 use Rattle.nbd_core.specs.Serving.{reply_of}
 use Rattle.nbd_core.specs.declared.halts.Halt.{Halt}
 use Rattle.nbd_core.specs.declared.serving.Performed.{Performed}
@@ -35,8 +36,8 @@ SaysTrue image Did outcomes.NoSpace = Unit {0}
 -- behind it. Behind a flush the session has no changes of its own
 abbrev pub HasDone : RequestKind → Image → Image → Session → Session → Request → List ℕ → List ℕ → Type 0
 HasDone kinds.Read image after session now request sent told = HasRead image after session now request.offset told
-HasDone kinds.Write image after session now request sent told = Unit {0}
-HasDone kinds.Trim image after session now request sent told = Unit {0}
+HasDone kinds.Write image after session now request sent told = HasWritten image after session now request.offset sent
+HasDone kinds.Trim image after session now request sent told = HasTrimmed image after session now (covered_blocks request.offset request.length)
 HasDone kinds.Flush image after session now request sent told = needed_by now ≡ 0
 HasDone kinds.Disconnect image after session now request sent told = Unit {0}
 HasDone (kinds.Other number) image after session now request sent told = Unit {0}
@@ -45,7 +46,12 @@ HasDone (kinds.Other number) image after session now request sent told = Unit {0
 abbrev pub TellsTrue : Image → Image → Session → Session → RequestSent → Reply → Type 0
 TellsTrue image after session now sent reply = SaysTrue after (HasDone sent.head.kind image after session now sent.head sent.bytes reply.bytes) reply.outcome
 
--- so does the reply to a request that comes to an outcome, with so much in the room of a reply
+-- so does what a write of these bytes comes to
+abbrev pub WritesTrue : {S : Type 0} → PlatformGhosts S → S → S → Session → Session → ℕ → List ℕ → Result Outcome Halt → Type 0
+WritesTrue P platform platform_now session now offset bytes result =
+    P.tells → IsMounted (P.history platform).present session → IfOk result (SaysTrue (P.history platform_now).present (HasWritten (P.history platform).present (P.history platform_now).present session now offset bytes))
+
+-- and the reply to a request that comes to an outcome, with so much in the room of a reply
 abbrev pub AnswersTrue : {S : Type 0} → PlatformGhosts S → S → S → Session → Session → RequestSent → List ℕ → Result Outcome Halt → Type 0
 AnswersTrue P platform platform_now session now sent room result =
     P.tells → IsMounted (P.history platform).present session → IfOk result (λ outcome. TellsTrue (P.history platform).present (P.history platform_now).present session now sent (reply_of sent.head outcome room))

@@ -1,7 +1,10 @@
 -- What look-ups find of a session's bytes, on any pages, forged ones too.
-use Rattle.std.specs.Prelude.{◌≡◌, ◌+◌, ◌/◌, ◌%◌, ℕ, List, Some, Result, OnOk, IfErr, slice_get}
+use Rattle.std.specs.Prelude.{◌≡◌, ◌<◌, ◌≤◌, ◌⊎◌, ◌+◌, ◌/◌, ◌%◌, ℕ, List, Some, Result, Ok, Err, OnOk, IfErr, All, Contains, false, length, slice_get}
+use Rattle.byte_arrays.specs.Ranges.{IsTouched}
 use Rattle.platform.specs.Image.{Image}
-use Rattle.device_session.specs.Reading.{FindsContent}
+use Rattle.device_session.specs.Damage.{IsFound}
+use Rattle.device_session.specs.Open.{blocks_of}
+use Rattle.device_session.specs.Reading.{FindsContent, KeepsBlock}
 use Rattle.device_session.specs.Sessions.{Session}
 use Rattle.session_calls.specs.Damage.{MeetsDamage}
 use Rattle.session_calls.specs.declared.stops.DeviceStop.{DeviceStop}
@@ -31,3 +34,26 @@ pub record ReadsFound (image after : Image) (session now : Session) (place : ℕ
   pub same : FindsSame image after session now
   pub found : OnOk result (FindsBytes image session place bytes)
   pub met : IfErr result (MeetsDamage after)
+
+-- a trim that was done: behind it look-ups find none of these blocks, and of each other one of the device
+-- what they found before
+pub record HasTrimmed (image after : Image) (session now : Session) (blocks : List ℕ) : Type 0 where
+  pub gone : All (IsFound false after.readable now) blocks
+  pub others : (other : ℕ) → other < blocks_of session → (Contains blocks other → ⊥) → KeepsBlock image.readable after.readable session now other
+
+-- this place lies beside a range of so many bytes from an offset on, in a block that the range touches
+abbrev pub IsBeside : ℕ → ℕ → ℕ → Type 0
+IsBeside offset n place = IsTouched offset n (place / 4096) × ((place < offset) ⊎ (offset + n ≤ place))
+
+-- a write that was done: behind it look-ups find these bytes from this place on. Each byte beside them was
+-- found before, and is found behind it; and of each block of the device that they don't touch look-ups find
+-- what they found before
+pub record HasWritten (image after : Image) (session now : Session) (offset : ℕ) (bytes : List ℕ) : Type 0 where
+  pub came : FindsBytes after now offset bytes
+  pub beside : (place : ℕ) → IsBeside offset (length bytes) place → (byte : ℕ) × FindsByte image session place byte × FindsByte after now place byte
+  pub others : (other : ℕ) → other < blocks_of session → (IsTouched offset (length bytes) other → ⊥) → KeepsBlock image.readable after.readable session now other
+
+-- what a write of bytes comes to: it has written them, or it met a page that doesn't fit, if it stopped at one
+abbrev pub WritesFound : Image → Image → Session → Session → ℕ → List ℕ → Result (Unit {0}) DeviceStop → Type 0
+WritesFound image after session now place bytes (Ok done) = HasWritten image after session now place bytes
+WritesFound image after session now place bytes (Err stop) = MeetsDamage after stop

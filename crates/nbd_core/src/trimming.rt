@@ -7,6 +7,7 @@ ghost use Rattle.session_calls.specs.Along.{Along, Drawn};
 ghost use Rattle.sdbt_base.specs.Counts.{Counts};
 ghost use Rattle.session_calls.specs.Damage.{IsMounted};
 ghost use Rattle.nbd_core.specs.Damages.{SaysTrue};
+ghost use Rattle.nbd_core.specs.Found.{HasTrimmed};
 ghost use Rattle.nbd_core.specs.Halts.{Blames};
 ghost use Rattle.nbd_core.specs.Serving.{IsWithin};
 ghost use Rattle.nbd_core.specs.Turns.{LeadsOn, MayCome};
@@ -38,8 +39,11 @@ pub(crate) fn trim<P: Platform>(
     ensures leads { LeadsOn P.Platform platform.old platform.new session.old session.new
         (λ outcome entry next. Trims entry
         (covered_blocks request.now.offset request.now.length) outcome next) result }
+    // On any pages: look-ups find the blocks no more, or there is damage.
     ensures damage { P.tells → IsMounted (P.history platform.old).present session.old
-        → IfOk result (SaysTrue (P.history platform.new).present (Unit {0})) }
+        → IfOk result (SaysTrue (P.history platform.new).present
+        (HasTrimmed (P.history platform.old).present (P.history platform.new).present
+        session.old session.new (covered_blocks request.now.offset request.now.length))) }
 {
     let blocks = covered(request.offset, request.length as u64);
     for block in blocks.start..blocks.end {

@@ -9,8 +9,9 @@ ghost use Rattle.nbd_core.specs.Arrays.{AddsOne, WritesPart, WroteRange};
 ghost use Rattle.session_calls.specs.Along.{Along, drawn_by};
 ghost use Rattle.sdbt_base.specs.Counts.{Counts, NoneFell};
 ghost use Rattle.session_calls.specs.Blame.{HasCause, IsOfCall};
-ghost use Rattle.session_calls.specs.Damage.{IsMounted, MeetsDamage};
-ghost use Rattle.nbd_core.specs.Damages.{SaysTrue};
+ghost use Rattle.session_calls.specs.Damage.{IsMounted};
+ghost use Rattle.nbd_core.specs.Damages.{WritesTrue};
+ghost use Rattle.nbd_core.specs.Found.{WritesFound};
 ghost use Rattle.nbd_core.specs.Halts.{Blames, outcome_after};
 ghost use Rattle.session_calls.specs.Calling.{Calls};
 ghost use Rattle.nbd_core.specs.Serving.{IsWithin};
@@ -50,10 +51,10 @@ pub(crate) fn write<P: Platform, T: Tape, I: Source>(
         (λ gone. LeadsOn P.Platform platform.old platform.new session.old session.new
         (λ outcome entry next. Writes (P.capacity platform.old - entry.pages) entry
         request.now.offset gone (touched_blocks request.now.offset request.now.length)
-        outcome next) result) result }
+        outcome next) result
+        × WritesTrue P.Platform platform.old platform.new session.old session.new
+        request.now.offset gone result) result }
     ensures ends { EndsAs RequestKind.Write result }
-    ensures damage { P.tells → IsMounted (P.history platform.old).present session.old
-        → IfOk result (SaysTrue (P.history platform.new).present (Unit {0})) }
     ensures short { IfOk result (λ outcome. outcome ≡ Outcome.NoSpace
         → P.capacity platform.new - P.head platform.new
         < length (touched_blocks request.now.offset request.now.length)) }
@@ -97,14 +98,14 @@ fn write_range<P: Platform, T: Tape, I: Source>(
         → Blames (record rest { platform = P.faults platform.old; tape = T.faults tape.old; input = I.faults input.old })
         (record rest { platform = P.faults platform.new; tape = T.faults tape.new; input = I.faults input.new }) result }
     ensures bytes { DataCame (I.left input.old) (I.left input.new) intake.old intake.new count
-        (λ gone. P.tells → (device : Device) (array : OpenSession)
+        (λ gone. (P.tells → (device : Device) (array : OpenSession)
         → IsAt (P.history platform.old).present (Some session.old) (mounted device array)
         → IfOk result (WroteRange (P.history platform.new).present (P.head platform.old)
         (P.head platform.new) (needed_by session.old) session.new device array at gone
-        (touched_blocks at count))) result }
+        (touched_blocks at count)))
+        × WritesTrue P.Platform platform.old platform.new session.old session.new at gone
+        result) result }
     ensures ends { EndsAs RequestKind.Write result }
-    ensures damage { P.tells → IsMounted (P.history platform.old).present session.old
-        → IfOk result (SaysTrue (P.history platform.new).present (Unit {0})) }
     ensures room { IfOk result (λ outcome. outcome ≢ Outcome.NoSpace) }
 {
     let mut done = 0;
@@ -182,6 +183,7 @@ fn write_part<P: Platform, T: Tape>(
     bytes: &[u8],
 ) -> Result<(), DeviceStop>
     requires size { length bytes.now ≡ part.count }
+    requires some { 0 < part.count }
     requires open { IsOpen session.old (P.head platform.old) }
     requires within { part.block < blocks_of session.old }
     requires free { P.head platform.old ≢ P.capacity platform.old }
@@ -193,8 +195,10 @@ fn write_part<P: Platform, T: Tape>(
         part.block part.start part.count bytes.now result }
     ensures adds { AddsOne (P.head platform.old) (P.head platform.new) result }
     ensures needs { OnErr result (needed_by session.new ≤ needed_by session.old) }
+    // On any pages: look-ups find the bytes in their place, or there is damage.
     ensures damage { P.tells → IsMounted (P.history platform.old).present session.old
-        → IfErr result (MeetsDamage (P.history platform.new).present) }
+        → WritesFound (P.history platform.old).present (P.history platform.new).present
+        session.old session.new (4096 * part.block + part.start) bytes.now result }
 {
     if part.is_whole() {
         return write_block(session, platform, tape, part.block, bytes);

@@ -77,9 +77,9 @@ returns-in-Some-clause-bytes g c =
 pub returns-in-Write-clause-bytes : goal.returns-in-Write-clause-bytes
 returns-in-Write-clause-bytes g c =
     data_did _ _ _ _ _ _ _ _ _ (sym (ap (λ k. bytes_behind k c.args.request.now.length) c.in-Write.is))
-    (λ gone leads. (
-      leads_as g.P.Platform _ _ _ _ _ _ _ (λ outcome entry next is. answers_write _ entry next c.args.request.now _ outcome gone _ c.in-Write.is c.in_default.is is) leads,
-      (λ told mounted. kind_says _ _ _ _ c.args.request.now gone _ Write _ c.write.result c.in-Write.is (λ has. has) (c.write.ensures.damage told mounted)),
+    (λ gone both. (
+      leads_as g.P.Platform _ _ _ _ _ _ _ (λ outcome entry next is. answers_write _ entry next c.args.request.now _ outcome gone _ c.in-Write.is c.in_default.is is) both.0,
+      (λ told mounted. kind_says _ _ _ _ c.args.request.now gone _ Write _ c.write.result c.in-Write.is (λ has. has) (both.1 told mounted)),
     ))
     c.write.ensures.bytes
 

@@ -12,6 +12,7 @@ use Rattle.nbd_lang.specs.declared.replies.Outcome.TheVariants.{Done}
 use Rattle.nbd_core.proofs.ArrayLaws.{trim_halted, trim_step, trimmed_some}
 use Rattle.session_calls.proofs.DamageLaws.{trim_meets}
 use Rattle.nbd_core.proofs.DamageLaws.{stop_after}
+use Rattle.nbd_core.proofs.KeptLaws.{trimmed_all, trimmed_start, trimmed_then}
 use Rattle.nbd_core.proofs.TurnLaws.{trims_lead}
 use Rattle.nbd_core.proofs.BlameLaws.{blame_done, blame_platform, blame_then, platform_halts, stop_comes}
 use Rattle.session_calls.proofs.CallLaws.{along_more, draws_none, no_draw, platform_quiet}
@@ -24,6 +25,7 @@ loop-block-init g c = record {
       let first : ℕ = c.covered-blocks.result.start in
       let none : first - first ≡ 0 = omega arith in
       subst (λ (n : ℕ). IsAt (g.P.Platform.history c.args.platform.now).present (Some c.args.session.now) (mounted device (trim_all array (blocks_from first n)))) (sym none) at;
+  taken = λ told mounted. trimmed_start _ _ c.covered-blocks.result.start _ (omega arith);
   head = refl;
   quiet = refl;
   few = omega arith;
@@ -39,6 +41,10 @@ loop-block-preserved g c =
     record {
       along = λ drawn. subst (λ (n : ℕ). Along g.P.Platform n c.args.platform.now c.trim_block.new.platform drawn drawn c.args.session.now c.trim_block.new.session) count (along_then g.P.Platform (block - first) 1 _ _ _ drawn drawn drawn _ _ _ (so_far.along drawn) (c.in-Ok.ensures.goes drawn).along);
       trims = λ told device array at. trim_step _ _ device array first block from (c.in-Ok.ensures.leads told device _ (so_far.trims told device array at));
+      taken = λ told mounted.
+          let covered = covered_is c.args.request.now.offset c.args.request.now.length block ((c.covered-blocks.ensures.covered block).1 (omega arith, omega arith)) in
+          let along = so_far.along no_draw in
+          trimmed_then _ _ _ _ _ _ first (block - first) block ((block + 1) - first) along.blocks (omega (arith, from)) (sym count) (omega (arith, covered.1, c.requires.within)) (so_far.taken told mounted) (c.in-Ok.ensures.taken told (along.mounted told mounted));
       head = c.in-Ok.ensures.head ∙ so_far.head;
       quiet = platform_quiet _ _ (c.in-Ok.ensures.goes no_draw).quiet ∙ so_far.quiet;
       few = omega (arith, from, c.loop-block-test.true);
@@ -105,7 +111,10 @@ returns-in-Err-clause-damage g c told mounted =
     stop_after _ _ c.in-Err.stop _ (trim_meets _ (g.P.Platform.history c.loop-block.platform).present (g.P.Platform.history c.trim_block.new.platform).present c.loop-block.session c.loop-block.block (Err c.in-Err.stop) c.in-Err.ensures.any (told, (c.loop-block.invariant.along no_draw).mounted told mounted)) c.after_stop.ensures
 
 pub returns-clause-damage : goal.returns-clause-damage
-returns-clause-damage g c told mounted = tt
+returns-clause-damage g c told mounted =
+    let so_far = c.loop-block.invariant in
+    let past = c.loop-block-test.false in
+    trimmed_all _ _ _ _ c.covered-blocks.result.start (c.loop-block.block - c.covered-blocks.result.start) c.covered-blocks.result.end _ (sym c.covered-blocks.ensures.blocks) (omega (arith, past, so_far.few)) (so_far.taken told mounted)
 
 pub returns-in-Err-clause-comes : goal.returns-in-Err-clause-comes
 returns-in-Err-clause-comes g c = stop_comes Trim c.in-Err.stop _ tt c.after_stop.ensures

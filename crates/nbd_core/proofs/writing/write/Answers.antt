@@ -28,26 +28,29 @@ pub returns-then-blocks-capacity-clause-bytes : goal.returns-then-blocks-capacit
 returns-then-blocks-capacity-clause-bytes g c =
     let blocks = c.touched-blocks.result in
     data_did _ _ _ _ _ _ _ _ _ refl
-    (λ gone nothing. leads_idle g.P.Platform _ _ _ _ _ c.let_go.ensures.outcome
-    (λ outcome entry held is.
-    no_space _ _ entry gone (touched_blocks c.args.request.now.offset c.args.request.now.length) outcome is
-    (omega (arith, held.pages, ap length c.touched-blocks.ensures.blocks, length-blocks_from blocks.start (blocks.end - blocks.start), c.if-blocks-capacity.true))))
+    (λ gone nothing. (
+      leads_idle g.P.Platform _ _ _ _ _ c.let_go.ensures.outcome
+          (λ outcome entry held is.
+          no_space _ _ entry gone (touched_blocks c.args.request.now.offset c.args.request.now.length) outcome is
+          (omega (arith, held.pages, ap length c.touched-blocks.ensures.blocks, length-blocks_from blocks.start (blocks.end - blocks.start), c.if-blocks-capacity.true))),
+      (λ told mounted. given_says _ _ NoSpace c.let_go.result tt c.let_go.ensures.outcome),
+    ))
     c.let_go.ensures.bytes
 
 pub returns-clause-bytes : goal.returns-clause-bytes
 returns-clause-bytes g c =
     let blocks = c.touched-blocks.result in
     data_did _ _ _ _ _ _ _ _ _ refl
-    (λ gone wrote told entry held.
-    on_outcome _ _ _
-    (λ outcome did.
-    writes_held _ _ _ _ _ _ _ _ entry gone _ outcome held
-    (omega (arith, held.pages, ap length c.touched-blocks.ensures.blocks, length-blocks_from blocks.start (blocks.end - blocks.start), c.if-blocks-capacity.false)) did)
-    (wrote told entry.device entry.session held.at))
+    (λ gone both. (
+      (λ told entry held.
+          on_outcome _ _ _
+          (λ outcome did.
+          writes_held _ _ _ _ _ _ _ _ entry gone _ outcome held
+          (omega (arith, held.pages, ap length c.touched-blocks.ensures.blocks, length-blocks_from blocks.start (blocks.end - blocks.start), c.if-blocks-capacity.false)) did)
+          (both.0 told entry.device entry.session held.at)),
+      both.1,
+    ))
     c.write_range.ensures.bytes
-
-pub returns-then-blocks-capacity-clause-damage : goal.returns-then-blocks-capacity-clause-damage
-returns-then-blocks-capacity-clause-damage g c told mounted = given_says _ _ NoSpace _ tt c.let_go.ensures.outcome
 
 pub returns-then-blocks-capacity-clause-short : goal.returns-then-blocks-capacity-clause-short
 returns-then-blocks-capacity-clause-short g c =

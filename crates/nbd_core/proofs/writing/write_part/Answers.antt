@@ -1,7 +1,10 @@
-use Rattle.std.proofs.Common.{Err, ◌∙◌, ap, length, refl, arith}
+use Rattle.std.proofs.Common.{◌≡◌, Err, ◌∙◌, ap, length, refl, subst, arith}
 use Rattle.session_calls.specs.Along.{drawn_by}
 use Rattle.nbd_core.proofs.ArrayLaws.{adds_behind, adds_none, adds_one, on_stop, writes_patched, writes_unread, writes_whole}
 use Rattle.session_calls.proofs.DamageLaws.{read_meets, write_meets}
+use Rattle.device_session.specs.Damage.{HasPut}
+use Rattle.nbd_core.proofs.FoundLaws.{same_of_call}
+use Rattle.nbd_core.proofs.KeptLaws.{padded_whole, pasted, put_part, put_whole, writes_found}
 use Rattle.session_calls.proofs.CallLaws.{calls_of, calls_then, calls_stopped, platform_quiet}
 use Rattle.nbd_core.proofs.writing.write_part.Goals as goal
 
@@ -70,14 +73,33 @@ returns-clause-needs g c =
 
 pub returns-clause-damage : goal.returns-clause-damage
 returns-clause-damage g c told mounted =
-    write_meets _ (g.P.Platform.history c.read_block.new.platform).present (g.P.Platform.history c.write_block-2.new.platform).present
-    c.read_block.new.session c.args.part.block c.write_block-2.result c.write_block-2.ensures.any
-    (told, (c.in-Ok.ensures.goes (drawn_by g.T.Tape c.args.tape.now)).along.mounted told mounted)
+    let part = c.args.part in
+    let call = c.in-Ok.ensures in
+    let d = drawn_by g.T.Tape c.args.tape.now in
+    let counts = g.met.P.Platform.counts_pages told in
+    let along = (call.goes d).along in
+    let there = along.mounted told mounted in
+    let same = same_of_call g.P.Platform _ _ d d _ _ (counts c.args.platform.now) (counts c.read_block.new.platform) told along call.same.1 in
+    let whole : length c.read_block.new.out ≡ 4096 = omega arith in
+    let size : length c.paste.new.block ≡ 4096 = omega arith in
+    writes_found _ _ _ _ _ c.args.bytes.now c.write_block-2.result
+    (write_meets _ (g.P.Platform.history c.read_block.new.platform).present (g.P.Platform.history c.write_block-2.new.platform).present
+    c.read_block.new.session c.args.part.block c.write_block-2.result c.write_block-2.ensures.any (told, there))
+    (c.write_block-2.ensures.written told there)
+    (λ put. put_part _ _ _ _ _ _ part.block part.start part.count c.args.bytes.now c.read_block.new.out c.paste.new.block c.requires.size whole part.inside c.requires.some along.blocks (call.any (told, mounted)) same
+    (pasted part.block part.start part.count c.args.bytes.now c.read_block.new.out c.paste.new.block c.requires.size whole part.inside c.requires.some c.paste.ensures)
+    (subst (HasPut _ _ _ _ part.block) (padded_whole c.paste.new.block size) put))
 
 pub returns-then-is_whole-clause-damage : goal.returns-then-is_whole-clause-damage
 returns-then-is_whole-clause-damage g c told mounted =
-    write_meets _ (g.P.Platform.history c.args.platform.now).present (g.P.Platform.history c.write_block.new.platform).present
-    c.args.session.now c.args.part.block c.write_block.result c.write_block.ensures.any (told, mounted)
+    let part = c.args.part in
+    let full = c.if-is_whole.ensures.0 refl in
+    let size : length c.args.bytes.now ≡ 4096 = omega (arith, c.requires.size, full) in
+    writes_found _ _ _ _ _ c.args.bytes.now c.write_block.result
+    (write_meets _ (g.P.Platform.history c.args.platform.now).present (g.P.Platform.history c.write_block.new.platform).present
+    c.args.session.now c.args.part.block c.write_block.result c.write_block.ensures.any (told, mounted))
+    (c.write_block.ensures.written told mounted)
+    (λ put. put_whole _ _ _ _ part.block part.start c.args.bytes.now _ size (omega (arith, part.inside, full)) (padded_whole c.args.bytes.now size) put)
 
 pub returns-in-Err-clause-damage : goal.returns-in-Err-clause-damage
 returns-in-Err-clause-damage g c told mounted =

@@ -1,8 +1,9 @@
-use Rattle.std.proofs.Common.{◌≡◌, ◌<◌, ◌+◌, ◌++◌, ◌-◌, ◌∙◌, ℕ, List, [], ap, sym, inl, refl, subst, length, length-append, take, arith}
+use Rattle.std.specs.Prelude.{◌/◌}
+use Rattle.std.proofs.Common.{◌≡◌, ◌<◌, ◌*◌, ◌+◌, ◌++◌, ◌-◌, ◌∙◌, ℕ, List, [], ap, sym, inl, refl, subst, length, length-append, length-take, take, arith}
 use Rattle.std.proofs.lemmas.List.{take-append-le, take_all}
-use Rattle.byte_arrays.specs.Parts.{IsPart}
+use Rattle.byte_arrays.specs.Parts.{IsAtPart, IsPart}
 use Rattle.byte_arrays.specs.Ranges.{touched_blocks}
-use Rattle.byte_arrays.proofs.RangeLaws.{part_last, part_next}
+use Rattle.byte_arrays.proofs.RangeLaws.{part_block, part_last, part_next}
 use Rattle.nbd_lang.specs.declared.replies.Outcome.TheVariants.{Done}
 use Rattle.session_calls.specs.Along.{drawn_by}
 use Rattle.session_calls.proofs.AlongLaws.{along_start, along_then}
@@ -13,6 +14,8 @@ use Rattle.nbd_core.proofs.ShortLaws.{done_no_space, stop_no_space}
 use Rattle.nbd_core.proofs.CameLaws.{came_nothing, length-gone}
 use Rattle.nbd_core.proofs.DamageLaws.{stop_given}
 use Rattle.nbd_core.proofs.DataLaws.{gone_then, gone_skip, data_whole, data_short, data_broken, data_then}
+use Rattle.nbd_core.specs.Found.{HasWritten}
+use Rattle.nbd_core.proofs.KeptLaws.{written_all, written_start, written_then}
 use Rattle.nbd_core.proofs.PartLaws.{part_front, part_touched}
 use Rattle.nbd_core.proofs.writing.write_range.Goals as goal
 
@@ -25,6 +28,7 @@ loop-done-init g c = record {
   came = came_nothing _ _ _;
   all = refl;
   within = omega arith;
+  found = λ told mounted. written_start _ _ c.args.at (c.args.at / 4096);
   head = omega arith;
   last = λ none. ap (λ (n : ℕ). length (touched_blocks c.args.at n)) (sym none);
   wrote = λ told device array at all long front. at;
@@ -65,10 +69,12 @@ returns-clause-bytes g c =
     let done : c.loop-done.done ≡ c.args.count = omega (arith, so_far.within, c.loop-done-test.false) in
     let long : length so_far.gone ≡ c.args.count = omega (arith, so_far.all, done) in
     let count = so_far.last done in
-    data_whole _ _ _ _ c.args.count _ so_far.gone _ so_far.came long
-    (λ told device array at.
-    wrote_range _ _ _ _ _ device array c.args.at c.args.count so_far.parts so_far.gone Done (omega (arith, count)) (inl refl) (λ same. omega (arith, count)) so_far.head so_far.along.needs
-    (so_far.wrote told device array at so_far.gone long (take_all c.loop-done.done so_far.gone (omega (arith, so_far.all)))))
+    data_whole _ _ _ _ c.args.count _ so_far.gone _ so_far.came long (
+      (λ told device array at.
+          wrote_range _ _ _ _ _ device array c.args.at c.args.count so_far.parts so_far.gone Done (omega (arith, count)) (inl refl) (λ same. omega (arith, count)) so_far.head so_far.along.needs
+          (so_far.wrote told device array at so_far.gone long (take_all c.loop-done.done so_far.gone (omega (arith, so_far.all))))),
+      (λ told mounted. written_all _ _ _ _ c.args.at so_far.parts c.args.count so_far.gone long (so_far.last done) (so_far.found told mounted)),
+    )
 
 pub write_part-written-requires-clause-open : goal.write_part-written-requires-clause-open
 write_part-written-requires-clause-open g c = c.loop-done.invariant.along.is_open
@@ -88,6 +94,9 @@ write_part-written-requires-clause-free g c =
     let few = subst (λ (n : ℕ). so_far.parts < length (touched_blocks c.args.at n)) all (part_touched c.args.at (c.loop-done.done + (c.args.count - c.loop-done.done)) c.loop-done.done _ _ _ so_far.parts part there) in
     λ full. absurd (omega (arith, full, so_far.along.adds, so_far.along.capacity, c.requires.free, few))
 
+pub write_part-written-requires-clause-some : goal.write_part-written-requires-clause-some
+write_part-written-requires-clause-some g c = (c.first-part.ensures c.args.at c.loop-done.done refl (part_front c.args.at c.loop-done.done c.loop-done.invariant.parts (c.loop-done.invariant.at c.loop-done-test.true))).some
+
 pub returns-in-Ok-false-clause-bytes : goal.returns-in-Ok-false-clause-bytes
 returns-in-Ok-false-clause-bytes g c =
     let so_far = c.loop-done.invariant in
@@ -95,7 +104,7 @@ returns-in-Ok-false-clause-bytes g c =
     let end = c.in-Ok-false.ensures.end c.in-Ok-false.field-0-test in
     data_broken _ _ _ _ c.args.count _ so_far.gone
     (gone_then _ _ _ _ _ _ c.args.count c.first-part.result.count so_far.gone _ so_far.came (omega (arith, so_far.all, part.within, so_far.within)) c.in-Ok-false.ensures.came)
-    (omega (arith, so_far.all, part.within, so_far.within, end.1, length-append so_far.gone c.need.new.self.ahead)) end.0 (λ told device array at. tt)
+    (omega (arith, so_far.all, part.within, so_far.within, end.1, length-append so_far.gone c.need.new.self.ahead)) end.0 ((λ told device array at. tt), (λ told mounted. tt))
 
 pub returns-in-Err-clause-bytes : goal.returns-in-Err-clause-bytes
 returns-in-Err-clause-bytes g c =
@@ -103,7 +112,7 @@ returns-in-Err-clause-bytes g c =
     let part = c.first-part.ensures c.args.at c.loop-done.done refl (part_front c.args.at c.loop-done.done so_far.parts (so_far.at c.loop-done-test.true)) in
     data_short _ _ _ _ c.args.count _ so_far.gone c.in-Err.stop
     (gone_then _ _ _ _ _ _ c.args.count c.first-part.result.count so_far.gone _ so_far.came (omega (arith, so_far.all, part.within, so_far.within)) c.in-Err.ensures.came)
-    (omega (arith, so_far.all, part.within, so_far.within, c.in-Err.ensures.short, length-append so_far.gone c.need.new.self.ahead)) c.in-Err.ensures.input c.in-Err.ensures.limit (λ told device array at. tt)
+    (omega (arith, so_far.all, part.within, so_far.within, c.in-Err.ensures.short, length-append so_far.gone c.need.new.self.ahead)) c.in-Err.ensures.input c.in-Err.ensures.limit ((λ told device array at. tt), (λ told mounted. tt))
 
 pub loop-done-smaller : goal.loop-done-smaller
 loop-done-smaller g c =
@@ -135,6 +144,16 @@ loop-done-preserved g c =
           c.skip.ensures.ahead c.skip.ensures.left;
       all = omega (arith, so_far.all, length-gone so_far.gone c.need.new.self.ahead k there);
       within = omega (arith, part.within, so_far.within);
+      found = λ told mounted.
+          let piece : List ℕ = take k c.need.new.self.ahead in
+          let block : ℕ = c.first-part.result.block in
+          let is : take k c.ahead.result.now ≡ piece = ap (take k) c.ahead.ensures in
+          let size : length piece ≡ k = omega (arith, length-take k c.need.new.self.ahead, there) in
+          let here = subst (HasWritten _ _ _ _ (4096 * block + c.first-part.result.start)) is (c.in-Ok.ensures.damage told (so_far.along.mounted told mounted)) in
+          let block_is : block ≡ c.args.at / 4096 + so_far.parts = part_block c.args.at (c.loop-done.done + (c.args.count - c.loop-done.done)) c.loop-done.done block _ k so_far.parts part at in
+          written_then _ _ _ _ _ _ c.args.at so_far.parts block c.first-part.result.start so_far.gone piece so_far.along.blocks block_is
+          (omega (arith, part.at, part.within, part.some, c.requires.within)) (omega (arith, part.at, so_far.all)) (omega (arith, size, part.inside)) (omega (arith, size, part.some))
+          (subst (λ (n : ℕ). IsAtPart c.args.at n so_far.parts) (sym so_far.all) at) (so_far.found told mounted) here;
       head = omega (arith, so_far.head, c.in-Ok.ensures.adds);
       last = λ done.
           let whole : c.loop-done.done + (c.args.count - c.loop-done.done) ≡ c.args.count = omega (arith, so_far.within) in
@@ -210,21 +229,17 @@ returns-in-Err-written-clause-bytes g c =
     (gone_then _ _ _ _ _ _ c.args.count k so_far.gone _ so_far.came (omega (arith, so_far.all, part.within, so_far.within)) c.in-Ok-true.ensures.came)
     c.skip.ensures.ahead c.skip.ensures.left)
     (omega (arith, size, part.within, so_far.within))
-    (λ after long nothing told device array at_first.
-    let all : List ℕ = (so_far.gone ++ piece) ++ after in
-    range_halted _ _ _ _ _ _ device array c.args.at c.args.count so_far.parts c.first-part.result.block c.first-part.result.start k [] all c.in-Err-written.stop _ c.give_up.ensures.outcome few so_far.head c.in-Err-written.ensures.adds
-    (omega (arith, so_far.along.needs, c.in-Err-written.ensures.needs)) long
-    (λ whole_is.
-    c.in-Err-written.ensures.writes told device _
-    (so_far.wrote told device array at_first all whole_is (take-append-le c.loop-done.done (so_far.gone ++ piece) after (omega (arith, size)) ∙ take-append-le c.loop-done.done so_far.gone piece (omega (arith, so_far.all)) ∙ take_all c.loop-done.done so_far.gone (omega (arith, so_far.all))))))
+    (λ after long nothing. (
+      (λ told device array at_first.
+          let all : List ℕ = (so_far.gone ++ piece) ++ after in
+          range_halted _ _ _ _ _ _ device array c.args.at c.args.count so_far.parts c.first-part.result.block c.first-part.result.start k [] all c.in-Err-written.stop _ c.give_up.ensures.outcome few so_far.head c.in-Err-written.ensures.adds
+          (omega (arith, so_far.along.needs, c.in-Err-written.ensures.needs)) long
+          (λ whole_is.
+          c.in-Err-written.ensures.writes told device _
+          (so_far.wrote told device array at_first all whole_is (take-append-le c.loop-done.done (so_far.gone ++ piece) after (omega (arith, size)) ∙ take-append-le c.loop-done.done so_far.gone piece (omega (arith, so_far.all)) ∙ take_all c.loop-done.done so_far.gone (omega (arith, so_far.all)))))),
+      (λ told mounted. stop_given _ _ c.in-Err-written.stop c.give_up.result (c.in-Err-written.ensures.damage told (so_far.along.mounted told mounted)) c.give_up.ensures.outcome),
+    ))
     c.give_up.ensures.bytes
-
-pub returns-in-Err-written-clause-damage : goal.returns-in-Err-written-clause-damage
-returns-in-Err-written-clause-damage g c told mounted =
-    stop_given _ _ c.in-Err-written.stop _ (c.in-Err-written.ensures.damage told (c.loop-done.invariant.along.mounted told mounted)) c.give_up.ensures.outcome
-
-pub returns-clause-damage : goal.returns-clause-damage
-returns-clause-damage g c told mounted = tt
 
 pub returns-in-Err-written-clause-room : goal.returns-in-Err-written-clause-room
 returns-in-Err-written-clause-room g c = stop_no_space c.in-Err-written.stop _ c.give_up.ensures.outcome

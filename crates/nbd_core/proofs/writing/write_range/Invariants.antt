@@ -7,6 +7,8 @@ use Rattle.device_course.specs.States.{IsAt}
 use Rattle.nbd_terms.specs.Bytes.{array_of, write_all}
 use Rattle.session_calls.specs.Along.{Along, drawn_by}
 use Rattle.nbd_core.specs.Room.{Came, IsShorter}
+use Rattle.session_calls.specs.Damage.{IsMounted}
+use Rattle.nbd_core.proofs.KeptLaws.{WrittenTo}
 use Rattle.nbd_core.proofs.writing.write_range.Given as goal
 
 abbrev pub invariant-loop-done : goal.invariant-loop-done
@@ -18,6 +20,8 @@ invariant-loop-done g l = record {
   came : Came (g.I.Source.left l.fn.input) (g.I.Source.left l.input) l.fn.intake l.intake.left (IsShorter l.count) (gone ++ l.intake.ahead);
   all : length gone ≡ l.done;
   within : l.done ≤ l.count;
+  found : g.P.Platform.tells → IsMounted (g.P.Platform.history l.fn.platform).present l.fn.session
+      → WrittenTo (g.P.Platform.history l.fn.platform).present (g.P.Platform.history l.platform).present l.fn.session l.session l.at gone (l.at / 4096) parts;
   head : g.P.Platform.head l.platform ≡ g.P.Platform.head l.fn.platform + parts;
   last : l.done ≡ l.count → length (touched_blocks l.at l.count) ≡ parts;
   wrote : g.P.Platform.tells → (device : Device) (array : OpenSession) → IsAt (g.P.Platform.history l.fn.platform).present (Some l.fn.session) (mounted device array)
