@@ -1,14 +1,13 @@
--- Why a line is answered so, by its calls: what stopped a call for a block may stop the line that made the call; which table there is behind a reply; and what a content that is given is.
+-- Why a line is answered so, by its calls: what stopped a call for a block may stop the line that made the call; and which table there is behind a reply.
 use Rattle.std.proofs.Common.{◌≡◌, ℕ, List, Option, None, Some, Result, Ok, Err, inl, inr, refl, ap, subst, sym}
 use Rattle.platform.specs.Image.{Image}
-use Rattle.device_session.specs.Reading.{FindsContent}
+use Rattle.platform.specs.History.{History}
 use Rattle.device_session.specs.Sessions.{Session}
 use Rattle.device_session.specs.declared.refusals.CommitReply.{CommitReply}
 use Rattle.device_session.specs.declared.refusals.CommitReply.TheVariants as commits
-use Rattle.script_lang.specs.Arrays.{trimmed}
 use Rattle.session_calls.specs.Blame.{IsOfCall}
 use Rattle.session_calls.specs.Commits.{LeavesLedger}
-use Rattle.session_calls.specs.Damage.{IsWrongPage, MeetsDamage, ReadsAny, TrimsAny, WritesAny}
+use Rattle.session_calls.specs.Damage.{IsMounted, IsWrongPage, MeetsDamage, ReadsAny, TrimsAny, WritesAny}
 use Rattle.session_calls.specs.declared.stops.DeviceStop.{DeviceStop}
 use Rattle.session_calls.specs.declared.stops.DeviceStop.TheVariants as stops
 use Rattle.session_calls.proofs.DamageLaws.{trim_meets, write_meets}
@@ -19,7 +18,8 @@ use Rattle.volume_lines.specs.Replies as told
 use Rattle.volume_lines.specs.Replies.{Reply, said}
 use Rattle.volume_lines.specs.declared.replies.Reply.{Reply as Given}
 use Rattle.volume_lines.specs.declared.replies.Reply.TheVariants as given
-use Rattle.volume_desk.specs.Causes.{AnswersAny, Changes, Commits, Draws, GivesContent, HasBlock, IsAccepted, IsLookedUp, LacksBlock, MayStop, MeetsRecord, OnContent, Sizes, StopsAny, TakesAny, TurnsTable}
+use Rattle.volume_desk.specs.Causes.{AnswersAlong, AnswersOver, Changes, Commits, Draws, HasBlock, IsAccepted, LacksBlock, MayStop, MeetsRecord, Sizes, StopsAny, TakesOver, TurnsTable}
+use Rattle.volume_desk.specs.Done.{IsCleared}
 use Rattle.volume_desk.specs.Turns.{IsBlockAt, NoBlock, commit_reply, destroy_reply}
 
 -- ---- stops
@@ -143,56 +143,6 @@ read_done here table name block at reply bytes same is =
     let done : TurnsTable here table (Read name block) (told.Content bytes) table = inr (table, (has_block table name block at is, refl), inl (tt, refl)) in
     subst (λ (r : Reply). TurnsTable here table (Read name block) r table) (sym same) done
 
--- ---- content
-
--- none is given where there is no such block
-pub no_block_gives : (Claim : List ℕ → ℕ → List ℕ → Type 0) (table : List Volume) (name : List ℕ) (block : ℕ) (reply : Given) (buffer : List ℕ) → NoBlock table name block reply → OnContent (Read name block) (said reply buffer) Claim
-no_block_gives Claim table name block given.Unknown buffer none = tt
-no_block_gives Claim table name block given.Range buffer none = tt
-no_block_gives Claim table name block given.Created buffer none = absurd none
-no_block_gives Claim table name block given.Exists buffer none = absurd none
-no_block_gives Claim table name block given.NoRoom buffer none = absurd none
-no_block_gives Claim table name block (given.Content count) buffer none = absurd none
-no_block_gives Claim table name block given.Done buffer none = absurd none
-no_block_gives Claim table name block given.Full buffer none = absurd none
-no_block_gives Claim table name block (given.Destroyed number) buffer none = absurd none
-no_block_gives Claim table name block given.Uncommitted buffer none = absurd none
-no_block_gives Claim table name block (given.Committed number) buffer none = absurd none
-no_block_gives Claim table name block given.Bad buffer none = absurd none
-
--- it is what the call for the block read
-pub read_gives : (Known : Type 0) (image after : Image) (session : Session) (table : List Volume) (name : List ℕ) (block at : ℕ) (reply : Reply) (bytes : List ℕ) → reply ≡ told.Content (trimmed bytes) → IsBlockAt table name block at
-    → ReadsAny Known image after session at bytes (Ok tt) → GivesContent Known session image table (Read name block) reply
-read_gives Known image after session table name block at reply bytes same is any =
-    let gives : GivesContent Known session image table (Read name block) (told.Content (trimmed bytes)) = λ known.
-    record { v = is.v; named = is.named; below = is.below; content = bytes; found = subst (λ (b : ℕ). FindsContent image.readable session.grove b bytes) is.is (any known); is = refl } in
-    subst (λ (r : Reply). GivesContent Known session image table (Read name block) r) (sym same) gives
-
--- what is said of it follows from something else
-pub on_content : (it : Line) (reply : Reply) (One Other : List ℕ → ℕ → List ℕ → Type 0) → ((name : List ℕ) (block : ℕ) (bytes : List ℕ) → One name block bytes → Other name block bytes) → OnContent it reply One → OnContent it reply Other
-on_content (Read name block) (told.Content bytes) One Other follows given = follows name block bytes given
-on_content (Read name block) told.Created One Other follows given = tt
-on_content (Read name block) told.Exists One Other follows given = tt
-on_content (Read name block) told.NoRoom One Other follows given = tt
-on_content (Read name block) told.Unknown One Other follows given = tt
-on_content (Read name block) told.Done One Other follows given = tt
-on_content (Read name block) told.Range One Other follows given = tt
-on_content (Read name block) told.Full One Other follows given = tt
-on_content (Read name block) (told.Destroyed number) One Other follows given = tt
-on_content (Read name block) told.Uncommitted One Other follows given = tt
-on_content (Read name block) (told.Committed number) One Other follows given = tt
-on_content (Read name block) told.Bad One Other follows given = tt
-on_content (Create name count) reply One Other follows given = tt
-on_content (Write name block content) reply One Other follows given = tt
-on_content (Trim name block) reply One Other follows given = tt
-on_content (Destroy name) reply One Other follows given = tt
-on_content Commit reply One Other follows given = tt
-
--- where more is known
-pub gives_known : (Known Other : Type 0) (session : Session) (image : Image) (table : List Volume) (it : Line) (reply : Reply) → (Other → Known) → GivesContent Known session image table it reply → GivesContent Other session image table it reply
-gives_known Known Other session image table it reply known gives =
-    on_content it reply (λ name block bytes. Known → IsLookedUp image session table name block bytes) (λ name block bytes. Other → IsLookedUp image session table name block bytes) (λ name block bytes is other. is (known other)) gives
-
 -- ---- a commit, and a destroy
 pub commit_turns : (here : Sizes) (table : List Volume) (reply : CommitReply) (answer : Given) (buffer : List ℕ) → answer ≡ commit_reply reply → TurnsTable here table Commit (said answer buffer) table
 commit_turns here table (commits.Committed number) answer buffer is =
@@ -211,15 +161,20 @@ destroy_turns here table left name (commits.Full needed free) answer buffer is a
     let done : TurnsTable here table (Destroy name) told.Uncommitted left = inr (left, accepted, inl (tt, refl)) in
     subst (λ (r : Reply). TurnsTable here table (Destroy name) r left) (sym (ap (λ (a : Given). said a buffer) is)) done
 
-pub takes_some_any : (Known : Type 0) (image : Image) (here : Sizes) (table left : List Volume) (name buffer : List ℕ) (refused : Option Given) (reply : Given) → refused ≡ Some reply → TakesAny Known image here table left name buffer (Ok refused)
-    → TurnsTable here table (Destroy name) (said reply buffer) left
-takes_some_any Known image here table left name buffer refused reply is takes = subst (λ (r : Option Given). TakesAny Known image here table left name buffer (Ok r)) is takes
+pub takes_some_any : (tells : Type 0) (before image : Image) (session now : Session) (here : Sizes) (table left : List Volume) (name buffer : List ℕ) (refused : Option Given) (reply : Given) → refused ≡ Some reply
+    → TakesOver tells before image session now here table left name buffer (Ok refused) → AnswersOver tells before image session now here table left (Destroy name) buffer (Ok reply)
+takes_some_any tells before image session now here table left name buffer refused reply is takes = subst (λ (r : Option Given). TakesOver tells before image session now here table left name buffer (Ok r)) is takes
 
-pub takes_none_any : (Known : Type 0) (image : Image) (here : Sizes) (table left : List Volume) (name buffer : List ℕ) (refused : Option Given) → refused ≡ None → TakesAny Known image here table left name buffer (Ok refused)
-    → IsAccepted here.blocks table (Destroy name) left
-takes_none_any Known image here table left name buffer refused is takes = subst (λ (r : Option Given). TakesAny Known image here table left name buffer (Ok r)) is takes
+pub takes_none_any : (tells : Type 0) (before image : Image) (session now : Session) (here : Sizes) (table left : List Volume) (name buffer : List ℕ) (refused : Option Given) → refused ≡ None
+    → TakesOver tells before image session now here table left name buffer (Ok refused) → IsAccepted here.blocks table (Destroy name) left × (tells × IsMounted before session → IsCleared image now table name left)
+takes_none_any tells before image session now here table left name buffer refused is takes = subst (λ (r : Option Given). TakesOver tells before image session now here table left name buffer (Ok r)) is takes
 
 -- ---- a line that is this one is answered as this one
-pub any_as : (Known : Type 0) (session : Session) (first image : Image) (here : Sizes) (table left : List Volume) (line was : Parsed) (before buffer : List ℕ) (result : Result Given DeviceStop) → line ≡ was → AnswersAny Known session first image here table left (asked was before) buffer result
-    → AnswersAny Known session first image here table left (asked line before) buffer result
-any_as Known session first image here table left line was before buffer result is any = subst (λ (l : Parsed). AnswersAny Known session first image here table left (asked l before) buffer result) (sym is) any
+
+pub over_as : (tells : Type 0) (before image : Image) (session now : Session) (here : Sizes) (table left : List Volume) (line was : Parsed) (bytes buffer : List ℕ) (result : Result Given DeviceStop) → line ≡ was
+    → AnswersOver tells before image session now here table left (asked was bytes) buffer result → AnswersOver tells before image session now here table left (asked line bytes) buffer result
+over_as tells before image session now here table left line was bytes buffer result is any = subst (λ (l : Parsed). AnswersOver tells before image session now here table left (asked l bytes) buffer result) (sym is) any
+
+pub along_as : (tells : Type 0) (old new : History) (session : Session) (after : Option Session) (here : Sizes) (table left : List Volume) (line was : Parsed) (bytes buffer : List ℕ) (result : Result Given DeviceStop) → line ≡ was
+    → AnswersAlong tells old new session after here table left (asked was bytes) buffer result → AnswersAlong tells old new session after here table left (asked line bytes) buffer result
+along_as tells old new session after here table left line was bytes buffer result is any = subst (λ (l : Parsed). AnswersAlong tells old new session after here table left (asked l bytes) buffer result) (sym is) any

@@ -30,6 +30,10 @@ pub on_ok : {X E : Type 0} (result : Result X E) (Claim : Type 0) → Claim → 
 on_ok (Ok x) Claim claim = claim
 on_ok (Err e) Claim claim = tt
 
+pub ok_follows : {X E : Type 0} (result : Result X E) (One Other : Type 0) → (One → Other) → OnOk result One → OnOk result Other
+ok_follows (Ok x) One Other follows one = follows one
+ok_follows (Err e) One Other follows one = tt
+
 -- ---- stops
 
 pub read_sound : (image : Image) (now : Session) (device : Device) (array : OpenSession) (block : ℕ) (bytes : List ℕ) (stop : DeviceStop) → ReadsBlock image now device array block bytes (Err stop) → IsSound stop

@@ -1,4 +1,5 @@
 pub mod TurnLaws
 pub mod DeskLaws
 pub mod CauseLaws
+pub mod DoneLaws
 pub mod DrawingLaws

@@ -1,10 +1,9 @@
--- Why a line is answered so, or the device stops at it, on any pages, forged ones too: by the table in memory, by the line's name and numbers, and by the pages that are free; and what a content that is given is.
+-- Why a line is answered so, or the device stops at it, on any pages, forged ones too: by the table in memory, by the line's name and numbers, and by the pages that are free; and what a line that is done found or left.
 use Rattle.std.specs.Prelude.{◌≡◌, ◌≤◌, ◌<◌, ◌+◌, ◌⊎◌, ℕ, List, Option, None, Some, Result, Ok, Err}
 use Rattle.platform.specs.Image.{Image}
-use Rattle.device_session.specs.Reading.{FindsContent}
+use Rattle.platform.specs.History.{History, moment}
 use Rattle.device_session.specs.Sessions.{Session}
-use Rattle.script_lang.specs.Arrays.{trimmed}
-use Rattle.session_calls.specs.Damage.{IsWrongPage, IsWrongPlace}
+use Rattle.session_calls.specs.Damage.{IsMounted, IsWrongPage, IsWrongPlace}
 use Rattle.session_calls.specs.declared.stops.DeviceStop.{DeviceStop}
 use Rattle.session_calls.specs.declared.stops.DeviceStop.TheVariants as stops
 use Rattle.volume_table.specs.Tables.{Lacks}
@@ -13,6 +12,7 @@ use Rattle.volume_lines.specs.Lines.{Line, Create, Read, Write, Trim, Destroy, C
 use Rattle.volume_lines.specs.Replies.{Reply, Created, Exists, NoRoom, Unknown, Content, Done, Range, Full, Destroyed, Uncommitted, Committed, said}
 use Rattle.volume_lines.specs.declared.replies.Reply.{Reply as Given}
 use Rattle.volume_terms.specs.Volumes.{HasNoRoom, IsCount, IsNamed, IsNew, IsTaken}
+use Rattle.volume_desk.specs.Done.{DoesAny, IsCleared, Over, OverIf, WasOver}
 use Rattle.volume_desk.specs.declared.serving.Answered.{Answered}
 
 -- how many blocks the device has, how many pages there are, and how many there can be
@@ -81,26 +81,6 @@ TurnsTable here table it reply now =
     (IsRefused here.blocks table it reply × (now ≡ table))
     ⊎ ((next : List Volume) × IsAccepted here.blocks table it next × ((IsDone it reply × (now ≡ next)) ⊎ (LacksPages here it × (reply ≡ Full) × (now ≡ table))))
 
--- ---- content
-
--- over these pages a look-up with this session of the device's block that is this one of the volume comes to these bytes, but for their trailing zeros: to zeros where the block is not mapped
-pub record IsLookedUp (image : Image) (session : Session) (table : List Volume) (name : List ℕ) (block : ℕ) (bytes : List ℕ) : Type 0 where
-  pub v : Volume
-  pub named : IsNamed table name v
-  pub below : block < v.count
-  pub content : List ℕ
-  pub found : FindsContent image.readable session.grove (v.start + block) content
-  pub is : bytes ≡ trimmed content
-
--- where a block is read and its content given, this is so of them
-abbrev pub OnContent : Line → Reply → (List ℕ → ℕ → List ℕ → Type 0) → Type 0
-OnContent (Read name block) (Content bytes) Claim = Claim name block bytes
-OnContent _ _ Claim = Unit {0}
-
--- a content that is given is what a look-up comes to, over the pages from before, where this is known of them and of the session
-abbrev pub GivesContent : Type 0 → Session → Image → List Volume → Line → Reply → Type 0
-GivesContent Known session image table it reply = OnContent it reply (λ name block bytes. Known → IsLookedUp image session table name block bytes)
-
 -- ---- stops
 
 -- it draws keys: it writes a block, and be it the table's, or it commits
@@ -142,18 +122,29 @@ StopsAny Known image blocks table it stop = MayStop Known image it stop × ((nex
 
 -- ---- answers
 
--- the one table of a line's answers on any pages, with the session and over the pages from before it
-abbrev pub AnswersAny : Type 0 → Session → Image → Image → Sizes → List Volume → List Volume → Line → List ℕ → Result Given DeviceStop → Type 0
-AnswersAny Known session before image here table table_now it buffer (Ok reply) = TurnsTable here table it (said reply buffer) table_now × GivesContent Known session before table it (said reply buffer)
-AnswersAny Known session before image here table table_now it buffer (Err stop) = StopsAny Known image here.blocks table it stop
+-- the one table of a line's answers on any pages: which replies it may have, and what it found or left where it is done and this is known; or which stops, behind which there is this image
+abbrev pub AnswersAny : Type 0 → ((Image → Session → Type 0) → Type 0) → ((Image → Session → Type 0) → Type 0) → ((Image → Session → Type 0) → Type 0) → Image → Sizes → List Volume → List Volume → Line → List ℕ → Result Given DeviceStop → Type 0
+AnswersAny Known Found Left HadLeft image here table table_now it buffer (Ok reply) =
+    TurnsTable here table it (said reply buffer) table_now × DoesAny (λ Claim. Known → Found Claim) (λ Claim. Known → Left Claim) (λ Claim. Known → HadLeft Claim) table (said reply buffer) it table_now
+AnswersAny Known Found Left HadLeft image here table table_now it buffer (Err stop) = StopsAny Known image here.blocks table it stop
+
+-- those of calls for blocks: what it found is so of the session and the image from before, and what it left of those behind
+abbrev pub AnswersOver : Type 0 → Image → Image → Session → Session → Sizes → List Volume → List Volume → Line → List ℕ → Result Given DeviceStop → Type 0
+AnswersOver tells before image session now here table table_now it buffer result =
+    AnswersAny (tells × IsMounted before session) (Over before session) (Over image now) (Over image now) image here table table_now it buffer result
+
+-- those of a line, behind which this session goes on: what it left is so of that one; and what it left before a commit was so at a moment of the line
+abbrev pub AnswersAlong : Type 0 → History → History → Session → Option Session → Sizes → List Volume → List Volume → Line → List ℕ → Result Given DeviceStop → Type 0
+AnswersAlong tells old new session after here table table_now it buffer result =
+    AnswersAny tells (Over old.present session) (OverIf new.present after) (WasOver (moment old) new) new.present here table table_now it buffer result
 
 -- the answer of which that speaks
 abbrev pub answer_in : Result Answered DeviceStop → Result Given DeviceStop
 answer_in (Ok done) = Ok done.reply
 answer_in (Err stop) = Err stop
 
--- the same of a volume that is taken out, or why it isn't
-abbrev pub TakesAny : Type 0 → Image → Sizes → List Volume → List Volume → List ℕ → List ℕ → Result (Option Given) DeviceStop → Type 0
-TakesAny Known image here table table_now name buffer (Ok None) = IsAccepted here.blocks table (Destroy name) table_now
-TakesAny Known image here table table_now name buffer (Ok (Some reply)) = TurnsTable here table (Destroy name) (said reply buffer) table_now
-TakesAny Known image here table table_now name buffer (Err stop) = StopsAny Known image here.blocks table (Destroy name) stop
+-- a volume that is taken out, of which no block is left; or the line is answered
+abbrev pub TakesOver : Type 0 → Image → Image → Session → Session → Sizes → List Volume → List Volume → List ℕ → List ℕ → Result (Option Given) DeviceStop → Type 0
+TakesOver tells before image session now here table table_now name buffer (Ok None) = IsAccepted here.blocks table (Destroy name) table_now × (tells × IsMounted before session → IsCleared image now table name table_now)
+TakesOver tells before image session now here table table_now name buffer (Ok (Some reply)) = AnswersOver tells before image session now here table table_now (Destroy name) buffer (Ok reply)
+TakesOver tells before image session now here table table_now name buffer (Err stop) = AnswersOver tells before image session now here table table_now (Destroy name) buffer (Err stop)

@@ -1,3 +1,4 @@
 pub mod Turns
 pub mod Causes
+pub mod Done
 pub mod Drawing

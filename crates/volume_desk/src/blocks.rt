@@ -3,13 +3,12 @@ ghost use Rattle.std.specs.Prelude.{◌≡◌, ◌≢◌, ◌<◌, ◌≤◌, �
 ghost use Rattle.device_session.specs.Open.{IsOpen, blocks_of};
 ghost use Rattle.device_course.specs.Held.{Held};
 ghost use Rattle.session_calls.specs.Along.{Drawn, drawn_by};
-ghost use Rattle.session_calls.specs.Damage.{IsMounted};
 ghost use Rattle.volume_table.specs.Tables.{IsTable};
 ghost use Rattle.volume_lines.specs.Lines as lines;
 ghost use Rattle.volume_lines.specs.Replies.{CanWrite, FitsBlock, IsWords, said};
 ghost use Rattle.volume_terms.specs.Turn.{OnBlock, Reads, Trims, Writes};
 ghost use Rattle.session_calls.specs.Calling.{Calls};
-ghost use Rattle.volume_desk.specs.Causes.{AnswersAny, sizes};
+ghost use Rattle.volume_desk.specs.Causes.{AnswersOver, sizes};
 ghost use Rattle.volume_desk.specs.Drawing.{DrewFor, tally};
 ghost use Rattle.volume_desk.specs.Turns.{IsBlockAt, IsHeld, NoBlock, TurnsTo};
 
@@ -56,7 +55,7 @@ pub(crate) fn read<P: Platform>(
         → TurnsTo (P.history platform.new).present (P.head platform.new) table.now session.new entry
         (λ reply next. OnBlock table.now entry name.now block Reads reply next) (Unit {0}) buffer.new result }
     // On any pages: why it is answered so.
-    ensures any { AnswersAny (P.tells × IsMounted (P.history platform.old).present session.old) session.old (P.history platform.old).present (P.history platform.new).present
+    ensures any { AnswersOver P.tells (P.history platform.old).present (P.history platform.new).present session.old session.new
         (sizes (blocks_of session.old) (P.head platform.new) (P.capacity platform.new)) table.now table.now (lines.Read name.now block) buffer.new result }
 {
     match block_of(table, name, block) {
@@ -87,7 +86,7 @@ pub(crate) fn write<P: Platform, T: Tape>(
         → TurnsTo (P.history platform.new).present (P.head platform.new) table.now session.new entry
         (λ reply next. OnBlock table.now entry name.now block (Writes (P.capacity platform.old) content.now) reply next) (entry.pages ≢ P.capacity platform.old) buffer result }
     // On any pages: why it is answered so.
-    ensures any { (buffer : List ℕ) → AnswersAny (P.tells × IsMounted (P.history platform.old).present session.old) session.old (P.history platform.old).present (P.history platform.new).present
+    ensures any { (buffer : List ℕ) → AnswersOver P.tells (P.history platform.old).present (P.history platform.new).present session.old session.new
         (sizes (blocks_of session.old) (P.head platform.new) (P.capacity platform.new)) table.now table.now (lines.Write name.now block content.now) buffer result }
     // Which keys it draws, each for a page.
     ensures drew { (buffer : List ℕ) → IfOk result (λ reply. DrewFor (tally (T.drawn tape.old) (P.head platform.old)) (lines.Write name.now block content.now) (said reply buffer) (tally (T.drawn tape.new) (P.head platform.new))) }
@@ -123,7 +122,7 @@ pub(crate) fn trim<P: Platform>(
         → TurnsTo (P.history platform.new).present (P.head platform.new) table.now session.new entry
         (λ reply next. OnBlock table.now entry name.now block Trims reply next) (Unit {0}) buffer result }
     // On any pages: why it is answered so.
-    ensures any { (buffer : List ℕ) → AnswersAny (P.tells × IsMounted (P.history platform.old).present session.old) session.old (P.history platform.old).present (P.history platform.new).present
+    ensures any { (buffer : List ℕ) → AnswersOver P.tells (P.history platform.old).present (P.history platform.new).present session.old session.new
         (sizes (blocks_of session.old) (P.head platform.new) (P.capacity platform.new)) table.now table.now (lines.Trim name.now block) buffer result }
 {
     match block_of(table, name, block) {

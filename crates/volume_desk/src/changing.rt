@@ -8,6 +8,7 @@ ghost use Rattle.device_course.specs.Held.{trim_all};
 ghost use Rattle.session_calls.specs.Along.{Drawn, drawn_by};
 ghost use Rattle.session_calls.specs.Damage.{IsMounted, MeetsDamage};
 ghost use Rattle.volume_table.specs.Tables.{IsInside, table_bytes};
+ghost use Rattle.volume_desk.specs.Done.{HasCleared, HasTrimmed};
 ghost use Rattle.volume_desk.specs.Drawing.{DrewOne, tally};
 ghost use Rattle.volume_desk.specs.Turns.{ChangesTo};
 ghost use Rattle.session_calls.specs.Calling.{Calls};
@@ -35,6 +36,8 @@ pub(crate) fn change<P: Platform, T: Tape>(
     ensures leads { P.tells → (device : Device) (array : OpenSession) → IsAt (P.history platform.old).present (Some session.old) (mounted device array)
         → ChangesTo (P.history platform.new).present session.new device (trim_all (written array 0 (table_bytes table.now)) (blocks_from volume.now.start volume.now.count)) result }
     ensures damage { P.tells → IsMounted (P.history platform.old).present session.old → IfErr result (MeetsDamage (P.history platform.new).present) }
+    // On any pages: none of the blocks is left, and block 0 has the table.
+    ensures left { P.tells → IsMounted (P.history platform.old).present session.old → OnOk result (HasCleared (P.history platform.new).present session.new volume.now table.now) }
 {
     let mut block = [0; BLOCK];
     encode(table, &mut block);
@@ -57,6 +60,9 @@ fn trim_range<P: Platform>(
     ensures leads { P.tells → (device : Device) (array : OpenSession) → IsAt (P.history platform.old).present (Some session.old) (mounted device array)
         → ChangesTo (P.history platform.new).present session.new device (trim_all array (blocks_from volume.now.start volume.now.count)) result }
     ensures damage { P.tells → IsMounted (P.history platform.old).present session.old → IfErr result (MeetsDamage (P.history platform.new).present) }
+    // On any pages: none of the blocks is left, and each other one is as it was.
+    ensures gone { P.tells → IsMounted (P.history platform.old).present session.old
+        → OnOk result (HasTrimmed (P.history platform.old).present.readable (P.history platform.new).present.readable session.old session.new volume.now.start volume.now.count) }
 {
     for i in 0..volume.count {
         match trim_block(session, platform, volume.start + i) {

@@ -6,14 +6,13 @@ ghost use Rattle.device_session.specs.Open.{IsOpen, blocks_of};
 ghost use Rattle.device_course.specs.Held.{Held};
 ghost use Rattle.session_calls.specs.Along.{drawn_by};
 ghost use Rattle.session_calls.specs.Blame.{IsBlamed};
-ghost use Rattle.session_calls.specs.Damage.{IsMounted};
 ghost use Rattle.volume_table.specs.Tables.{IsTable};
 ghost use Rattle.volume_table.specs.declared.volume.Volume.{Volume};
 ghost use Rattle.volume_lines.specs.Lines as lines;
 ghost use Rattle.volume_lines.specs.Replies.{IsWords, said};
 ghost use Rattle.session_calls.specs.Calling.{Calls};
 ghost use Rattle.session_calls.specs.Carrying.{Carries, IsReady};
-ghost use Rattle.volume_desk.specs.Causes.{AnswersAny, TakesAny, answer_in, sizes};
+ghost use Rattle.volume_desk.specs.Causes.{AnswersAlong, TakesOver, answer_in, sizes};
 ghost use Rattle.volume_desk.specs.Drawing.{DrewFor, TakesDrew, tally};
 ghost use Rattle.volume_desk.specs.Turns.{IsHeld, ServesAs, TakesOut, commit_reply, destroy_reply, goes_on};
 
@@ -44,7 +43,7 @@ pub(crate) fn commit<P: Platform, T: Tape, L: Sink>(
         → ServesAs (around P.Platform T.Tape L.Sink platform.old tape.old ledger.old)
         (around P.Platform T.Tape L.Sink platform.new tape.new ledger.new) table table buffer entry lines.Commit result }
     // On any pages: why it is answered so.
-    ensures any { (table : List Volume) (buffer : List ℕ) → AnswersAny P.tells session (P.history platform.old).present (P.history platform.new).present
+    ensures any { (table : List Volume) (buffer : List ℕ) → AnswersAlong P.tells (P.history platform.old) (P.history platform.new) session (goes_on result)
         (sizes (blocks_of session) (P.head platform.new) (P.capacity platform.new)) table table lines.Commit buffer (answer_in result) }
     // Which keys it draws, each for a page.
     ensures drew { (buffer : List ℕ) → IfOk result (λ done. DrewFor (tally (T.drawn tape.old) (P.head platform.old)) lines.Commit (said done.reply buffer) (tally (T.drawn tape.new) (P.head platform.new))) }
@@ -89,7 +88,7 @@ pub(crate) fn destroy<P: Platform, T: Tape, L: Sink>(
         → ServesAs (around P.Platform T.Tape L.Sink platform.old tape.old ledger.old)
         (around P.Platform T.Tape L.Sink platform.new tape.new ledger.new) table.old table.new buffer entry (lines.Destroy name.now) result }
     // On any pages: why it is answered so.
-    ensures any { (buffer : List ℕ) → AnswersAny P.tells first (P.history platform.old).present (P.history platform.new).present
+    ensures any { (buffer : List ℕ) → AnswersAlong P.tells (P.history platform.old) (P.history platform.new) first (goes_on result)
         (sizes (blocks_of first) (P.head platform.new) (P.capacity platform.new)) table.old table.new (lines.Destroy name.now) buffer (answer_in result) }
     // Which keys it draws, each for a page.
     ensures drew { (buffer : List ℕ) → IfOk result (λ done. DrewFor (tally (T.drawn tape.old) (P.head platform.old)) (lines.Destroy name.now) (said done.reply buffer) (tally (T.drawn tape.new) (P.head platform.new))) }
@@ -136,7 +135,7 @@ fn take_out<P: Platform, T: Tape>(
     ensures turns { P.tells → (entry : Held) (buffer : List ℕ) → IsHeld (P.history platform.old).present (P.head platform.old) session.old table.old entry
         → TakesOut (P.history platform.new).present (P.head platform.new) (P.capacity platform.old) table.old table.new session.new entry name.now buffer result }
     // On any pages: why it is answered so.
-    ensures any { (buffer : List ℕ) → TakesAny (P.tells × IsMounted (P.history platform.old).present session.old) (P.history platform.new).present
+    ensures any { (buffer : List ℕ) → TakesOver P.tells (P.history platform.old).present (P.history platform.new).present session.old session.new
         (sizes (blocks_of session.old) (P.head platform.new) (P.capacity platform.new)) table.old table.new name.now buffer result }
     // Which keys it draws, each for a page.
     ensures drew { (buffer : List ℕ) → IfOk result (TakesDrew (tally (T.drawn tape.old) (P.head platform.old)) (tally (T.drawn tape.new) (P.head platform.new)) name.now buffer) }

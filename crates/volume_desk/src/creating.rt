@@ -3,7 +3,6 @@ ghost use Rattle.std.specs.Prelude.{◌≡◌, ◌≢◌, ◌↔◌, ◌+◌, �
 ghost use Rattle.device_session.specs.Open.{IsOpen, blocks_of};
 ghost use Rattle.device_course.specs.Held.{Held};
 ghost use Rattle.session_calls.specs.Along.{drawn_by};
-ghost use Rattle.session_calls.specs.Damage.{IsMounted};
 ghost use Rattle.volume_table.specs.Names.{IsName};
 ghost use Rattle.volume_table.specs.Tables.{IsTable, Lacks};
 ghost use Rattle.volume_table.specs.declared.volume.Volume.{Volume};
@@ -12,7 +11,7 @@ ghost use Rattle.volume_lines.specs.Replies.{IsWords, said};
 ghost use Rattle.volume_terms.specs.Turn.{Creates};
 ghost use Rattle.volume_terms.specs.Volumes.{IsCount, IsNamed};
 ghost use Rattle.session_calls.specs.Calling.{Calls};
-ghost use Rattle.volume_desk.specs.Causes.{AnswersAny, sizes};
+ghost use Rattle.volume_desk.specs.Causes.{AnswersOver, sizes};
 ghost use Rattle.volume_desk.specs.Drawing.{DrewFor, tally};
 ghost use Rattle.volume_desk.specs.Turns.{IsHeld, TurnsTo};
 
@@ -43,7 +42,7 @@ pub(crate) fn create<P: Platform, T: Tape>(
         → TurnsTo (P.history platform.new).present (P.head platform.new) table.new session.new entry
         (λ reply next. Creates (P.capacity platform.old) table.old entry name.now count reply next) (entry.pages ≢ P.capacity platform.old) buffer result }
     // On any pages: why it is answered so.
-    ensures any { (buffer : List ℕ) → AnswersAny (P.tells × IsMounted (P.history platform.old).present session.old) session.old (P.history platform.old).present (P.history platform.new).present
+    ensures any { (buffer : List ℕ) → AnswersOver P.tells (P.history platform.old).present (P.history platform.new).present session.old session.new
         (sizes (blocks_of session.old) (P.head platform.new) (P.capacity platform.new)) table.old table.new (lines.Create name.now count) buffer result }
     // Which keys it draws, each for a page.
     ensures drew { (buffer : List ℕ) → IfOk result (λ reply. DrewFor (tally (T.drawn tape.old) (P.head platform.old)) (lines.Create name.now count) (said reply buffer) (tally (T.drawn tape.new) (P.head platform.new))) }

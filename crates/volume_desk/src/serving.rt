@@ -6,7 +6,6 @@ ghost use Rattle.device_session.specs.Open.{IsOpen, blocks_of};
 ghost use Rattle.device_course.specs.Held.{Held};
 ghost use Rattle.session_calls.specs.Along.{drawn_by};
 ghost use Rattle.session_calls.specs.Blame.{IsBlamed};
-ghost use Rattle.session_calls.specs.Damage.{IsMounted};
 ghost use Rattle.volume_table.specs.Tables.{IsTable};
 ghost use Rattle.volume_lines.specs.Grammar.{Spells};
 ghost use Rattle.volume_lines.specs.Lines.{FitsBlock as FitsLine, asked};
@@ -14,7 +13,7 @@ ghost use Rattle.volume_lines.specs.Replies.{CanWrite, FitsBlock, said};
 ghost use Rattle.volume_terms.specs.Turn.{Serves};
 ghost use Rattle.session_calls.specs.Calling.{Calls};
 ghost use Rattle.session_calls.specs.Carrying.{Carries, IsReady};
-ghost use Rattle.volume_desk.specs.Causes.{AnswersAny, answer_in, sizes};
+ghost use Rattle.volume_desk.specs.Causes.{AnswersAlong, AnswersOver, answer_in, sizes};
 ghost use Rattle.volume_desk.specs.Drawing.{Spends, tally};
 ghost use Rattle.volume_desk.specs.Turns.{HasPages, IsHeld, IsOfBlocks, ServesAs, TurnsTo, goes_on};
 
@@ -71,7 +70,7 @@ pub fn serve_line<P: Platform, T: Tape, L: Sink>(
         (around P.Platform T.Tape L.Sink platform.new tape.new ledger.new) desk.old.table desk.new.table desk.new.buffer entry
         (asked line.now desk.old.buffer) result }
     // On any pages: why it is answered so.
-    ensures any { AnswersAny P.tells first (P.history platform.old).present (P.history platform.new).present
+    ensures any { AnswersAlong P.tells (P.history platform.old) (P.history platform.new) first (goes_on result)
         (sizes (blocks_of first) (P.head platform.new) (P.capacity platform.new)) desk.old.table desk.new.table
         (asked line.now desk.old.buffer) desk.new.buffer (answer_in result) }
     // Which keys it draws, each for a page.
@@ -114,7 +113,7 @@ fn serve_blocks<P: Platform, T: Tape>(
         (λ reply next. Serves (P.capacity platform.old) desk.old.table entry (asked line.now desk.old.buffer) reply next)
         (HasPages (P.capacity platform.old) entry (asked line.now desk.old.buffer)) desk.new.buffer result }
     // On any pages: why it is answered so.
-    ensures any { AnswersAny (P.tells × IsMounted (P.history platform.old).present session.old) session.old (P.history platform.old).present (P.history platform.new).present
+    ensures any { AnswersOver P.tells (P.history platform.old).present (P.history platform.new).present session.old session.new
         (sizes (blocks_of session.old) (P.head platform.new) (P.capacity platform.new)) desk.old.table desk.new.table
         (asked line.now desk.old.buffer) desk.new.buffer result }
     // Which keys it draws, each for a page.

@@ -2,12 +2,13 @@ use Rattle.std.proofs.Common.{Ok, Err, ap, refl, subst, sym, ◌∙◌, arith}
 use Rattle.sdbt_base.specs.Arrays.{content_of}
 use Rattle.device_session.specs.Open.{blocks_of}
 use Rattle.script_lang.specs.Arrays.{trimmed}
+use Rattle.volume_lines.specs.Lines.{Read}
 use Rattle.volume_lines.specs.Replies.{Reply}
 use Rattle.volume_terms.specs.Turn.{OnBlock, Reads}
-use Rattle.session_calls.specs.Damage.{IsMounted}
 use Rattle.session_calls.proofs.CallLaws.{calls_done, calls_none, calls_of, calls_stopped, no_draw}
-use Rattle.volume_desk.specs.Causes.{IsLookedUp, sizes}
-use Rattle.volume_desk.proofs.CauseLaws.{has_block, no_block_gives, read_done, read_gives, read_may, read_refused}
+use Rattle.volume_desk.specs.Causes.{sizes}
+use Rattle.volume_desk.proofs.CauseLaws.{has_block, read_may, read_refused}
+use Rattle.volume_desk.proofs.DoneLaws.{read_over, refused_over}
 use Rattle.volume_desk.proofs.DeskLaws.{changed_none, no_block, read_sound}
 use Rattle.volume_desk.proofs.TurnLaws.{held_still}
 use Rattle.volume_desk.proofs.blocks.read.Goals as goal
@@ -46,18 +47,15 @@ returns-in-Err-read_block-clause-turns g c told entry held =
 
 pub returns-in-Err-clause-any : goal.returns-in-Err-clause-any
 returns-in-Err-clause-any g c =
-    let image = (g.P.Platform.history c.args.platform.now).present in (
-      read_refused (sizes (blocks_of c.args.session.now) (g.P.Platform.head c.args.platform.now) (g.P.Platform.capacity c.args.platform.now)) c.args.table.now c.args.name.now c.args.block c.in-Err.reply c.args.buffer.now c.in-Err.ensures.none,
-      no_block_gives (λ name block bytes. g.P.Platform.tells × IsMounted image c.args.session.now → IsLookedUp image c.args.session.now c.args.table.now name block bytes)
-          c.args.table.now c.args.name.now c.args.block c.in-Err.reply c.args.buffer.now c.in-Err.ensures.none,
-    )
+    let here = (sizes (blocks_of c.args.session.now) (g.P.Platform.head c.args.platform.now) (g.P.Platform.capacity c.args.platform.now)) in
+    refused_over g.P.Platform.tells (g.P.Platform.history c.args.platform.now).present (g.P.Platform.history c.args.platform.now).present c.args.session.now c.args.session.now here c.args.table.now (Read c.args.name.now c.args.block) c.args.name.now c.args.block c.in-Err.reply c.args.buffer.now c.in-Err.ensures.none
+    (read_refused here c.args.table.now c.args.name.now c.args.block c.in-Err.reply c.args.buffer.now c.in-Err.ensures.none)
 
 pub returns-in-Ok-read_block-clause-any : goal.returns-in-Ok-read_block-clause-any
-returns-in-Ok-read_block-clause-any g c = (
-  read_done (sizes (blocks_of c.args.session.now) (g.P.Platform.head c.read_block.new.platform) (g.P.Platform.capacity c.read_block.new.platform)) c.args.table.now c.args.name.now c.args.block c.in-Ok.at _ _ c.reply_with_content.ensures.value c.in-Ok.ensures.found,
-  read_gives _ (g.P.Platform.history c.args.platform.now).present (g.P.Platform.history c.read_block.new.platform).present c.args.session.now c.args.table.now c.args.name.now c.args.block c.in-Ok.at _ c.read_block.new.out c.reply_with_content.ensures.value c.in-Ok.ensures.found
-      c.in-Ok-read_block.ensures.any,
-)
+returns-in-Ok-read_block-clause-any g c =
+    read_over g.P.Platform.tells (g.P.Platform.history c.args.platform.now).present (g.P.Platform.history c.read_block.new.platform).present c.args.session.now c.read_block.new.session
+    (sizes (blocks_of c.args.session.now) (g.P.Platform.head c.read_block.new.platform) (g.P.Platform.capacity c.read_block.new.platform)) c.args.table.now c.args.name.now c.args.block c.in-Ok.at c.reply_with_content.result c.read_block.new.out _ c.reply_with_content.ensures.value
+    c.in-Ok.ensures.found c.in-Ok-read_block.ensures.any
 
 pub returns-in-Err-read_block-clause-any : goal.returns-in-Err-read_block-clause-any
 returns-in-Err-read_block-clause-any g c = (

@@ -1,10 +1,12 @@
 use Rattle.std.proofs.Common.{ℕ, Ok, Err, inl, inr, ap, refl, arith}
 use Rattle.device_session.specs.Open.{blocks_of}
+use Rattle.volume_lines.specs.Lines.{Trim}
 use Rattle.volume_terms.specs.Turn.{Trims}
 use Rattle.volume_terms.proofs.KeepingLaws.{trimmed_at}
 use Rattle.session_calls.proofs.CallLaws.{calls_done, calls_none, calls_of, calls_stopped, no_draw}
 use Rattle.volume_desk.specs.Causes.{sizes}
 use Rattle.volume_desk.proofs.CauseLaws.{has_block, trim_may, trim_refused}
+use Rattle.volume_desk.proofs.DoneLaws.{refused_over, unmapped_at}
 use Rattle.volume_desk.proofs.DeskLaws.{changed_none, held_trimmed, no_block, trim_sound}
 use Rattle.volume_desk.proofs.blocks.trim.Goals as goal
 
@@ -40,10 +42,16 @@ returns-in-Err-trim_block-clause-turns g c told entry buffer held =
     (trim_sound (g.P.Platform.history c.trim_block.new.platform).present c.trim_block.new.session entry.device entry.session c.in-Ok.at c.in-Err-trim_block.stop (c.in-Err-trim_block.ensures.leads told entry.device entry.session held.at), tt)
 
 pub returns-in-Err-clause-any : goal.returns-in-Err-clause-any
-returns-in-Err-clause-any g c buffer = (trim_refused (sizes (blocks_of c.args.session.now) (g.P.Platform.head c.args.platform.now) (g.P.Platform.capacity c.args.platform.now)) c.args.table.now c.args.name.now c.args.block c.in-Err.reply buffer c.in-Err.ensures.none, tt)
+returns-in-Err-clause-any g c buffer =
+    let here = (sizes (blocks_of c.args.session.now) (g.P.Platform.head c.args.platform.now) (g.P.Platform.capacity c.args.platform.now)) in
+    refused_over g.P.Platform.tells (g.P.Platform.history c.args.platform.now).present (g.P.Platform.history c.args.platform.now).present c.args.session.now c.args.session.now here c.args.table.now (Trim c.args.name.now c.args.block) c.args.name.now c.args.block c.in-Err.reply buffer c.in-Err.ensures.none
+    (trim_refused here c.args.table.now c.args.name.now c.args.block c.in-Err.reply buffer c.in-Err.ensures.none)
 
 pub returns-in-Ok-trim_block-clause-any : goal.returns-in-Ok-trim_block-clause-any
-returns-in-Ok-trim_block-clause-any g c buffer = (inr (c.args.table.now, (has_block c.args.table.now c.args.name.now c.args.block c.in-Ok.at c.in-Ok.ensures.found, refl), inl (tt, refl)), tt)
+returns-in-Ok-trim_block-clause-any g c buffer = (
+  inr (c.args.table.now, (has_block c.args.table.now c.args.name.now c.args.block c.in-Ok.at c.in-Ok.ensures.found, refl), inl (tt, refl)),
+  λ known. unmapped_at _ (g.P.Platform.history c.trim_block.new.platform).present c.args.session.now c.trim_block.new.session c.args.table.now c.args.name.now c.args.block c.in-Ok.at c.in-Ok.ensures.found (c.in-Ok-trim_block.ensures.taken known.0 known.1),
+)
 
 pub returns-in-Err-trim_block-clause-any : goal.returns-in-Err-trim_block-clause-any
 returns-in-Err-trim_block-clause-any g c buffer = (

@@ -1,12 +1,14 @@
-use Rattle.std.proofs.Common.{Err, ◌+◌, ℕ, List, subst, ◌∙◌, arith}
+use Rattle.std.proofs.Common.{Err, ◌≡◌, ◌+◌, ℕ, List, length, subst, sym, ◌∙◌, arith}
 use Rattle.sdbt_base.specs.Arrays.{written}
 use Rattle.byte_arrays.specs.Ranges.{blocks_from}
 use Rattle.device_course.specs.Held.{trim_all}
 use Rattle.session_calls.specs.Along.{drawn_by}
+use Rattle.volume_table.specs.Tables.{IsInside}
 use Rattle.volume_desk.specs.Turns.{ChangesTo}
 use Rattle.session_calls.proofs.CallLaws.{calls_of, calls_stopped, calls_then, platform_quiet, tape_quiet}
 use Rattle.session_calls.proofs.DamageLaws.{write_meets}
-use Rattle.volume_desk.proofs.DeskLaws.{on_ok, write_sound}
+use Rattle.volume_desk.proofs.DeskLaws.{ok_follows, on_ok, write_sound}
+use Rattle.volume_desk.proofs.DoneLaws.{cleared}
 use Rattle.volume_desk.proofs.DrawingLaws.{one_then}
 use Rattle.volume_desk.proofs.changing.change.Goals as goal
 
@@ -43,3 +45,12 @@ returns-in-Err-clause-leads g c told device array at = write_sound (g.P.Platform
 
 pub returns-in-Err-clause-damage : goal.returns-in-Err-clause-damage
 returns-in-Err-clause-damage g c told mounted = write_meets _ (g.P.Platform.history c.args.platform.now).present (g.P.Platform.history c.write_block.new.platform).present c.args.session.now 0 (Err c.in-Err.stop) c.in-Err.ensures.any (told, mounted)
+
+pub returns-in-Ok-clause-left : goal.returns-in-Ok-clause-left
+returns-in-Ok-clause-left g c told mounted =
+    let one = c.in-Ok.ensures.goes.along in
+    let size : length c.encode.new.out ≡ 4096 = omega arith in
+    ok_follows c.trim_range.result _ _
+    (λ trims. cleared _ _ (g.P.Platform.history c.trim_range.new.platform).present c.args.session.now c.write_block.new.session c.trim_range.new.session c.args.volume.now c.args.table.now c.encode.new.out c.encode.ensures size
+    (subst (λ (n : ℕ). IsInside n c.args.volume.now) (sym one.blocks) c.requires.inside) (c.in-Ok.ensures.written told mounted) trims)
+    (c.trim_range.ensures.gone told (one.mounted told mounted))

@@ -10,7 +10,9 @@ use Rattle.session_calls.specs.Along.{Along}
 use Rattle.session_calls.proofs.AlongLaws.{along_start, along_then}
 use Rattle.session_calls.proofs.CallLaws.{calls_of, calls_stopped, calls_then, no_draw, platform_quiet}
 use Rattle.session_calls.proofs.DamageLaws.{trim_meets}
+use Rattle.volume_desk.specs.Done.{HasTrimmed}
 use Rattle.volume_desk.proofs.DeskLaws.{trim_sound}
+use Rattle.volume_desk.proofs.DoneLaws.{trimmed_more, trimmed_none}
 use Rattle.volume_desk.proofs.changing.trim_range.Goals as goal
 
 pub loop-i-init : goal.loop-i-init
@@ -18,6 +20,7 @@ loop-i-init g c = record {
   along = λ drawn. along_start g.P.Platform _ drawn _ c.requires.open;
   trims = λ told device array at. at;
   head = refl;
+  gone = λ told mounted. trimmed_none (g.P.Platform.history c.args.platform.now).present.readable c.args.session.now c.args.volume.now.start;
   quiet = refl;
 }
 
@@ -33,6 +36,9 @@ loop-i-preserved g c =
           (sym (ap (trim_all array) (blocks_from-more first c.loop-i.i) ∙ trim_all-more array (blocks_from first c.loop-i.i) (first + c.loop-i.i)))
           (c.in-Ok.ensures.leads told device (trim_all array (blocks_from first c.loop-i.i)) (so_far.trims told device array at));
       head = c.in-Ok.ensures.head ∙ so_far.head;
+      gone = λ told mounted.
+          trimmed_more (P.history c.args.platform.now).present.readable (P.history c.loop-i.platform).present.readable (P.history c.trim_block.new.platform).present.readable c.args.session.now c.loop-i.session c.trim_block.new.session first c.loop-i.i (so_far.along no_draw).blocks
+          (omega (arith, c.requires.inside.within, c.loop-i-test.true)) (so_far.gone told mounted) (c.in-Ok.ensures.taken told ((so_far.along no_draw).mounted told mounted));
       quiet = platform_quiet _ _ (c.in-Ok.ensures.goes no_draw).quiet ∙ so_far.quiet;
     }
 
@@ -77,3 +83,8 @@ returns-clause-leads g c told device array at =
 
 pub returns-clause-head : goal.returns-clause-head
 returns-clause-head g c = c.loop-i.invariant.head
+
+pub returns-clause-gone : goal.returns-clause-gone
+returns-clause-gone g c told mounted =
+    let all : c.loop-i.i ≡ c.args.volume.now.count = omega (arith, c.loop-i-test.false, c.loop-i.auto.i-end) in
+    subst (λ (n : ℕ). HasTrimmed (g.P.Platform.history c.args.platform.now).present.readable (g.P.Platform.history c.loop-i.platform).present.readable c.args.session.now c.loop-i.session c.args.volume.now.start n) all (c.loop-i.invariant.gone told mounted)

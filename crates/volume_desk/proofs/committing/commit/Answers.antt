@@ -9,7 +9,8 @@ use Rattle.volume_lines.specs.Replies.{Committed}
 use Rattle.volume_desk.specs.Causes.{sizes}
 use Rattle.volume_desk.specs.Turns.{StopsAt}
 use Rattle.session_calls.proofs.CarryLaws.{carries_committed, carries_going, carries_stopped}
-use Rattle.volume_desk.proofs.CauseLaws.{commit_may, commit_turns}
+use Rattle.volume_desk.proofs.CauseLaws.{commit_may}
+use Rattle.volume_desk.proofs.DoneLaws.{commit_along}
 use Rattle.volume_desk.proofs.DrawingLaws.{commit_drew, short_head}
 use Rattle.volume_desk.proofs.TurnLaws.{array_held, commit_pages, commit_served, committed_to}
 use Rattle.volume_desk.proofs.committing.commit.Goals as goal
@@ -37,7 +38,9 @@ returns-in-Err-clause-serves g c told entry table buffer held =
     record { ahead = stopped.0; is = stopped.1; pages = commit_pages g.P.Platform g.T.Tape _ _ _ _ _ c.in-Err.stop table entry c.requires.ready.is_open held c.in-Err.ensures.answers; made = stopped.2 }
 
 pub returns-in-Ok-clause-any : goal.returns-in-Ok-clause-any
-returns-in-Ok-clause-any g c table buffer = (commit_turns (sizes (blocks_of c.args.session) (g.P.Platform.head c.commit_session.new.platform) (g.P.Platform.capacity c.commit_session.new.platform)) table c.in-Ok.done.reply c.reply_to_commit.result buffer c.reply_to_commit.ensures, tt)
+returns-in-Ok-clause-any g c table buffer =
+    commit_along g.P.Platform.tells (g.P.Platform.history c.args.platform.now) (g.P.Platform.history c.commit_session.new.platform) c.args.session c.in-Ok.done.session
+    (sizes (blocks_of c.args.session) (g.P.Platform.head c.commit_session.new.platform) (g.P.Platform.capacity c.commit_session.new.platform)) table c.in-Ok.done.reply c.reply_to_commit.result buffer c.reply_to_commit.ensures
 
 pub returns-in-Err-clause-any : goal.returns-in-Err-clause-any
 returns-in-Err-clause-any g c table buffer = (commit_may g.P.Platform.tells (g.P.Platform.history c.commit_session.new.platform).present Commit c.args.ledger.now c.commit_session.new.ledger c.in-Err.stop tt tt tt c.in-Err.ensures.goes.unput, (table, refl))

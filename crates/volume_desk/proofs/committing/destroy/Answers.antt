@@ -9,7 +9,9 @@ use Rattle.volume_terms.specs.Volumes.{changed}
 use Rattle.session_calls.proofs.CarryLaws.{carries_along, carries_committed, carries_end, carries_going, carries_stopped, carries_then}
 use Rattle.device_course.proofs.MadeLaws.{made_kept}
 use Rattle.volume_desk.specs.Causes.{sizes}
-use Rattle.volume_desk.proofs.CauseLaws.{commit_may, destroy_turns, stops_known, takes_none_any, takes_some_any}
+use Rattle.volume_desk.proofs.CauseLaws.{commit_may, stops_known, takes_none_any, takes_some_any}
+use Rattle.volume_desk.proofs.DoneLaws.{answered_along, destroy_along, short_still, was_mid}
+use Rattle.volume_desk.specs.Done.{IsCleared}
 use Rattle.volume_desk.specs.Drawing.{tally}
 use Rattle.volume_desk.proofs.DrawingLaws.{destroy_drew, short_head, takes_none_drew, takes_some_drew}
 use Rattle.volume_desk.proofs.TurnLaws.{changed_served, committed_to, destroy_served, destroy_stopped, stopped_kept, takes_none, takes_some}
@@ -65,7 +67,11 @@ returns-in-Err-commit_session-clause-serves g c told entry buffer held =
     (During-now _ _ IsServedImage (c.in-Err-commit_session.ensures.goes.keeps.serves told taken.held.at.served)) (c.in-Err-commit_session.ensures.leads told entry.device (changed entry c.take_out.new.table taken.v).session taken.held.at)
 
 pub returns-in-Some-clause-any : goal.returns-in-Some-clause-any
-returns-in-Some-clause-any g c buffer = (takes_some_any (g.P.Platform.tells × IsMounted (g.P.Platform.history c.args.platform.now).present c.args.first) (g.P.Platform.history c.take_out.new.platform).present (sizes (blocks_of c.args.first) (g.P.Platform.head c.take_out.new.platform) (g.P.Platform.capacity c.take_out.new.platform)) c.args.table.now c.take_out.new.table c.args.name.now buffer c.in-Ok.refused c.in-Some.reply c.in-Some.is (c.in-Ok.ensures.any buffer), tt)
+returns-in-Some-clause-any g c buffer =
+    let along = c.take_out.ensures.calls.along in
+    answered_along g.P.Platform.tells (g.P.Platform.history c.args.platform.now) (g.P.Platform.history c.take_out.new.platform) c.args.first c.take_out.new.session
+    (sizes (blocks_of c.args.first) (g.P.Platform.head c.take_out.new.platform) (g.P.Platform.capacity c.take_out.new.platform)) c.args.table.now c.take_out.new.table (Destroy c.args.name.now) buffer c.in-Some.reply
+    (λ told. (along.cell told).extends) c.requires.ready.mounted (λ told. along.mounted told (c.requires.ready.mounted told)) (takes_some_any g.P.Platform.tells (g.P.Platform.history c.args.platform.now).present (g.P.Platform.history c.take_out.new.platform).present c.args.first c.take_out.new.session (sizes (blocks_of c.args.first) (g.P.Platform.head c.take_out.new.platform) (g.P.Platform.capacity c.take_out.new.platform)) c.args.table.now c.take_out.new.table c.args.name.now buffer c.in-Ok.refused c.in-Some.reply c.in-Some.is (c.in-Ok.ensures.any buffer))
 
 pub returns-in-Err-clause-any : goal.returns-in-Err-clause-any
 returns-in-Err-clause-any g c buffer =
@@ -73,13 +79,26 @@ returns-in-Err-clause-any g c buffer =
 
 pub returns-in-Ok-commit_session-clause-any : goal.returns-in-Ok-commit_session-clause-any
 returns-in-Ok-commit_session-clause-any g c buffer =
-    (destroy_turns (sizes (blocks_of c.args.first) (g.P.Platform.head c.commit_session.new.platform) (g.P.Platform.capacity c.commit_session.new.platform)) c.args.table.now c.take_out.new.table c.args.name.now c.in-Ok-commit_session.done.reply c.reply_to_destroy.result buffer c.reply_to_destroy.ensures (takes_none_any (g.P.Platform.tells × IsMounted (g.P.Platform.history c.args.platform.now).present c.args.first) (g.P.Platform.history c.take_out.new.platform).present (sizes (blocks_of c.args.first) (g.P.Platform.head c.take_out.new.platform) (g.P.Platform.capacity c.take_out.new.platform)) c.args.table.now c.take_out.new.table c.args.name.now buffer c.in-Ok.refused c.in_default.is (c.in-Ok.ensures.any buffer)), tt)
+    let history = g.P.Platform.history in
+    let left = c.take_out.new.table in
+    let along = c.take_out.ensures.calls.along in
+    let taken = takes_none_any g.P.Platform.tells (history c.args.platform.now).present (history c.take_out.new.platform).present c.args.first c.take_out.new.session
+    (sizes (blocks_of c.args.first) (g.P.Platform.head c.take_out.new.platform) (g.P.Platform.capacity c.take_out.new.platform)) c.args.table.now left c.args.name.now buffer c.in-Ok.refused c.in_default.is (c.in-Ok.ensures.any buffer) in
+    let cleared : g.P.Platform.tells → IsCleared (history c.take_out.new.platform).present c.take_out.new.session c.args.table.now c.args.name.now left = λ told. taken.1 (told, c.requires.ready.mounted told) in
+    destroy_along g.P.Platform.tells (history c.args.platform.now) (history c.commit_session.new.platform) c.args.first c.in-Ok-commit_session.done.session
+    (sizes (blocks_of c.args.first) (g.P.Platform.head c.commit_session.new.platform) (g.P.Platform.capacity c.commit_session.new.platform)) c.args.table.now left c.args.name.now c.in-Ok-commit_session.done.reply c.reply_to_destroy.result buffer
+    c.reply_to_destroy.ensures taken.0
+    (λ told. was_mid (history c.args.platform.now) (history c.take_out.new.platform) (history c.commit_session.new.platform) c.take_out.new.session (λ image session. IsCleared image session c.args.table.now c.args.name.now left) (along.cell told).extends
+    (c.in-Ok-commit_session.ensures.goes.keeps.keys.extends told) (along.mounted told (c.requires.ready.mounted told)) (cleared told))
+    (λ needed free is told. short_still g.P.Platform c.take_out.new.platform c.commit_session.new.platform c.take_out.new.tape c.commit_session.new.tape c.args.ledger.now c.commit_session.new.ledger c.take_out.new.session c.in-Ok-commit_session.done.session
+    c.in-Ok-commit_session.done.reply needed free (λ image session. IsCleared image session c.args.table.now c.args.name.now left) is c.in-Ok-commit_session.ensures.answers (cleared told))
 
 pub returns-in-Err-commit_session-clause-any : goal.returns-in-Err-commit_session-clause-any
-returns-in-Err-commit_session-clause-any g c buffer = (
-  commit_may _ _ (Destroy c.args.name.now) c.args.ledger.now c.commit_session.new.ledger c.in-Err-commit_session.stop tt tt tt c.in-Err-commit_session.ensures.goes.unput,
-  (c.take_out.new.table, takes_none_any (g.P.Platform.tells × IsMounted (g.P.Platform.history c.args.platform.now).present c.args.first) (g.P.Platform.history c.take_out.new.platform).present (sizes (blocks_of c.args.first) (g.P.Platform.head c.take_out.new.platform) (g.P.Platform.capacity c.take_out.new.platform)) c.args.table.now c.take_out.new.table c.args.name.now buffer c.in-Ok.refused c.in_default.is (c.in-Ok.ensures.any buffer)),
-)
+returns-in-Err-commit_session-clause-any g c buffer =
+    let taken = takes_none_any g.P.Platform.tells (g.P.Platform.history c.args.platform.now).present (g.P.Platform.history c.take_out.new.platform).present c.args.first c.take_out.new.session (sizes (blocks_of c.args.first) (g.P.Platform.head c.take_out.new.platform) (g.P.Platform.capacity c.take_out.new.platform)) c.args.table.now c.take_out.new.table c.args.name.now buffer c.in-Ok.refused c.in_default.is (c.in-Ok.ensures.any buffer) in (
+      commit_may _ _ (Destroy c.args.name.now) c.args.ledger.now c.commit_session.new.ledger c.in-Err-commit_session.stop tt tt tt c.in-Err-commit_session.ensures.goes.unput,
+      (c.take_out.new.table, taken.0),
+    )
 
 pub returns-in-Some-clause-drew : goal.returns-in-Some-clause-drew
 returns-in-Some-clause-drew g c buffer =

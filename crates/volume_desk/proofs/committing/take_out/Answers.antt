@@ -74,16 +74,20 @@ returns-in-Err-clause-turns g c told entry buffer held = (
 )
 
 pub returns-in_default-clause-any : goal.returns-in_default-clause-any
-returns-in_default-clause-any g c buffer = inl (c.in_default.ensures.none, refl)
+returns-in_default-clause-any g c buffer = (inl (c.in_default.ensures.none, refl), tt)
 
 pub returns-then-head-capacity-clause-any : goal.returns-then-head-capacity-clause-any
 returns-then-head-capacity-clause-any g c buffer =
     let found = c.in-Some.ensures.found in
     let full : g.P.Platform.capacity c.args.platform.now ≤ g.P.Platform.head c.args.platform.now = omega (arith, c.if-head-capacity.true, c.head.ensures, c.capacity.ensures) in
-    inr (remove c.args.table.now c.in-Some.at, (c.in-Some.volume, found.1, (c.in-Some.at, found.0, refl)), inr (full, refl, refl))
+    (inr (remove c.args.table.now c.in-Some.at, (c.in-Some.volume, found.1, (c.in-Some.at, found.0, refl)), inr (full, refl, refl)), tt)
 
 pub returns-in-Ok-clause-any : goal.returns-in-Ok-clause-any
-returns-in-Ok-clause-any g c buffer = let found = c.in-Some.ensures.found in (c.in-Some.volume, found.1, (c.in-Some.at, found.0, c.remove.ensures.removed))
+returns-in-Ok-clause-any g c buffer =
+    let found = c.in-Some.ensures.found in (
+      (c.in-Some.volume, found.1, (c.in-Some.at, found.0, c.remove.ensures.removed)),
+      λ known. (c.in-Some.volume, named_at c.args.table.now c.args.name.now c.in-Some.at c.in-Some.volume found.0 found.1, c.in-Ok.ensures.left known.0 known.1),
+    )
 
 pub returns-in-Err-clause-any : goal.returns-in-Err-clause-any
 returns-in-Err-clause-any g c buffer =

@@ -5,6 +5,7 @@ use Rattle.session_calls.specs.Along.{drawn_by}
 use Rattle.session_calls.specs.Damage.{IsMounted}
 use Rattle.volume_lines.specs.Lines.{Create}
 use Rattle.volume_terms.specs.Volumes.{IsCount, changed}
+use Rattle.volume_terms.proofs.TableLaws.{placed_has}
 use Rattle.session_calls.proofs.CallLaws.{calls_none}
 use Rattle.volume_desk.proofs.CauseLaws.{call_may}
 use Rattle.volume_desk.proofs.DeskLaws.{changed_none, held_changed, is_new, no_room, out_of_range}
@@ -105,7 +106,10 @@ returns-in-Ok-clause-any g c buffer =
     let placed = c.in-Some.ensures.placed in
     let new = is_new (blocks_of c.args.session.now) c.blocks-3.result c.args.count c.args.table.now c.duplicate-next.result c.put.new.self c.args.name.now c.in-Some.volume c.blocks-3.ensures c.duplicate-next.ensures placed.0 placed.1 placed.2
     c.in-Some.ensures.inserted c.in-Some.ensures.table in
-    (inr (c.put.new.self, (c.if-has_volume.ensures.lacks refl, fits, c.in-Some.volume, new), inl (tt, refl)), tt)
+    (
+      inr (c.put.new.self, (c.if-has_volume.ensures.lacks refl, fits, c.in-Some.volume, new), inl (tt, refl)),
+      λ known. (c.in-Some.volume, (placed_has c.duplicate-next.result c.in-Some.volume c.put.new.self c.in-Some.ensures.inserted, placed.0), c.in-Ok.ensures.left known.0 known.1),
+    )
 
 pub returns-in-Err-clause-any : goal.returns-in-Err-clause-any
 returns-in-Err-clause-any g c buffer =

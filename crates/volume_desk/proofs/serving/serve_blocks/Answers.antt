@@ -1,13 +1,12 @@
 use Rattle.std.proofs.Common.{◌+◌, arith}
 use Rattle.device_session.specs.Open.{blocks_of}
 use Rattle.session_calls.specs.Along.{drawn_by}
-use Rattle.session_calls.specs.Damage.{IsMounted}
 use Rattle.volume_lines.specs.Lines.{Create, Write}
 use Rattle.volume_lines.specs.declared.lines.Line.TheVariants as parsed
 use Rattle.session_calls.proofs.CallLaws.{calls_more}
 use Rattle.volume_desk.specs.Causes.{sizes}
 use Rattle.volume_desk.specs.Drawing.{tally}
-use Rattle.volume_desk.proofs.CauseLaws.{any_as}
+use Rattle.volume_desk.proofs.CauseLaws.{over_as}
 use Rattle.volume_desk.proofs.DrawingLaws.{read_spends, spends_as, spends_some, trim_spends}
 use Rattle.volume_desk.proofs.TurnLaws.{turns_as}
 use Rattle.volume_desk.proofs.serving.serve_blocks.Goals as goal
@@ -38,19 +37,19 @@ returns-in-Trim-clause-turns g c told entry held =
 
 pub returns-in-Create-clause-any : goal.returns-in-Create-clause-any
 returns-in-Create-clause-any g c =
-    any_as (g.P.Platform.tells × IsMounted (g.P.Platform.history c.args.platform.now).present c.args.session.now) c.args.session.now (g.P.Platform.history c.args.platform.now).present (g.P.Platform.history c.create.new.platform).present (sizes (blocks_of c.args.session.now) (g.P.Platform.head c.create.new.platform) (g.P.Platform.capacity c.create.new.platform)) c.args.desk.now.table c.create.new.table c.args.line.now (parsed.Create c.in-Create.name c.in-Create.count) c.args.desk.now.buffer _ c.create.result c.in-Create.is (c.create.ensures.any _)
+    over_as g.P.Platform.tells (g.P.Platform.history c.args.platform.now).present (g.P.Platform.history c.create.new.platform).present c.args.session.now c.create.new.session (sizes (blocks_of c.args.session.now) (g.P.Platform.head c.create.new.platform) (g.P.Platform.capacity c.create.new.platform)) c.args.desk.now.table c.create.new.table c.args.line.now (parsed.Create c.in-Create.name c.in-Create.count) c.args.desk.now.buffer _ c.create.result c.in-Create.is (c.create.ensures.any _)
 
 pub returns-in-Read-clause-any : goal.returns-in-Read-clause-any
 returns-in-Read-clause-any g c =
-    any_as (g.P.Platform.tells × IsMounted (g.P.Platform.history c.args.platform.now).present c.args.session.now) c.args.session.now (g.P.Platform.history c.args.platform.now).present (g.P.Platform.history c.read.new.platform).present (sizes (blocks_of c.args.session.now) (g.P.Platform.head c.read.new.platform) (g.P.Platform.capacity c.read.new.platform)) c.args.desk.now.table c.args.desk.now.table c.args.line.now (parsed.Read c.in-Read.name c.in-Read.block) c.args.desk.now.buffer _ c.read.result c.in-Read.is c.read.ensures.any
+    over_as g.P.Platform.tells (g.P.Platform.history c.args.platform.now).present (g.P.Platform.history c.read.new.platform).present c.args.session.now c.read.new.session (sizes (blocks_of c.args.session.now) (g.P.Platform.head c.read.new.platform) (g.P.Platform.capacity c.read.new.platform)) c.args.desk.now.table c.args.desk.now.table c.args.line.now (parsed.Read c.in-Read.name c.in-Read.block) c.args.desk.now.buffer _ c.read.result c.in-Read.is c.read.ensures.any
 
 pub returns-in-Write-clause-any : goal.returns-in-Write-clause-any
 returns-in-Write-clause-any g c =
-    any_as (g.P.Platform.tells × IsMounted (g.P.Platform.history c.args.platform.now).present c.args.session.now) c.args.session.now (g.P.Platform.history c.args.platform.now).present (g.P.Platform.history c.write.new.platform).present (sizes (blocks_of c.args.session.now) (g.P.Platform.head c.write.new.platform) (g.P.Platform.capacity c.write.new.platform)) c.args.desk.now.table c.args.desk.now.table c.args.line.now (parsed.Write c.in-Write.name c.in-Write.block c.in-Write.count) c.args.desk.now.buffer _ c.write.result c.in-Write.is (c.write.ensures.any _)
+    over_as g.P.Platform.tells (g.P.Platform.history c.args.platform.now).present (g.P.Platform.history c.write.new.platform).present c.args.session.now c.write.new.session (sizes (blocks_of c.args.session.now) (g.P.Platform.head c.write.new.platform) (g.P.Platform.capacity c.write.new.platform)) c.args.desk.now.table c.args.desk.now.table c.args.line.now (parsed.Write c.in-Write.name c.in-Write.block c.in-Write.count) c.args.desk.now.buffer _ c.write.result c.in-Write.is (c.write.ensures.any _)
 
 pub returns-in-Trim-clause-any : goal.returns-in-Trim-clause-any
 returns-in-Trim-clause-any g c =
-    any_as (g.P.Platform.tells × IsMounted (g.P.Platform.history c.args.platform.now).present c.args.session.now) c.args.session.now (g.P.Platform.history c.args.platform.now).present (g.P.Platform.history c.trim.new.platform).present (sizes (blocks_of c.args.session.now) (g.P.Platform.head c.trim.new.platform) (g.P.Platform.capacity c.trim.new.platform)) c.args.desk.now.table c.args.desk.now.table c.args.line.now (parsed.Trim c.in-Trim.name c.in-Trim.block) c.args.desk.now.buffer _ c.trim.result c.in-Trim.is (c.trim.ensures.any _)
+    over_as g.P.Platform.tells (g.P.Platform.history c.args.platform.now).present (g.P.Platform.history c.trim.new.platform).present c.args.session.now c.trim.new.session (sizes (blocks_of c.args.session.now) (g.P.Platform.head c.trim.new.platform) (g.P.Platform.capacity c.trim.new.platform)) c.args.desk.now.table c.args.desk.now.table c.args.line.now (parsed.Trim c.in-Trim.name c.in-Trim.block) c.args.desk.now.buffer _ c.trim.result c.in-Trim.is (c.trim.ensures.any _)
 
 pub returns-in-Create-clause-spends : goal.returns-in-Create-clause-spends
 returns-in-Create-clause-spends g c =

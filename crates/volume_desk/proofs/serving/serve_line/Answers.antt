@@ -5,10 +5,12 @@ use Rattle.volume_lines.specs.Lines.{Commit, Destroy, asked}
 use Rattle.volume_lines.specs.Replies.{said}
 use Rattle.volume_desk.specs.Causes.{answer_in, sizes}
 use Rattle.volume_desk.specs.Drawing.{tally}
+use Rattle.volume_desk.specs.Turns.{goes_on}
 use Rattle.volume_desk.proofs.DrawingLaws.{answered_drew, spends_as, spends_some}
 use Rattle.volume_lines.specs.declared.lines.Line.TheVariants as parsed
 use Rattle.session_calls.proofs.CarryLaws.{carries_along, carries_end, carries_going}
-use Rattle.volume_desk.proofs.CauseLaws.{any_as, gives_known, stops_known}
+use Rattle.volume_desk.proofs.CauseLaws.{along_as, stops_known}
+use Rattle.volume_desk.proofs.DoneLaws.{answered_along}
 use Rattle.volume_desk.proofs.TurnLaws.{changed_served, serves_as, stopped_kept}
 use Rattle.volume_desk.proofs.serving.serve_line.Goals as goal
 
@@ -40,18 +42,18 @@ returns-in-Err-clause-serves g c told entry held =
 
 pub returns-in-Commit-clause-any : goal.returns-in-Commit-clause-any
 returns-in-Commit-clause-any g c =
-    any_as g.P.Platform.tells c.args.first (g.P.Platform.history c.args.platform.now).present (g.P.Platform.history c.commit.new.platform).present (sizes (blocks_of c.args.first) (g.P.Platform.head c.commit.new.platform) (g.P.Platform.capacity c.commit.new.platform)) c.args.desk.now.table c.args.desk.now.table c.args.line.now parsed.Commit c.args.desk.now.buffer _ (answer_in c.commit.result) c.in-Commit.is (c.commit.ensures.any c.args.desk.now.table _)
+    along_as g.P.Platform.tells (g.P.Platform.history c.args.platform.now) (g.P.Platform.history c.commit.new.platform) c.args.first (goes_on c.commit.result) (sizes (blocks_of c.args.first) (g.P.Platform.head c.commit.new.platform) (g.P.Platform.capacity c.commit.new.platform)) c.args.desk.now.table c.args.desk.now.table c.args.line.now parsed.Commit c.args.desk.now.buffer _ (answer_in c.commit.result) c.in-Commit.is (c.commit.ensures.any c.args.desk.now.table _)
 
 pub returns-in-Destroy-clause-any : goal.returns-in-Destroy-clause-any
 returns-in-Destroy-clause-any g c =
-    any_as g.P.Platform.tells c.args.first (g.P.Platform.history c.args.platform.now).present (g.P.Platform.history c.destroy.new.platform).present (sizes (blocks_of c.args.first) (g.P.Platform.head c.destroy.new.platform) (g.P.Platform.capacity c.destroy.new.platform)) c.args.desk.now.table c.destroy.new.table c.args.line.now (parsed.Destroy c.in-Destroy.name) c.args.desk.now.buffer _ (answer_in c.destroy.result) c.in-Destroy.is (c.destroy.ensures.any _)
+    along_as g.P.Platform.tells (g.P.Platform.history c.args.platform.now) (g.P.Platform.history c.destroy.new.platform) c.args.first (goes_on c.destroy.result) (sizes (blocks_of c.args.first) (g.P.Platform.head c.destroy.new.platform) (g.P.Platform.capacity c.destroy.new.platform)) c.args.desk.now.table c.destroy.new.table c.args.line.now (parsed.Destroy c.in-Destroy.name) c.args.desk.now.buffer _ (answer_in c.destroy.result) c.in-Destroy.is (c.destroy.ensures.any _)
 
 pub returns-in-Ok-clause-any : goal.returns-in-Ok-clause-any
 returns-in-Ok-clause-any g c =
-    let image = (g.P.Platform.history c.args.platform.now).present in (
-      c.in-Ok.ensures.any.0,
-      gives_known (g.P.Platform.tells × IsMounted image c.args.first) g.P.Platform.tells c.args.first image c.args.desk.now.table (asked c.args.line.now c.args.desk.now.buffer) (said c.in-Ok.reply c.serve_blocks.new.desk.buffer) (λ told. (told, c.requires.ready.mounted told)) c.in-Ok.ensures.any.1,
-    )
+    let along = c.serve_blocks.ensures.calls.along in
+    answered_along g.P.Platform.tells (g.P.Platform.history c.args.platform.now) (g.P.Platform.history c.serve_blocks.new.platform) c.args.first c.serve_blocks.new.session
+    (sizes (blocks_of c.args.first) (g.P.Platform.head c.serve_blocks.new.platform) (g.P.Platform.capacity c.serve_blocks.new.platform)) c.args.desk.now.table c.serve_blocks.new.desk.table (asked c.args.line.now c.args.desk.now.buffer)
+    c.serve_blocks.new.desk.buffer c.in-Ok.reply (λ told. (along.cell told).extends) c.requires.ready.mounted (λ told. along.mounted told (c.requires.ready.mounted told)) c.in-Ok.ensures.any
 
 pub returns-in-Err-clause-any : goal.returns-in-Err-clause-any
 returns-in-Err-clause-any g c =
