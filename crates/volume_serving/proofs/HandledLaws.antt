@@ -32,15 +32,16 @@ use Rattle.volume_lines.specs.Replies.{Reply, Bad, line_of}
 use Rattle.volume_terms.specs.Turn.{Turn}
 use Rattle.volume_terms.specs.Volumes.{IsTabled}
 use Rattle.device_course.specs.Course.{MadeBetween}
-use Rattle.volume_desk.specs.Causes.{Draws, GivesContent, StopsAny, TurnsTable, sizes}
+use Rattle.volume_desk.specs.Causes.{Draws, StopsAny, TurnsTable, sizes}
+use Rattle.volume_desk.specs.Done.{DoesAny, WasOver}
 use Rattle.volume_desk.specs.Drawing.{DrewFor, tally}
 use Rattle.volume_desk.specs.Turns.{HasPages, IsHeld, Served, Shows, Stopped, StopsAt}
 use Rattle.volume_serving.specs.World.{World, IsOn}
 use Rattle.volume_serving.specs.Handled.{ending_of, goes_on, AreMany, AreShown, EndsOn, Handled, OnLines, Replied}
 use Rattle.volume_serving.specs.Drawing.{DrewUntil, tally_of}
-use Rattle.volume_serving.specs.Tabled.{GaveContent, IfStopped, IsTurnOn, OnTables}
+use Rattle.volume_serving.specs.Tabled.{Did, IfStopped, IsTurnOn, OnTables}
 use Rattle.volume_serving.proofs.DrawingLaws.{until_bad, until_cut, until_line, until_longer, until_none, until_then}
-use Rattle.volume_serving.proofs.TabledLaws.{gave_now, if_stopped_behind, if_stopped_longer, next_behind, next_longer, tables_cut, tables_longer, tables_nothing, tables_then}
+use Rattle.volume_serving.proofs.TabledLaws.{did_now, if_stopped_behind, if_stopped_longer, next_behind, next_longer, tables_cut, tables_longer, tables_nothing, tables_then}
 
 -- ---- nothing
 
@@ -304,7 +305,7 @@ shown_one old new reply next later shows = (moment new, later, omega arith, subs
 -- what is said of it and its reply on any pages: it is one over the table, what a content is, and which keys it drew, whether the reply is put or not
 pub record SaysOf (tells : Type 0) (blocks : ℕ) (old : World) (table_now : List Volume) (new : Outside) (text : List ℕ) (reply : Reply) : Type 0 where
   pub extends : tells → Extends old.outside.history new.history
-  pub turn : IsTurnOn (sizes blocks new.head new.capacity) (λ table it given. GaveContent tells new.history (moment old.outside.history) table it given) old.table text reply table_now
+  pub turn : IsTurnOn (sizes blocks new.head new.capacity) (Did tells new.history (moment old.outside.history)) old.table text reply table_now
   pub drew : DrewUntil (tally_of old.outside) (text ∷ []) (reply ∷ []) (tally_of new)
   pub cut : DrewUntil (tally_of old.outside) (text ∷ []) [] (tally_of new)
 
@@ -323,12 +324,13 @@ pub still_of : {T : Type 0} (draws : T → Option (List (List ℕ))) (tape tape_
 still_of draws tape tape_now pages pages_now it undrawn unadded none = λ k. tally (draws (undrawn none k)) (unadded none k)
 
 -- one in the grammar, by what the desk says of it
-pub served_says : (tells : Type 0) (blocks : ℕ) (old : World) (session : Session) (table_now : List Volume) (new : Outside) (text : List ℕ) (it : Line) (reply : Reply) → Spells text it → (tells → Extends old.outside.history new.history)
-    → (tells → IsMounted old.outside.history.present session) → TurnsTable (sizes blocks new.head new.capacity) old.table it reply table_now × GivesContent tells session old.outside.history.present old.table it reply
+pub served_says : (tells : Type 0) (blocks : ℕ) (old : World) (session now : Session) (table_now : List Volume) (new : Outside) (text : List ℕ) (it : Line) (reply : Reply) → Spells text it → (tells → Extends old.outside.history new.history)
+    → (tells → IsMounted old.outside.history.present session) → (tells → IsMounted new.history.present now) → TurnsTable (sizes blocks new.head new.capacity) old.table it reply table_now
+    × DoesAny (λ Claim. tells → Claim old.outside.history.present session) (λ Claim. tells → Claim new.history.present now) (λ Claim. tells → WasOver (moment old.outside.history) new.history Claim) old.table reply it table_now
     → DrewFor (tally_of old.outside) it reply (tally_of new) → ((Draws it → ⊥) → tally_of new ≡ tally_of old.outside) → SaysOf tells blocks old table_now new text reply
-served_says tells blocks old session table_now new text it reply spelled extends mounted any drew still = record {
+served_says tells blocks old session now table_now new text it reply spelled extends mounted goes any drew still = record {
   extends = extends;
-  turn = inl (it, spelled, any.0, gave_now tells old.outside.history new.history session old.table it reply extends mounted any.1);
+  turn = inl (it, spelled, any.0, did_now tells old.outside.history new.history session now old.table it reply table_now extends mounted goes any.1);
   drew = until_line (tally_of old.outside) (tally_of new) text it reply spelled drew;
   cut = until_cut (tally_of old.outside) (tally_of new) text it drew.0 spelled still drew.2.drew;
 }

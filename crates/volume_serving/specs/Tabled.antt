@@ -1,17 +1,16 @@
--- Which replies lines have over the table in memory, what a content that is given is, and at which line the device may stop a run, on any pages.
+-- Which replies lines have over the table in memory, what a line that is done found or left, and at which line the device may stop a run, on any pages.
 use Rattle.std.specs.Prelude.{◌≡◌, ◌≤◌, ◌⊎◌, ℕ, List, [], ◌∷◌, Ok, Err, OnOk}
-use Rattle.platform.specs.History.{Extends, History, image_at, moment}
+use Rattle.platform.specs.History.{Extends, History, moment}
 use Rattle.device_course.specs.States.{Outside}
-use Rattle.device_session.specs.Sessions.{Session}
 use Rattle.line_run.specs.Stops.{Ending}
 use Rattle.line_run.specs.declared.stop.Stop.TheVariants as stops
-use Rattle.session_calls.specs.Damage.{IsMounted}
 use Rattle.session_calls.specs.declared.stops.DeviceStop.{DeviceStop}
 use Rattle.volume_table.specs.declared.volume.Volume.{Volume}
 use Rattle.volume_lines.specs.Grammar.{IsBad, Spells}
 use Rattle.volume_lines.specs.Lines.{Line}
 use Rattle.volume_lines.specs.Replies.{Reply, Bad}
-use Rattle.volume_desk.specs.Causes.{IsLookedUp, OnContent, Sizes, StopsAny, TurnsTable, sizes}
+use Rattle.volume_desk.specs.Causes.{Sizes, StopsAny, TurnsTable, sizes}
+use Rattle.volume_desk.specs.Done.{DoesAny, WasOver}
 
 -- of the line behind those that have replies
 abbrev pub IfNext : List Reply → List (List ℕ) → (List ℕ → Type 0) → Type 0
@@ -28,34 +27,26 @@ IfStopped Claim lines replies (Err stops.Source) = Unit {0}
 IfStopped Claim lines replies (Err stops.Limit) = Unit {0}
 IfStopped Claim lines replies (Err stops.Sink) = Unit {0}
 
--- at a moment, which is not before this one, there was a session on the root record in the cell with which a look-up of this block of a volume of this table came to these bytes, but for their trailing zeros
-pub record WasLookedUp (history : History) (from : ℕ) (table : List Volume) (name : List ℕ) (block : ℕ) (bytes : List ℕ) : Type 0 where
-  pub at : ℕ
-  pub later : from ≤ at
-  pub within : at ≤ moment history
-  pub session : Session
-  pub mounted : IsMounted (image_at history at) session
-  pub looked : IsLookedUp (image_at history at) session table name block bytes
+-- a reply that a line is done, over this table, and the table behind it: what it found or left was so at a moment, which is not before this one, of a session on the root record in the cell
+abbrev pub Did : Type 0 → History → ℕ → List Volume → Line → Reply → List Volume → Type 0
+Did tells history from table it reply next =
+    DoesAny (λ Claim. tells → WasOver from history Claim) (λ Claim. tells → WasOver from history Claim) (λ Claim. tells → WasOver from history Claim) table reply it next
 
--- a content that was given was looked up so
-abbrev pub GaveContent : Type 0 → History → ℕ → List Volume → Line → Reply → Type 0
-GaveContent tells history from table it reply = OnContent it reply (λ name block bytes. tells → WasLookedUp history from table name block bytes)
-
--- a reply to a line over this table, of which this is so, and the table behind it
-abbrev pub IsTurnOn : Sizes → (List Volume → Line → Reply → Type 0) → List Volume → List ℕ → Reply → List Volume → Type 0
-IsTurnOn here Gave table line reply next = ((it : Line) × Spells line it × TurnsTable here table it reply next × Gave table it reply) ⊎ (IsBad line × (reply ≡ Bad) × (next ≡ table))
+-- a reply to a line over this table, and the table behind it, of which this is so
+abbrev pub IsTurnOn : Sizes → (List Volume → Line → Reply → List Volume → Type 0) → List Volume → List ℕ → Reply → List Volume → Type 0
+IsTurnOn here DidSo table line reply next = ((it : Line) × Spells line it × TurnsTable here table it reply next × DidSo table it reply next) ⊎ (IsBad line × (reply ≡ Bad) × (next ≡ table))
 
 -- these replies belong to the first of these lines, in their order, and lead from one table to another
-abbrev pub AreTurnsOn : Sizes → (List Volume → Line → Reply → Type 0) → List Volume → List (List ℕ) → List Reply → List Volume → Type 0
-AreTurnsOn here Gave table lines [] last = last ≡ table
-AreTurnsOn here Gave table [] (reply ∷ replies) last = ⊥
-AreTurnsOn here Gave table (line ∷ lines) (reply ∷ replies) last = (next : List Volume) × IsTurnOn here Gave table line reply next × AreTurnsOn here Gave next lines replies last
+abbrev pub AreTurnsOn : Sizes → (List Volume → Line → Reply → List Volume → Type 0) → List Volume → List (List ℕ) → List Reply → List Volume → Type 0
+AreTurnsOn here DidSo table lines [] last = last ≡ table
+AreTurnsOn here DidSo table [] (reply ∷ replies) last = ⊥
+AreTurnsOn here DidSo table (line ∷ lines) (reply ∷ replies) last = (next : List Volume) × IsTurnOn here DidSo table line reply next × AreTurnsOn here DidSo next lines replies last
 
--- over a device of so many blocks, from this table on, each reply is one that its line may have over the table behind those before it; where pages lacked, they lack at the end; a content
--- that a reply gives was looked up since the start; and the line at which the device stopped the run is one that is not refused, and that may stop so
+-- over a device of so many blocks, from this table on, each reply is one that its line may have over the table behind those before it; where pages lacked, they lack at the end; what a line
+-- found or left that is done was so since the start; and the line at which the device stopped the run is one that is not refused, and that may stop so
 pub record OnTables (tells : Type 0) (blocks : ℕ) (table table_now : List Volume) (old new : Outside) (lines : List (List ℕ)) (replies : List Reply) (ending : Ending) : Type 0 where
   pub last : List Volume
   pub extends : tells → Extends old.history new.history
-  pub turns : AreTurnsOn (sizes blocks new.head new.capacity) (GaveContent tells new.history (moment old.history)) table lines replies last
+  pub turns : AreTurnsOn (sizes blocks new.head new.capacity) (Did tells new.history (moment old.history)) table lines replies last
   pub going : OnOk ending (last ≡ table_now)
   pub stopped : IfStopped (λ stop it. StopsAny tells new.history.present blocks last it stop) lines replies ending
