@@ -14,3 +14,5 @@ pub mod LookedLaws
 pub mod OpenLaws
 pub mod MoveLaws
 pub mod KeyLaws
+pub mod TreeLaws
+pub mod WholeLaws

@@ -32,6 +32,7 @@ use Rattle.session_calls.specs.declared.stops.DeviceStop.{DeviceStop}
 use Rattle.session_calls.specs.declared.stops.DeviceStop.TheVariants as stops
 use Rattle.device_session.specs.Sessions.{Session}
 use Rattle.transfer.specs.Listing.{IsListStop, IsOfEntries, stop_of_walk}
+use Rattle.transfer.specs.Whole.{HasBlocks}
 
 -- a walk only looks
 pub looks_of : {S : Type 0} (P : PlatformGhosts S) (platform platform_now : S) → OnlyLooks P platform platform_now → Looks P platform platform_now
@@ -149,3 +150,9 @@ pub lows_many : {X : Type 0} (items : X → List ℕ) (result : Result X DeviceS
     → IfOk result (λ lows. length (items lows) ≡ count)
 lows_many items (Ok lows) list blocks count done many = ap length done.1 ∙ length-map list (λ (e : Entry). e.low) ∙ many
 lows_many items (Err stop) list blocks count done many = tt
+
+-- on any pages: each node fits, and the blocks are those of its entries
+pub lows_listed : {X : Type 0} (items : X → List ℕ) (result : Result X DeviceStop) (list : List Entry) (image : Image) (root : Root) (nodes : List Node) (blocks : ℕ) → IfOk result (λ lows. All (λ block. block < blocks) (items lows) × (items lows ≡ map (λ (e : Entry). e.low) list))
+    → list ≡ listed nodes → NodesOf image.readable root nodes → IfOk result (λ lows. HasBlocks image root (items lows))
+lows_listed items (Ok lows) list image root nodes blocks done is are = record { nodes = nodes; are = are; is = done.1 ∙ ap (map (λ (e : Entry). e.low)) is }
+lows_listed items (Err stop) list image root nodes blocks done is are = tt

@@ -21,7 +21,7 @@ use Rattle.transfer.specs.declared.halts.Moved.{Moved}
 full_root : (cell : Option (List ℕ)) (bytes : List ℕ) → cell ≡ Some bytes → cell ≡ None → ⊥
 full_root cell bytes full none = let both : Some bytes ≡ None = sym full ∙ none in cc
 
-found_at : {S : Type 0} (P : PlatformGhosts S) (platform mid : S) (session : Session) (result : Result (Option Session) DeviceStop) → result ≡ Ok (Some session) → IfOk result (IsFound P 256 platform mid) → IsFound P 256 platform mid (Some session)
+pub found_at : {S : Type 0} (P : PlatformGhosts S) (platform mid : S) (session : Session) (result : Result (Option Session) DeviceStop) → result ≡ Ok (Some session) → IfOk result (IsFound P 256 platform mid) → IsFound P 256 platform mid (Some session)
 found_at P platform mid session result is finds = subst (λ (r : Result (Option Session) DeviceStop). IfOk r (IsFound P 256 platform mid)) is finds
 
 -- a mount that found a session found a cell that can be served

@@ -21,13 +21,14 @@ pub record AreReady (from_tells to_tells : Type 0) (from to : Outside) (one othe
   pub within : All (λ block. block < blocks_of one) blocks
   pub alike : blocks_of other ≡ blocks_of one
 
--- both devices are only read: each session goes on, a fault is that of one platform, and a halt names a record that doesn't fit, if any
+-- both devices are only read: each session goes on with its tree, a fault is that of one platform, and a halt names a record that doesn't fit, if any
 pub record ReadsBoth {S R X : Type 0} (P : PlatformGhosts S) (Q : PlatformGhosts R) (first first_now : S) (second second_now : R) (source source_now target target_now : Session) (result : Result X Halt) : Type 0 where
   pub from : (any : Drawn) → Along P 0 first first_now any any source source_now
   pub to : (any : Drawn) → Along Q 0 second second_now any any target target_now
   pub blame : (tape output ledger : ℕ) → Blames (counts (P.faults first) (Q.faults second) tape output ledger) (counts (P.faults first_now) (Q.faults second_now) tape output ledger) result
   pub wrong : IfErr result (MeetsWrong P.tells Q.tells (P.history first_now).present (Q.history second_now).present)
   pub behind : IfErr result IsOfReads
+  pub trees : (source_now.grove ≡ source.grove) × (target_now.grove ≡ target.grove)
 
 -- the first device is only read, and the second one is filled: its session ends
 pub record FillsBoth {S R W V : Type 0} (P : PlatformGhosts S) (Q : PlatformGhosts R) (T : TapeGhosts W) (L : SinkGhosts V) (first first_now : S) (second second_now : R) (tape tape_now : W) (ledger ledger_now : V) (source source_now target : Session) (result : Result ℕ Halt) : Type 0 where

@@ -8,3 +8,4 @@ pub mod Refusals
 pub mod Program
 pub mod Moving
 pub mod Both
+pub mod Whole

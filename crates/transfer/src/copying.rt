@@ -1,5 +1,5 @@
 //! The copying of blocks from one session to another, and its commit.
-ghost use Rattle.std.specs.Prelude.{◌≡◌, ◌-◌, ◌<◌, ℕ, All, None, Some, Err, IfErr, IsOk, length};
+ghost use Rattle.std.specs.Prelude.{◌≡◌, ◌-◌, ◌<◌, ◌∷◌, [], ℕ, All, None, Some, Err, IfErr, IsOk, OnOk, length};
 ghost use Rattle.device_course.specs.States.{around};
 ghost use Rattle.device_session.specs.Open.{blocks_of, needed_by};
 ghost use Rattle.session_calls.specs.Along.{Along, Drawn, drawn_by};
@@ -12,6 +12,7 @@ ghost use Rattle.transfer.specs.Copies.{copied, copy_block};
 ghost use Rattle.transfer.specs.Moving.{Commits, Copies};
 ghost use Rattle.transfer.specs.Refusals.{IsOfCopy};
 ghost use Rattle.transfer.specs.Running.{IsNumberOf, IsOfCommit, MeetsWrong, alone};
+ghost use Rattle.transfer.specs.Whole.{CopiesTree};
 
 use crate::halts::Halt;
 use crate::sides::{read_source, write_target};
@@ -44,6 +45,9 @@ pub(crate) fn copy_blocks<P: Platform, Q: Platform, T: Tape>(
         (copied array.contents blocks.now other) result }
     ensures full { result ≡ Err Halt.Full → (0 < length blocks.now) × (Q.head to.new ≡ Q.capacity to.new) }
     ensures behind { IfErr result IsOfCopy }
+    // On any pages: a look-up of each comes to one content on both, and the first session keeps its tree.
+    ensures copies { (source.new.grove ≡ source.old.grove)
+        × OnOk result (CopiesTree P.tells Q.tells (P.history from.old).present (Q.history to.old).present (Q.history to.new).present source.old target.old target.new blocks.now) }
 {
     let mut content = [0; BLOCK];
     for block in blocks {
@@ -78,6 +82,9 @@ fn copy_block<P: Platform, Q: Platform, T: Tape>(
         (copy_block array.contents other block) result }
     ensures full { result ≡ Err Halt.Full → Q.head to.new ≡ Q.capacity to.new }
     ensures behind { IfErr result IsOfCopy }
+    // On any pages: a look-up of it comes to one content on both, and the first session keeps its tree.
+    ensures copies { (source.new.grove ≡ source.old.grove)
+        × OnOk result (CopiesTree P.tells Q.tells (P.history from.old).present (Q.history to.old).present (Q.history to.new).present source.old target.old target.new (block ∷ [])) }
     ensures size { length content.new ≡ 4096 }
 {
     read_source(source, from, block, content)?;

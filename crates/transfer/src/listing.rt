@@ -10,6 +10,7 @@ ghost use Rattle.sdbt_base.specs.Arrays.{Device, Session as OpenSession, mounted
 ghost use Rattle.device_course.specs.States.{IsAt};
 ghost use Rattle.transfer.specs.Moving.{IsSoundStop};
 ghost use Rattle.transfer.specs.Listing.{IsListStop, IsOfEntries, stop_of_walk};
+ghost use Rattle.transfer.specs.Whole.{HasBlocks};
 
 use btree_walk::{Entries, WalkRefusal, entries};
 use device_session::Session;
@@ -28,6 +29,8 @@ pub(crate) fn list_blocks<P: Platform>(
     requires open { IsOpen session.now (P.head platform.old) }
     ensures within { IfOk result (λ blocks. All (λ block. block < blocks_of session.now) blocks.items) }
     ensures count { IfOk result (λ blocks. length blocks.items ≡ (root_of session.now).mapped) }
+    // On any pages: each node fits, and the blocks are those of its entries.
+    ensures listed { P.tells → IfOk result (λ blocks. HasBlocks (P.history platform.old).present (root_of session.now) blocks.items) }
     ensures looks { Looks P.Platform platform.old platform.new }
     ensures blame { IsBlamed (counts (P.faults platform.old) 0 0 0 0) (counts (P.faults platform.new) 0 0 0 0) result }
     ensures wrong { IfErr result (IsListStop (P.tells × IsMounted (P.history platform.old).present session.now) (P.history platform.new).present) }

@@ -1,15 +1,17 @@
 //! Calls on either side, each with the halt of its side.
-ghost use Rattle.std.specs.Prelude.{◌≡◌, ◌<◌, ◌≤◌, ℕ, All, Some, Err, IfErr, IfOk, length};
+ghost use Rattle.std.specs.Prelude.{◌≡◌, ◌<◌, ◌≤◌, ℕ, All, Some, Err, IfErr, IfOk, OnOk, length};
+ghost use Rattle.device_session.specs.Damage.{HasPut};
 ghost use Rattle.device_session.specs.Open.{blocks_of, root_of};
 ghost use Rattle.session_calls.specs.Along.{Along, Drawn, drawn_by};
 ghost use Rattle.session_calls.specs.Carrying.{IsReady};
 ghost use Rattle.transfer.specs.Counts.{counts};
 ghost use Rattle.transfer.specs.Halts.{Blames};
 ghost use Rattle.std.specs.FinMap as map;
-ghost use Rattle.sdbt_base.specs.Arrays.{Device, Session as OpenSession, mounted, written};
+ghost use Rattle.sdbt_base.specs.Arrays.{Device, Session as OpenSession, mounted, padded, written};
 ghost use Rattle.device_course.specs.States.{IsAt};
 ghost use Rattle.transfer.specs.Moving.{IsReadHalt, ReadsHere, WritesHere};
 ghost use Rattle.transfer.specs.Running.{HaltsFrom, HaltsTo, alone};
+ghost use Rattle.transfer.specs.Whole.{HasBlocks, ReadsTree};
 
 use crate::halts::Halt;
 use crate::listing::list_blocks;
@@ -35,6 +37,8 @@ pub(crate) fn read_source<P: Platform>(
     ensures wrong { IfErr result (HaltsFrom P.tells (P.history from.new).present) }
     ensures leads { P.tells → (there : Device) (array : OpenSession) → IsAt (P.history from.old).present (Some source.old) (mounted there array)
         → ReadsHere (P.history from.new).present source.new there array block out.new result }
+    // On any pages: a block that doesn't fit is none of zeros.
+    ensures reads { ReadsTree P.tells (P.history from.old).present source.old source.new block out.new result }
     ensures size { length out.new ≡ 4096 }
 {
     match read_block(source, from, block, out) {
@@ -60,6 +64,8 @@ pub(crate) fn read_target<Q: Platform>(
     ensures wrong { IfErr result (HaltsTo Q.tells (Q.history to.new).present) }
     ensures leads { Q.tells → (there : Device) (array : OpenSession) → IsAt (Q.history to.old).present (Some target.old) (mounted there array)
         → ReadsHere (Q.history to.new).present target.new there array block out.new result }
+    // On any pages: a block that doesn't fit is none of zeros, nor like another one.
+    ensures reads { ReadsTree Q.tells (Q.history to.old).present target.old target.new block out.new result }
     ensures size { length out.new ≡ 4096 }
 {
     match read_block(target, to, block, out) {
@@ -86,6 +92,8 @@ pub(crate) fn write_target<Q: Platform, T: Tape>(
     ensures wrong { IfErr result (HaltsTo Q.tells (Q.history to.new).present) }
     ensures leads { Q.tells → (there : Device) (array : OpenSession) → IsAt (Q.history to.old).present (Some target.old) (mounted there array)
         → WritesHere (Q.history to.new).present target.new there (written array block content.now) result }
+    // On any pages: behind a write that was done a look-up of the block comes to the content, and one of each other block to what it came to before.
+    ensures puts { Q.tells → OnOk result (HasPut (Q.history to.old).present.readable (Q.history to.new).present.readable target.old target.new block (padded content.now)) }
 {
     if to.head() == to.capacity() {
         return Err(Halt::Full);
@@ -105,6 +113,8 @@ pub(crate) fn list_source<P: Platform>(
     requires ready { IsReady P.tells (alone P.Platform from.old) source.now }
     ensures within { IfOk result (λ blocks. All (λ block. block < blocks_of source.now) blocks.items) }
     ensures count { IfOk result (λ blocks. length blocks.items ≡ (root_of source.now).mapped) }
+    // On any pages: each node fits, and the blocks are those of its entries.
+    ensures listed { P.tells → IfOk result (λ blocks. HasBlocks (P.history from.old).present (root_of source.now) blocks.items) }
     ensures along { (any : Drawn) → Along P.Platform 0 from.old from.new any any source.now source.now }
     ensures blame { (to tape output ledger : ℕ) → Blames (counts (P.faults from.old) to tape output ledger)
         (counts (P.faults from.new) to tape output ledger) result }
@@ -126,6 +136,9 @@ pub(crate) fn list_target<Q: Platform>(
     to: &mut Q,
 ) -> Result<Vec<u64>, Halt>
     requires ready { IsReady Q.tells (alone Q.Platform to.old) target.now }
+    ensures count { IfOk result (λ blocks. length blocks.items ≡ (root_of target.now).mapped) }
+    // On any pages: each node fits, and the blocks are those of its entries.
+    ensures listed { Q.tells → IfOk result (λ blocks. HasBlocks (Q.history to.old).present (root_of target.now) blocks.items) }
     ensures along { (any : Drawn) → Along Q.Platform 0 to.old to.new any any target.now target.now }
     ensures blame { (from tape output ledger : ℕ) → Blames (counts from (Q.faults to.old) tape output ledger)
         (counts from (Q.faults to.new) tape output ledger) result }

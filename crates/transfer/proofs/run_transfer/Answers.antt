@@ -39,7 +39,7 @@ returns-in-Ok-clause-other_words g c two = absurd (omega (arith, two))
 pub returns-in-Ok-clause-ran : goal.returns-in-Ok-clause-ran
 returns-in-Ok-clause-ran g c none =
     let went = c.in-Ok.ensures.went in
-    record { moved = went.moved; ending = Ok tt; said = went.said; status_is = refl; wrong = went.wrong; looked = went.looked; there = went.there; mapped = went.mapped; refused = went.refused; unlike = went.unlike }
+    record { moved = went.moved; ending = Ok tt; said = went.said; status_is = refl; wrong = went.wrong; looked = went.looked; there = went.there; mapped = went.mapped; whole = went.whole; refused = went.refused; unlike = went.unlike }
 
 pub returns-in-Ok-clause-from_alone : goal.returns-in-Ok-clause-from_alone
 returns-in-Ok-clause-from_alone g c = from_alone _ _ _ _ _ (λ zero. refl) (g.met.P.Platform.has_room c.run.new.from) c.in-Ok.ensures.from
@@ -63,7 +63,7 @@ returns-in-Err-clause-other_words g c two = absurd (never_two c.in-Err.halt (sym
 pub returns-in-Err-clause-ran : goal.returns-in-Err-clause-ran
 returns-in-Err-clause-ran g c none =
     let went = c.in-Err.ensures.went in
-    record { moved = went.moved; ending = Err c.in-Err.halt; said = went.said; status_is = c.status.ensures; wrong = went.wrong; looked = went.looked; there = went.there; mapped = went.mapped; refused = went.refused; unlike = went.unlike }
+    record { moved = went.moved; ending = Err c.in-Err.halt; said = went.said; status_is = c.status.ensures; wrong = went.wrong; looked = went.looked; there = went.there; mapped = went.mapped; whole = went.whole; refused = went.refused; unlike = went.unlike }
 
 pub returns-in-Err-clause-from_alone : goal.returns-in-Err-clause-from_alone
 returns-in-Err-clause-from_alone g c = from_alone _ _ _ _ _ (λ zero. absurd (never_zero c.in-Err.halt (sym c.status.ensures ∙ zero))) (g.met.P.Platform.has_room c.run.new.from) c.in-Err.ensures.from

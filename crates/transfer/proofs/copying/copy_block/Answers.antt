@@ -7,6 +7,7 @@ use Rattle.transfer.proofs.FillLaws.{read_sound}
 use Rattle.transfer.proofs.MovingLaws.{copied_block}
 use Rattle.transfer.proofs.HaltLaws.{from_full, halted, meets_from, meets_to}
 use Rattle.transfer.proofs.RefusalLaws.{copy_from, copy_to}
+use Rattle.transfer.proofs.WholeLaws.{copied_one}
 use Rattle.transfer.proofs.copying.copy_block.Goals as goal
 
 pub returns-in_err-read_source-clause-from : goal.returns-in_err-read_source-clause-from
@@ -63,3 +64,18 @@ returns-in-Err-clause-behind g c = copy_to _ _ c.in-Err.halt c.in-Err.ensures.wr
 pub returns-in_err-read_source-clause-full : goal.returns-in_err-read_source-clause-full
 returns-in_err-read_source-clause-full g c is =
     absurd (from_full {X = Unit {0}} _ _ (Err c.in_err-read_source.field-0.0) c.in_err-read_source.ensures.wrong (sym (halted c.from_residual.result c.in_err-read_source.field-0.0 c.from_residual.ensures.1) ∙ is))
+
+pub returns-in_err-read_source-clause-copies : goal.returns-in_err-read_source-clause-copies
+returns-in_err-read_source-clause-copies g c = (c.in_err-read_source.ensures.reads.tree, rw (halted c.from_residual.result c.in_err-read_source.field-0.0 c.from_residual.ensures.1) tt)
+
+pub returns-in-Ok-clause-copies : goal.returns-in-Ok-clause-copies
+returns-in-Ok-clause-copies g c =
+    let P = g.P.Platform in
+    let Q = g.Q.Platform in (
+      c.in_ok-read_source.ensures.reads.tree,
+      copied_one P.tells Q.tells (P.history c.args.from.now).present (Q.history c.args.to.now).present (Q.history c.write_target.new.to).present c.args.source.now c.args.target.now c.write_target.new.target c.args.block c.read_source.new.out
+          c.in_ok-read_source.ensures.size c.in_ok-read_source.ensures.reads.found c.in-Ok.ensures.puts,
+    )
+
+pub returns-in-Err-clause-copies : goal.returns-in-Err-clause-copies
+returns-in-Err-clause-copies g c = (c.in_ok-read_source.ensures.reads.tree, tt)

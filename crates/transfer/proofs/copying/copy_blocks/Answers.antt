@@ -6,7 +6,7 @@ use Rattle.session_calls.proofs.AlongLaws.{along_start, along_then}
 use Rattle.session_calls.proofs.CallLaws.{along_more, no_draw}
 use Rattle.transfer.proofs.HaltLaws.{halted}
 use Rattle.transfer.specs.Counts.{Counts}
-use Rattle.std.proofs.Common.{◌∙◌, List, Some, get_or, sym, take}
+use Rattle.std.proofs.Common.{◌∷◌, [], List, Some, get_or, sym, take}
 use Rattle.std.proofs.lemmas.List.{take_all, take_more}
 use Rattle.sdbt_base.specs.Arrays.{Session as OpenSession, mounted}
 use Rattle.device_course.specs.States.{IsAt}
@@ -14,6 +14,10 @@ use Rattle.transfer.specs.Copies.{copied, copy_block}
 use Rattle.transfer.proofs.CopyLaws.{copied-more}
 use Rattle.transfer.proofs.BlameLaws.{blames_done, blames_then, same_counts}
 use Rattle.transfer.proofs.copying.copy_blocks.Goals as goal
+use Rattle.std.proofs.lemmas.List.Elements.{All-take, All-weaker}
+use Rattle.platform.specs.Image.{Image}
+use Rattle.transfer.specs.Whole.{CopiesTree}
+use Rattle.transfer.proofs.WholeLaws.{copied_more, copied_none, pages_same}
 
 pub loop-block-init : goal.loop-block-init
 loop-block-init g c = record {
@@ -23,6 +27,8 @@ loop-block-init g c = record {
   to_quiet = refl;
   leads = λ from_told to_told device there array other at at_other. (at, at_other);
   tape_quiet = refl;
+  tree = refl;
+  copies = copied_none g.P.Platform.tells g.Q.Platform.tells (g.P.Platform.history c.args.from.now).present (g.Q.Platform.history c.args.to.now).present c.args.source.now c.args.target.now;
   size = refl;
 }
 
@@ -64,6 +70,20 @@ loop-block-preserved g c =
           let more : copied array.contents (take (index + 1) blocks) other ≡ copy_block array.contents mid block = ap (λ (bs : List ℕ). copied array.contents bs other) (take_more blocks index 0 c.loop-block-test.true) ∙ copied-more array.contents (take index blocks) block other in
           (led.0, subst (λ (o : OpenSession). IsAt (g.Q.Platform.history c.copy_block.new.to).present (Some c.copy_block.new.target) (mounted there o)) (sym more) led.1);
       tape_quiet = ap (λ (n : Counts). n.tape) same ∙ before.tape_quiet;
+      tree = c.in_ok-copy_block.ensures.copies.0 ∙ before.tree;
+      copies =
+          let P = g.P.Platform in
+          let Q = g.Q.Platform in
+          let blocks : List ℕ = c.args.blocks.now in
+          let index : ℕ = c.loop-block.block-index in
+          let block : ℕ = get_or blocks index 0 in
+          let first : Image = (P.history c.args.from.now).present in
+          let start : Image = (Q.history c.args.to.now).present in
+          subst (CopiesTree P.tells Q.tells first start (Q.history c.copy_block.new.to).present c.args.source.now c.args.target.now c.copy_block.new.target) (sym (take_more blocks index 0 c.loop-block-test.true))
+          (copied_more P.tells Q.tells first (P.history c.loop-block.from).present start (Q.history c.loop-block.to).present (Q.history c.copy_block.new.to).present c.args.source.now c.loop-block.source c.args.target.now c.loop-block.target c.copy_block.new.target (take index blocks) block
+          (pages_same P c.args.from.now c.loop-block.from no_draw no_draw c.args.source.now c.loop-block.source g.met.P.Platform.counts_pages (before.source no_draw)) before.tree before.target.blocks
+          (All-take (λ (b : ℕ). b < blocks_of c.args.target.now) index blocks (All-weaker (λ (b : ℕ). b < blocks_of c.args.source.now) (λ (b : ℕ). b < blocks_of c.args.target.now) (λ b less. omega (arith, less, c.requires.alike)) blocks c.requires.within))
+          before.copies c.in_ok-copy_block.ensures.copies.1);
       size = c.copy_block.ensures.size;
     }
 
@@ -106,3 +126,12 @@ returns-clause-leads g c from_told to_told device there array other at at_other 
 pub returns-in_err-copy_block-clause-full : goal.returns-in_err-copy_block-clause-full
 returns-in_err-copy_block-clause-full g c is =
     (omega (arith, c.loop-block-test.true), c.in_err-copy_block.ensures.full (sym (halted c.from_residual.result c.in_err-copy_block.field-0.0 c.from_residual.ensures.1) ∙ is))
+
+pub returns-in_err-copy_block-clause-copies : goal.returns-in_err-copy_block-clause-copies
+returns-in_err-copy_block-clause-copies g c = (c.in_err-copy_block.ensures.copies.0 ∙ c.loop-block.invariant.tree, rw (halted c.from_residual.result c.in_err-copy_block.field-0.0 c.from_residual.ensures.1) tt)
+
+pub returns-clause-copies : goal.returns-clause-copies
+returns-clause-copies g c =
+    let P = g.P.Platform in
+    let Q = g.Q.Platform in
+    (c.loop-block.invariant.tree, subst (CopiesTree P.tells Q.tells (P.history c.args.from.now).present (Q.history c.args.to.now).present (Q.history c.loop-block.to).present c.args.source.now c.args.target.now c.loop-block.target) (take_all c.loop-block.block-index c.args.blocks.now (omega arith)) c.loop-block.invariant.copies)

@@ -3,6 +3,7 @@ use Rattle.sdbt_base.specs.Arrays.{Device, Session as OpenSession, mounted}
 use Rattle.device_course.specs.States.{IsAt}
 use Rattle.transfer.specs.Copies.{copied}
 use Rattle.session_calls.specs.Along.{Along, Drawn, drawn_by}
+use Rattle.transfer.specs.Whole.{CopiesTree}
 use Rattle.transfer.proofs.copying.copy_blocks.Given as goal
 
 abbrev pub invariant-loop-block : goal.invariant-loop-block
@@ -16,5 +17,7 @@ invariant-loop-block g l = record {
       → IsAt (g.P.Platform.history l.from).present (Some l.source) (mounted device array)
       × IsAt (g.Q.Platform.history l.to).present (Some l.target) (mounted there (copied array.contents (take l.block-index l.blocks) other));
   tape_quiet : g.T.Tape.faults l.tape ≡ g.T.Tape.faults l.fn.tape;
+  tree : l.source.grove ≡ l.fn.source.grove;
+  copies : CopiesTree g.P.Platform.tells g.Q.Platform.tells (g.P.Platform.history l.fn.from).present (g.Q.Platform.history l.fn.to).present (g.Q.Platform.history l.to).present l.fn.source l.fn.target l.target (take l.block-index l.blocks);
   size : length l.content ≡ 4096;
 }

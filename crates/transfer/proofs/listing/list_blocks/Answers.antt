@@ -14,7 +14,7 @@ use Rattle.std.specs.declared.vec.Vec.{Vec}
 use Rattle.transfer.specs.Moving.{IsSoundStop}
 use Rattle.transfer.proofs.CopyLaws.{listed_keys}
 use Rattle.transfer.proofs.MovingLaws.{lists_done, walk_sound}
-use Rattle.transfer.proofs.ListLaws.{entries_stopped, entries_within, list_counted, list_miscounted, list_stopped, lows_many}
+use Rattle.transfer.proofs.ListLaws.{entries_stopped, entries_within, list_counted, list_miscounted, list_stopped, lows_listed, lows_many}
 use Rattle.transfer.proofs.listing.list_blocks.Goals as goal
 
 pub returns-then-len-root-clause-wrong : goal.returns-then-len-root-clause-wrong
@@ -84,3 +84,12 @@ returns-in-Ok-entries-clause-lists g c told there array at =
     let lists = c.in-Ok-entries.ensures.listed told in
     let of : NodesOf image.readable c.args.session.now.root lists.nodes = subst (λ (r : Root). NodesOf image.readable r lists.nodes) same lists.are in
     absurd (c.if-len-root.false (c.len.ensures ∙ ap length lists.is ∙ list_counted image there c.args.session.now.root at.there.session.0.committed lists.nodes at.there.session.0.stands of ∙ sym (ap (λ (r : Root). r.mapped) same)))
+
+pub returns-then-len-root-clause-listed : goal.returns-then-len-root-clause-listed
+returns-then-len-root-clause-listed g c told =
+    let image = (g.P.Platform.history c.args.platform.now).present in
+    let root : Root = c.root-root.result.now in
+    let same : root ≡ c.args.session.now.root = c.root-root.ensures in
+    let lists = c.in-Ok-entries.ensures.listed told in
+    lows_listed (λ (v : Vec ℕ _). v.items) c.lows_of.result c.in-Ok-entries.list image c.args.session.now.root lists.nodes root.blocks c.lows_of.ensures.blocks lists.is
+    (subst (λ (r : Root). NodesOf image.readable r lists.nodes) same lists.are)

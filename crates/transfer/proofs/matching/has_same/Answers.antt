@@ -5,10 +5,12 @@ use Rattle.session_calls.proofs.AlongLaws.{along_start, along_then}
 use Rattle.session_calls.proofs.CallLaws.{no_draw}
 use Rattle.transfer.proofs.HaltLaws.{halted}
 use Rattle.transfer.specs.Counts.{Counts}
-use Rattle.std.proofs.Common.{List, subst, sym}
+use Rattle.std.proofs.Common.{[], ◌∷◌, List, get_or, subst, sym, take}
+use Rattle.transfer.specs.Whole.{HasOne}
+use Rattle.transfer.proofs.WholeLaws.{one_as, pages_same}
 use Rattle.std.specs.Prelude.{All}
-use Rattle.std.proofs.lemmas.List.{take_all}
-use Rattle.std.proofs.lemmas.List.Elements.{All-nil}
+use Rattle.std.proofs.lemmas.List.{take_all, take_more}
+use Rattle.std.proofs.lemmas.List.Elements.{All-append, All-cons, All-nil}
 use Rattle.sdbt_base.specs.Arrays.{content_of}
 use Rattle.transfer.proofs.MovingLaws.{same_at, same_more}
 use Rattle.transfer.proofs.BlameLaws.{blames_done, blames_then, same_counts}
@@ -22,6 +24,7 @@ returns-then-not-branch-clause-both g c = record {
       (blames_done _ _ _ (c.in_ok-has_same_block.ensures.both.blame tape output ledger).quiet);
   wrong = tt;
   behind = tt;
+  trees = (c.in_ok-has_same_block.ensures.both.trees.0 ∙ c.loop-block.invariant.source_tree, c.in_ok-has_same_block.ensures.both.trees.1 ∙ c.loop-block.invariant.target_tree);
 }
 
 pub returns-in_err-has_same_block-clause-both : goal.returns-in_err-has_same_block-clause-both
@@ -32,6 +35,7 @@ returns-in_err-has_same_block-clause-both g c = rw (halted c.from_residual.resul
       (c.in_err-has_same_block.ensures.both.blame tape output ledger);
   wrong = c.in_err-has_same_block.ensures.both.wrong;
   behind = c.in_err-has_same_block.ensures.both.behind;
+  trees = (c.in_err-has_same_block.ensures.both.trees.0 ∙ c.loop-block.invariant.source_tree, c.in_err-has_same_block.ensures.both.trees.1 ∙ c.loop-block.invariant.target_tree);
 })
 
 pub returns-clause-both : goal.returns-clause-both
@@ -41,6 +45,7 @@ returns-clause-both g c = record {
   blame = λ tape output ledger. blames_done _ _ _ (same_counts _ _ _ _ _ _ _ _ _ _ c.loop-block.invariant.from_quiet c.loop-block.invariant.to_quiet refl refl refl);
   wrong = tt;
   behind = tt;
+  trees = (c.loop-block.invariant.source_tree, c.loop-block.invariant.target_tree);
 }
 
 pub loop-block-init : goal.loop-block-init
@@ -50,6 +55,9 @@ loop-block-init g c = record {
   from_quiet = refl;
   leads = λ from_told to_told device there array other at at_other. (at, at_other, All-nil (λ (block : ℕ). content_of array.contents block ≡ content_of other.contents block));
   to_quiet = refl;
+  source_tree = refl;
+  target_tree = refl;
+  same = All-nil (HasOne g.P.Platform.tells g.Q.Platform.tells (g.P.Platform.history c.args.from.now).present (g.Q.Platform.history c.args.to.now).present c.args.source.now c.args.target.now);
   size = refl;
   other_size = refl;
 }
@@ -85,6 +93,20 @@ loop-block-preserved g c =
           let led = c.in_ok-has_same_block.ensures.leads from_told to_told device there array other so_far.0 so_far.1 in
           (led.0, led.1, same_more array other c.args.blocks.now c.loop-block.block-index c.loop-block-test.true so_far.2 (led.2.0 c.if-not-branch.false));
       to_quiet = ap (λ (n : Counts). n.to) same ∙ before.to_quiet;
+      source_tree = c.in_ok-has_same_block.ensures.both.trees.0 ∙ before.source_tree;
+      target_tree = c.in_ok-has_same_block.ensures.both.trees.1 ∙ before.target_tree;
+      same =
+          let P = g.P.Platform in
+          let Q = g.Q.Platform in
+          let blocks : List ℕ = c.args.blocks.now in
+          let index : ℕ = c.loop-block.block-index in
+          let block : ℕ = get_or blocks index 0 in
+          let One : ℕ → Type 0 = HasOne P.tells Q.tells (P.history c.args.from.now).present (Q.history c.args.to.now).present c.args.source.now c.args.target.now in
+          let next : One block = one_as P.tells Q.tells (P.history c.args.from.now).present (P.history c.loop-block.from).present (Q.history c.args.to.now).present (Q.history c.loop-block.to).present c.args.source.now c.loop-block.source c.args.target.now c.loop-block.target block
+              (pages_same P c.args.from.now c.loop-block.from no_draw no_draw c.args.source.now c.loop-block.source g.met.P.Platform.counts_pages (before.source no_draw))
+              (pages_same Q c.args.to.now c.loop-block.to no_draw no_draw c.args.target.now c.loop-block.target g.met.Q.Platform.counts_pages (before.target no_draw))
+              before.source_tree before.target_tree (c.in_ok-has_same_block.ensures.same c.if-not-branch.false) in
+          subst (All One) (sym (take_more blocks index 0 c.loop-block-test.true)) (All-append One (take index blocks) (block ∷ []) before.same (All-cons One block [] next (All-nil One)));
       size = c.has_same_block.ensures.size;
       other_size = c.has_same_block.ensures.other_size;
     }
@@ -104,3 +126,13 @@ pub returns-clause-leads : goal.returns-clause-leads
 returns-clause-leads g c from_told to_told device there array other at at_other =
     let so_far = c.loop-block.invariant.leads from_told to_told device there array other at at_other in
     (so_far.0, so_far.1, (λ yes. subst (λ (bs : List ℕ). All (λ block. content_of array.contents block ≡ content_of other.contents block) bs) (take_all c.loop-block.block-index c.args.blocks.now (omega arith)) so_far.2, λ all. refl))
+
+pub returns-then-not-branch-clause-same : goal.returns-then-not-branch-clause-same
+returns-then-not-branch-clause-same g c agrees = absurd cc
+
+pub returns-in_err-has_same_block-clause-same : goal.returns-in_err-has_same_block-clause-same
+returns-in_err-has_same_block-clause-same g c = rw (halted c.from_residual.result c.in_err-has_same_block.field-0.0 c.from_residual.ensures.1) tt
+
+pub returns-clause-same : goal.returns-clause-same
+returns-clause-same g c agrees =
+    subst (All (HasOne g.P.Platform.tells g.Q.Platform.tells (g.P.Platform.history c.args.from.now).present (g.Q.Platform.history c.args.to.now).present c.args.source.now c.args.target.now)) (take_all c.loop-block.block-index c.args.blocks.now (omega arith)) c.loop-block.invariant.same

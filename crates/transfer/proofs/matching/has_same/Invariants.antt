@@ -3,6 +3,7 @@ use Rattle.std.specs.Prelude.{All}
 use Rattle.sdbt_base.specs.Arrays.{Device, Session as OpenSession, content_of, mounted}
 use Rattle.device_course.specs.States.{IsAt}
 use Rattle.session_calls.specs.Along.{Along, Drawn}
+use Rattle.transfer.specs.Whole.{HasOne}
 use Rattle.transfer.proofs.matching.has_same.Given as goal
 
 abbrev pub invariant-loop-block : goal.invariant-loop-block
@@ -16,6 +17,9 @@ invariant-loop-block g l = record {
       × IsAt (g.Q.Platform.history l.to).present (Some l.target) (mounted there other)
       × All (λ block. content_of array.contents block ≡ content_of other.contents block) (take l.block-index l.blocks);
   to_quiet : g.Q.Platform.faults l.to ≡ g.Q.Platform.faults l.fn.to;
+  source_tree : l.source.grove ≡ l.fn.source.grove;
+  target_tree : l.target.grove ≡ l.fn.target.grove;
+  same : All (HasOne g.P.Platform.tells g.Q.Platform.tells (g.P.Platform.history l.fn.from).present (g.Q.Platform.history l.fn.to).present l.fn.source l.fn.target) (take l.block-index l.blocks);
   size : length l.content ≡ 4096;
   other_size : length l.other ≡ 4096;
 }

@@ -1,4 +1,5 @@
-use Rattle.std.proofs.Common.{◌∙◌, sym}
+use Rattle.std.proofs.Common.{◌∙◌, ℕ, List, refl, subst, sym}
+use Rattle.device_session.specs.Reading.{FindsContent}
 use Rattle.session_calls.proofs.AlongLaws.{along_start}
 use Rattle.transfer.proofs.BlameLaws.{blames_as, blames_done, blames_then}
 use Rattle.transfer.proofs.HaltLaws.{halted, meets_from, meets_to}
@@ -12,6 +13,7 @@ returns-in_err-read_source-clause-both g c = rw (halted c.from_residual.result c
   blame = λ tape output ledger. blames_as _ _ c.in_err-read_source.field-0.0 (c.in_err-read_source.ensures.blame (g.Q.Platform.faults c.args.to.now) tape output ledger);
   wrong = meets_from _ _ _ _ c.in_err-read_source.field-0.0 c.in_err-read_source.ensures.wrong;
   behind = reads_from _ _ c.in_err-read_source.field-0.0 c.in_err-read_source.ensures.wrong;
+  trees = (c.in_err-read_source.ensures.reads.tree, refl);
 })
 
 pub returns-in-Ok-clause-both : goal.returns-in-Ok-clause-both
@@ -22,6 +24,7 @@ returns-in-Ok-clause-both g c = record {
       (blames_done _ _ _ (c.in-Ok.ensures.blame (g.P.Platform.faults c.read_source.new.from) tape output ledger).quiet);
   wrong = tt;
   behind = tt;
+  trees = (c.in_ok-read_source.ensures.reads.tree, c.in-Ok.ensures.reads.tree);
 }
 
 pub returns-in-Err-clause-both : goal.returns-in-Err-clause-both
@@ -32,6 +35,7 @@ returns-in-Err-clause-both g c = record {
       (blames_as _ _ c.in-Err.halt (c.in-Err.ensures.blame (g.P.Platform.faults c.read_source.new.from) tape output ledger));
   wrong = meets_to _ _ _ _ c.in-Err.halt c.in-Err.ensures.wrong;
   behind = reads_to _ _ c.in-Err.halt c.in-Err.ensures.wrong c.in-Err.ensures.full;
+  trees = (c.in_ok-read_source.ensures.reads.tree, c.in-Err.ensures.reads.tree);
 }
 
 pub returns-in_err-read_source-clause-leads : goal.returns-in_err-read_source-clause-leads
@@ -45,3 +49,13 @@ returns-in-Ok-clause-leads g c from_told to_told device there array other at at_
     let one = c.in_ok-read_source.ensures.leads from_told device array at in
     let two = c.in-Ok.ensures.leads to_told there other at_other in
     (one.0, two.0, (λ yes. sym one.1 ∙ (c.is_same.ensures.0 yes ∙ two.1), λ same. c.is_same.ensures.1 (one.1 ∙ (same ∙ sym two.1))))
+
+pub returns-in_err-read_source-clause-same : goal.returns-in_err-read_source-clause-same
+returns-in_err-read_source-clause-same g c = rw (halted c.from_residual.result c.in_err-read_source.field-0.0 c.from_residual.ensures.1) tt
+
+pub returns-in-Ok-clause-same : goal.returns-in-Ok-clause-same
+returns-in-Ok-clause-same g c agrees = record {
+  content = c.read_source.new.out;
+  here = c.in_ok-read_source.ensures.reads.found;
+  there = λ told. subst (λ (bytes : List ℕ). FindsContent (g.Q.Platform.history c.args.to.now).present.readable c.args.target.now.grove c.args.block bytes) (sym (c.is_same.ensures.0 agrees)) (c.in-Ok.ensures.reads.found told);
+}

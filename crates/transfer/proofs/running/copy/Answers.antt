@@ -13,6 +13,7 @@ use Rattle.transfer.proofs.BlameLaws.{blames_as, blames_then}
 use Rattle.transfer.proofs.HaltLaws.{behind_commit_all, halted, meets_commit_all}
 use Rattle.transfer.proofs.RefusalLaws.{commit_at_all, copy_at, copy_behind}
 use Rattle.transfer.proofs.running.copy.Goals as goal
+use Rattle.transfer.proofs.WholeLaws.{whatever, within_then}
 
 pub returns-in_err-copy_blocks-clause-both : goal.returns-in_err-copy_blocks-clause-both
 returns-in_err-copy_blocks-clause-both g c = rw (halted c.from_residual.result c.in_err-copy_blocks.field-0.0 c.from_residual.ensures.1) (record {
@@ -82,3 +83,19 @@ returns-clause-refused g c none =
     commit_at_all (Unit {0}) (length c.args.blocks.now) _ c.commit_target.result c.commit_target.ensures.wrong (λ is.
     let full = c.commit_target.ensures.full is in
     omega (arith, full, along.needs, along.adds, along.rises, along.capacity, none))
+
+pub returns-in_err-copy_blocks-clause-copied : goal.returns-in_err-copy_blocks-clause-copied
+returns-in_err-copy_blocks-clause-copied g c = rw (halted c.from_residual.result c.in_err-copy_blocks.field-0.0 c.from_residual.ensures.1) tt
+
+pub returns-clause-copied : goal.returns-clause-copied
+returns-clause-copied g c =
+    let Q = g.Q.Platform in
+    let first = Q.history c.args.to.now in
+    let mid = Q.history c.copy_blocks.new.to in
+    let last = Q.history c.commit_target.new.to in
+    whatever _ c.commit_target.result (record {
+      image = mid.present;
+      within = λ told. within_then first mid last (c.copy_blocks.ensures.to.cell told).extends (c.commit_target.ensures.carries.keeps.keys.extends told);
+      session = c.copy_blocks.new.target;
+      copies = c.in_ok-copy_blocks.ensures.copies.1;
+    })

@@ -70,3 +70,9 @@ pub returns-in_err-target-clause-refused : goal.returns-in_err-target-clause-ref
 returns-in_err-target-clause-refused g c =
     rw (halted c.from_residual.result c.in_err-target.field-0.0 c.from_residual.ensures.1) (refusing_unopened _ _ _ _ _ c.args.source.now.root c.in_err-target.field-0.0 (λ told. root_there _ _ _ c.requires.ready.is_open (c.requires.ready.mounted told).cell)
     c.in_err-target.ensures.target.stops c.in_err-target.ensures.target.opens_not)
+
+pub returns-in_err-target-clause-read : goal.returns-in_err-target-clause-read
+returns-in_err-target-clause-read g c = rw (halted c.from_residual.result c.in_err-target.field-0.0 c.from_residual.ensures.1) tt
+
+pub returns-clause-read : goal.returns-clause-read
+returns-clause-read g c = c.fill_target.ensures.read

@@ -10,6 +10,7 @@ use Rattle.transfer.proofs.BlameLaws.{blames_as, blames_done, blames_halt, blame
 use Rattle.transfer.proofs.FillLaws.{fresh_blank, number_at, reaches_halted, reaches_other, reaches_since, reaches_still, stale_other}
 use Rattle.transfer.proofs.RefusalLaws.{at_then, reads_at, reads_behind}
 use Rattle.transfer.proofs.running.fill_found.Goals as goal
+use Rattle.transfer.proofs.WholeLaws.{copied_read, one_read, pages_same, reads_back}
 
 pub returns-in_err-has-clause-both : goal.returns-in_err-has-clause-both
 returns-in_err-has-clause-both g c = rw (halted c.from_residual.result c.in_err-has.field-0.0 c.from_residual.ensures.1) (record {
@@ -114,3 +115,17 @@ pub returns-else-fresh-clause-refused : goal.returns-else-fresh-clause-refused
 returns-else-fresh-clause-refused g c none fresh =
     let never : true ≡ false = sym (c.is_fresh-fresh.ensures.1 fresh) ∙ c.if-fresh.false in
     cc
+
+pub returns-in_err-has-clause-read : goal.returns-in_err-has-clause-read
+returns-in_err-has-clause-read g c = rw (halted c.from_residual.result c.in_err-has.field-0.0 c.from_residual.ensures.1) tt
+
+pub returns-then-has-clause-read : goal.returns-then-has-clause-read
+returns-then-has-clause-read g c =
+    one_read g.P.Platform.tells g.Q.Platform.tells (g.P.Platform.history c.args.from.now).present (g.Q.Platform.history c.args.to.now).present c.args.source.now c.args.found c.args.blocks.now (c.in_ok-has.ensures.sees.same c.if-has.true).1
+
+pub returns-then-fresh-clause-read : goal.returns-then-fresh-clause-read
+returns-then-fresh-clause-read g c =
+    let P = g.P.Platform in
+    reads_back P.tells (P.history c.args.from.now).present (P.history c.has_all.new.from).present c.args.source.now c.has_all.new.source c.args.blocks.now c.copy.result
+    (pages_same P c.args.from.now c.has_all.new.from no_draw no_draw c.args.source.now c.has_all.new.source g.met.P.Platform.counts_pages (c.has_all.ensures.both.from no_draw)) c.in_ok-has.ensures.both.trees.0
+    (copied_read P.tells g.Q.Platform.tells (P.history c.has_all.new.from).present (g.Q.Platform.history c.has_all.new.to) (g.Q.Platform.history c.copy.new.to) c.has_all.new.source c.has_all.new.target c.args.blocks.now c.copy.result c.copy.ensures.copied)

@@ -15,6 +15,8 @@ use Rattle.transfer.proofs.FillLaws.{alike_of, reaches_halted, reaches_other, un
 use Rattle.device_session.proofs.CountLaws.{needs_none}
 use Rattle.transfer.proofs.RefusalLaws.{at_then, reads_at, reads_from}
 use Rattle.transfer.proofs.running.fill_target.Goals as goal
+use Rattle.transfer.specs.Whole.{HasBlocks}
+use Rattle.transfer.proofs.WholeLaws.{copied_read, read_through}
 
 pub returns-then-not-is_alike-clause-both : goal.returns-then-not-is_alike-clause-both
 returns-then-not-is_alike-clause-both g c = record {
@@ -121,3 +123,21 @@ returns-then-is_new-clause-unlike g c apart = absurd (apart (c.if-not-is_alike.e
 
 pub returns-clause-unlike : goal.returns-clause-unlike
 returns-clause-unlike g c apart = absurd (apart (c.if-not-is_alike.ensures.0 refl))
+
+pub returns-in_err-blocks-clause-read : goal.returns-in_err-blocks-clause-read
+returns-in_err-blocks-clause-read g c = rw (halted c.from_residual.result c.in_err-blocks.field-0.0 c.from_residual.ensures.1) tt
+
+pub returns-then-is_new-clause-read : goal.returns-then-is_new-clause-read
+returns-then-is_new-clause-read g c =
+    let P = g.P.Platform in
+    let image : Image = (P.history c.args.from.now).present in
+    read_through P.tells image (P.history c.list_source.new.from).present c.args.source.now c.deref.result.now c.copy.result c.list_source.ensures.image
+    (λ told. subst (HasBlocks image c.args.source.now.root) (sym c.deref.ensures.value) (c.in_ok-blocks.ensures.listed told)) (ap length c.deref.ensures.value ∙ c.in_ok-blocks.ensures.count)
+    (copied_read P.tells g.Q.Platform.tells (P.history c.list_source.new.from).present (g.Q.Platform.history c.args.to.now) (g.Q.Platform.history c.copy.new.to) c.args.source.now c.args.target c.deref.result.now c.copy.result c.copy.ensures.copied)
+
+pub returns-clause-read : goal.returns-clause-read
+returns-clause-read g c =
+    let P = g.P.Platform in
+    let image : Image = (P.history c.args.from.now).present in
+    read_through P.tells image (P.history c.list_source.new.from).present c.args.source.now c.deref-else-is_new.result.now c.fill_found.result c.list_source.ensures.image
+    (λ told. subst (HasBlocks image c.args.source.now.root) (sym c.deref-else-is_new.ensures.value) (c.in_ok-blocks.ensures.listed told)) (ap length c.deref-else-is_new.ensures.value ∙ c.in_ok-blocks.ensures.count) c.fill_found.ensures.read

@@ -1,4 +1,6 @@
-use Rattle.std.proofs.Common.{◌≡◌, ◌∙◌, Some, sym, ap, subst}
+use Rattle.std.proofs.Common.{◌≡◌, ◌∙◌, Some, refl, sym, ap, subst}
+use Rattle.std.specs.Prelude.{Bool}
+use Rattle.transfer.proofs.WholeLaws.{sees_same}
 use Rattle.std.specs.FinMap as maps
 use Rattle.std.proofs.lemmas.Slice.Eq.{bytes_eq-Decides}
 use Rattle.sdbt_base.specs.Arrays.{Blocks, mounted, session_on}
@@ -19,6 +21,7 @@ returns-in_err-others-clause-both g c = rw (halted c.from_residual.result c.in_e
   blame = λ tape output ledger. blames_as _ _ c.in_err-others.field-0.0 (c.in_err-others.ensures.blame (g.P.Platform.faults c.args.from.now) tape output ledger);
   wrong = meets_to _ _ _ _ c.in_err-others.field-0.0 c.in_err-others.ensures.wrong;
   behind = reads_to _ _ c.in_err-others.field-0.0 c.in_err-others.ensures.wrong c.in_err-others.ensures.full;
+  trees = (refl, refl);
 })
 
 pub returns-then-eq-clause-both : goal.returns-then-eq-clause-both
@@ -28,6 +31,7 @@ returns-then-eq-clause-both g c = record {
   blame = λ tape output ledger. blames_then _ _ _ _ (c.in_ok-others.ensures.blame (g.P.Platform.faults c.args.from.now) tape output ledger).quiet (c.has_same.ensures.both.blame tape output ledger);
   wrong = c.has_same.ensures.both.wrong;
   behind = c.has_same.ensures.both.behind;
+  trees = c.has_same.ensures.both.trees;
 }
 
 pub returns-clause-both : goal.returns-clause-both
@@ -37,6 +41,7 @@ returns-clause-both g c = record {
   blame = λ tape output ledger. blames_done _ _ _ (c.in_ok-others.ensures.blame (g.P.Platform.faults c.args.from.now) tape output ledger).quiet;
   wrong = tt;
   behind = tt;
+  trees = (refl, refl);
 }
 
 pub has_same-requires : goal.has_same-requires
@@ -66,3 +71,14 @@ returns-clause-leads g c from_told to_told device there at at_there keys =
       here,
       (λ never. absurd cc, λ same. c.if-eq.ensures ∙ (bytes_eq-Decides _ _).1 (c.as_slice.ensures.value ∙ (listed ∙ (ap (λ (m : Blocks). maps.keys m) same ∙ sym keys)))),
     )
+
+pub returns-in_err-others-clause-sees : goal.returns-in_err-others-clause-sees
+returns-in_err-others-clause-sees g c = rw (halted c.from_residual.result c.in_err-others.field-0.0 c.from_residual.ensures.1) tt
+
+pub returns-then-eq-clause-sees : goal.returns-then-eq-clause-sees
+returns-then-eq-clause-sees g c =
+    sees_same g.P.Platform.tells g.Q.Platform.tells (g.P.Platform.history c.args.from.now).present (g.Q.Platform.history c.args.to.now).present (g.Q.Platform.history c.list_target.new.to).present c.args.source.now c.args.target.now c.args.blocks.now _ (λ (b : Bool). b) c.has_same.result
+    c.list_target.ensures.image c.in_ok-others.ensures.listed c.in_ok-others.ensures.count (sym c.as_slice.ensures.value ∙ (bytes_eq-Decides _ _).0 (sym (c.if-eq.ensures))) c.has_same.ensures.same
+
+pub returns-clause-sees : goal.returns-clause-sees
+returns-clause-sees g c = record { others = _; listed = c.in_ok-others.ensures.listed; count = c.in_ok-others.ensures.count; same = λ never. absurd cc }

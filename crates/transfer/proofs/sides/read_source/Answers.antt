@@ -35,3 +35,9 @@ returns-in-Err-clause-wrong g c =
 
 pub returns-in-Err-clause-leads : goal.returns-in-Err-clause-leads
 returns-in-Err-clause-leads g c told there array at = read_sound (g.P.Platform.history c.read_block.new.platform).present c.read_block.new.session there array c.args.block c.read_block.new.out c.in-Err.stop (c.in-Err.ensures.leads told there array at)
+
+pub returns-in-Ok-clause-reads : goal.returns-in-Ok-clause-reads
+returns-in-Ok-clause-reads g c = record { tree = c.read_block.ensures.same.1; found = λ told. c.in-Ok.ensures.any (told, c.requires.ready.mounted told) }
+
+pub returns-in-Err-clause-reads : goal.returns-in-Err-clause-reads
+returns-in-Err-clause-reads g c = record { tree = c.read_block.ensures.same.1; found = λ told. tt }

@@ -46,3 +46,6 @@ returns-then-head-capacity-clause-blame g c from output ledger = blames_halt _ _
 
 pub returns-in-Err-clause-leads : goal.returns-in-Err-clause-leads
 returns-in-Err-clause-leads g c told there array at = write_sound (g.Q.Platform.history c.write_block.new.platform).present c.write_block.new.session there array c.args.block c.args.content.now c.in-Err.stop (c.in-Err.ensures.leads told there array at)
+
+pub returns-in-Ok-clause-puts : goal.returns-in-Ok-clause-puts
+returns-in-Ok-clause-puts g c told = c.in-Ok.ensures.written told (c.requires.ready.mounted told)

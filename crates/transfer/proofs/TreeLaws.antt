@@ -1,0 +1,203 @@
+-- That a tree is whole whose nodes fit, and in which a look-up of the block of each entry comes to a content.
+use Rattle.std.proofs.Common.{◌≡◌, ℕ, zero, suc, ◌-◌, ◌^◌, ◌<◌, ◌≤◌, List, [], ◌∷◌, ◌++◌, Option, Some, map, refl, sym, ap, subst, inl, inr, ◌∙◌, arith, append-nil, append_assoc}
+use Rattle.std.specs.Prelude.{All, Contains}
+use Rattle.std.specs.List.Sorted.{IsStrictlyIncreasing}
+use Rattle.std.proofs.lemmas.List.{map-append}
+use Rattle.std.proofs.lemmas.List.Elements.{All-nil, All-cons, All-head, All-tail, All-weaker, All-append, All-contains, Contains-append_left, Contains-append_right}
+use Rattle.node_codec.specs.declared.body.Entry.{Entry}
+use Rattle.node_codec.specs.Record.{DataRecord, NodeRecord}
+use Rattle.root_codec.specs.declared.root.Root.{Root}
+use Rattle.root_codec.specs.RootRecord.{FitsRoot}
+use Rattle.page_store.specs.declared.wants.Want.{Want}
+use Rattle.page_store.specs.Places.{FitsAt, root_want, child_want, block_want}
+use Rattle.page_store.specs.Tree.{Parts, joined, data_parts, node_parts, bound_of, EachChild, Subtree, Tree}
+use Rattle.page_store.proofs.RecordLaws.{one_record}
+use Rattle.btree_walk.specs.Finds.{Finds}
+use Rattle.btree_walk.specs.Mapped.{IsListedWithin, entry_of}
+use Rattle.btree_walk.specs.Nodes.{Node, node_at, branches, Joined, Nodes, NodesOf, listed}
+use Rattle.btree_walk.specs.Ways.{IsEntryOf, IsWay}
+use Rattle.btree_walk.proofs.ApartLaws.{bound_most}
+use Rattle.btree_walk.proofs.Elements.{Contains-head, Contains-tail}
+use Rattle.btree_walk.proofs.ListLaws.{none_below}
+use Rattle.btree_walk.proofs.LevelLaws.{above_leaves}
+use Rattle.btree_walk.proofs.ShowsLaws.{listed-append, listed-inner}
+use Rattle.btree_walk.proofs.TurnLaws.{lows}
+use Rattle.btree_walk.proofs.WayLaws.{entry_is_one, way_is_one}
+use Rattle.btree_twigs.specs.declared.twigs.Child.{out-Child}
+use Rattle.btree_twigs.specs.declared.twigs.Child.TheOpen.{Kept}
+use Rattle.btree_twigs.specs.declared.twigs.Child.TheVariants as made
+use Rattle.btree_update.specs.declared.groves.Grove.{Grove}
+use Rattle.btree_update.specs.Finding.{FindsBelow, GroveFinds, RootFindsBy}
+use Rattle.btree_update.specs.GroveTree.{top_want}
+use Rattle.grove_accounts.specs.Holding.{IsTreeOf}
+use Rattle.device_session.specs.Reading.{FindsContent, ReadsAs}
+
+-- ---- the entries below a place lie within its bounds
+
+wider : (low high addr low' high' addr' : ℕ) (es : List Entry) → low ≤ low' → high' ≤ high → addr' ≤ addr → All (IsListedWithin low' high' addr') es → All (IsListedWithin low high addr) es
+wider low high addr low' high' addr' es l h a all =
+    All-weaker (IsListedWithin low' high' addr') (IsListedWithin low high addr)
+    (λ e is. (let from = is.from in let to = is.to in let under = is.under in record { from = omega arith; to = omega arith; under = omega arith })) es all
+
+abbrev ListWithin : (Want → List ℕ → List Node → Type 0) → Type 0
+ListWithin Below = (want : Want) (key : List ℕ) (nodes : List Node) → Below want key nodes → All (IsListedWithin want.low want.high want.addr) (listed nodes)
+
+each_within : (Below : Want → List ℕ → List Node → Type 0) (order level low high addr : ℕ) (es : List Entry) (nodes : List Node) → ListWithin Below → All (λ e. low ≤ e.low) es → All (λ e. e.low < high) es → All (λ e. e.addr < addr) es
+    → Joined (λ b. Below b.want b.key) (branches order level high es) nodes → All (IsListedWithin low high addr) (listed nodes)
+each_within Below order level low high addr [] nodes within from to under is =
+    subst (λ (ns : List Node). All (IsListedWithin low high addr) (listed ns)) (sym is) (All-nil (IsListedWithin low high addr))
+each_within Below order level low high addr (e ∷ es) nodes within from to under is =
+    let to' = All-tail (λ (x : Entry). x.low < high) e es to in
+    let below = All-head (λ (x : Entry). x.addr < addr) e es under in
+    let first = within (child_want order level e (bound_of es high)) e.key is.first is.one in
+    let first' = wider low high addr e.low (bound_of es high) e.addr (listed is.first) (All-head (λ (x : Entry). low ≤ x.low) e es from) (bound_most high es to') (omega arith) first in
+    let rest = each_within Below order level low high addr es is.rest within (All-tail (λ (x : Entry). low ≤ x.low) e es from) to' (All-tail (λ (x : Entry). x.addr < addr) e es under) is.others in
+    let both = All-append (IsListedWithin low high addr) (listed is.first) (listed is.rest) first' rest in
+    subst (λ (ns : List Node). All (IsListedWithin low high addr) (listed ns)) (sym is.is)
+    (subst (All (IsListedWithin low high addr)) (sym (listed-append is.first is.rest)) both)
+
+-- a look-up of an entry's block, from a place so many levels above the leaves on, comes to a content
+record Reads (pages : List (List ℕ)) (order level : ℕ) (want : Want) (key : List ℕ) (e : Entry) : Type 0 where
+  found : Option Entry
+  path : List ℕ
+  finds : Finds (FitsAt pages) order e.low found level want key path
+  content : List ℕ
+  reads : ReadsAs pages e.low found content
+
+-- the same below one of these entries of a node
+record ReadsOn (pages : List (List ℕ)) (order level high : ℕ) (entries : List Entry) (e : Entry) : Type 0 where
+  entry : Entry
+  bound : ℕ
+  way : IsWay entries high e.low entry bound
+  below : Reads pages order level (child_want order (suc level) entry bound) entry.key e
+
+-- a place has these parts, whose entries its nodes list
+record Grows (pages : List (List ℕ)) (order level : ℕ) (want : Want) (key : List ℕ) (nodes : List Node) : Type 0 where
+  parts : Parts
+  tree : Subtree pages order level want key parts
+  lists : map entry_of parts.mapped ≡ listed nodes
+
+-- so have the children of a node
+record GrowsBelow (pages : List (List ℕ)) (order level high : ℕ) (entries : List Entry) (nodes : List Node) : Type 0 where
+  children : List Parts
+  each : EachChild (Subtree pages order level) order level high entries children
+  lists : map entry_of (joined children).mapped ≡ listed nodes
+
+module _ (pages : List (List ℕ)) (order : ℕ) where
+  leaf_listed : (want : Want) (entries : List Entry) (below nodes : List Node) → Joined (λ b. Nodes pages order zero b.want b.key) (branches order zero want.high entries) below → nodes ≡ node_at want.addr 1 entries ∷ below → listed nodes ≡ entries
+  leaf_listed want entries below nodes each is =
+      let none : below ≡ [] = none_below pages order (branches order zero want.high entries) below each in
+      ap listed (is ∙ ap (λ (ns : List Node). node_at want.addr 1 entries ∷ ns) none) ∙ append-nil entries
+
+  nodes_within : (level : ℕ) → ListWithin (Nodes pages order (suc level))
+  unfolding Nodes
+  nodes_within zero want key nodes is =
+      let fits = is.fits in
+      let all : All (IsListedWithin want.low want.high want.addr) is.entries = (λ k d h. record { from = fits.1.from_low k d h; to = fits.1.below_high k d h; under = fits.0.in_range.0.below k d h }) in
+      subst (All (IsListedWithin want.low want.high want.addr)) (sym (leaf_listed want is.entries is.below nodes is.each is.is)) all
+  nodes_within (suc level) want key nodes is =
+      let below = each_within (Nodes pages order (suc level)) order (suc level) want.low want.high want.addr is.entries is.below (nodes_within level) is.fits.1.from_low is.fits.1.below_high is.fits.0.in_range.0.below is.each in
+      subst (All (IsListedWithin want.low want.high want.addr)) (sym (ap listed is.is ∙ listed-inner want.addr level is.entries is.below)) below
+
+  -- ---- the data records of a leaf
+
+  leaf_data : (high : ℕ) (es : List Entry) → ((e : Entry) → Contains es e → (content : List ℕ) × FitsAt pages (block_want e.addr e.low) e.key (DataRecord e.low content))
+      → (children : List Parts) × EachChild (Subtree pages order zero) order zero high es children × (map entry_of (joined children).mapped ≡ es)
+  unfolding Subtree
+  leaf_data high [] all = ([], tt, refl)
+  leaf_data high (e ∷ es) all =
+      let here = all e (Contains-head e es) in
+      let rest = leaf_data high es (λ x has. all x (Contains-tail e es x has)) in
+      (data_parts e.addr e.key e.low here.0 ∷ rest.0, (record { content = here.0; fits = here.1; has = refl }, rest.1), ap (λ (xs : List Entry). e ∷ xs) rest.2)
+
+  grows_leaf : (want : Want) (key : List ℕ) (nodes : List Node) → want.addr < 2 ^ 64 → Nodes pages order (suc zero) want key nodes → ((e : Entry) → Contains (listed nodes) e → Reads pages order zero want key e) → Grows pages order (suc zero) want key nodes
+  unfolding Subtree Nodes Finds
+  grows_leaf want key nodes small is reads =
+      let whole : listed nodes ≡ is.entries = leaf_listed want is.entries is.below nodes is.each is.is in
+      let built = leaf_data want.high is.entries (λ e has.
+          (let r = reads e (subst (λ (es : List Entry). Contains es e) (sym whole) has) in
+          let value : NodeRecord 1 r.finds.entries ≡ NodeRecord 1 is.entries = one_record pages want.addr key _ _ small r.finds.fits.0 is.fits.0 in
+          let entries : r.finds.entries ≡ is.entries = cc in
+          let same : r.found ≡ Some e = entry_is_one is.entries e.low r.found (Some e) is.fits.0.in_range.0.ascend (subst (λ (es : List Entry). IsEntryOf es e.low r.found) entries r.finds.is) (has, refl) in
+          (r.content, subst (λ (f : Option Entry). ReadsAs pages e.low f r.content) same r.reads))) in
+      record {
+        parts = node_parts want.addr key is.entries (joined built.0);
+        tree = record { entries = is.entries; children = built.0; fits = is.fits; each = built.1; has = refl };
+        lists = built.2 ∙ sym whole;
+      }
+
+  -- ---- the children of an inner node
+
+  abbrev Grow : ℕ → Type 0
+  Grow level = (want : Want) (key : List ℕ) (nodes : List Node) → want.addr < 2 ^ 64 → Nodes pages order (suc level) want key nodes → ((e : Entry) → Contains (listed nodes) e → Reads pages order level want key e) → Grows pages order (suc level) want key nodes
+
+  each_grows : (level high : ℕ) (whole before es : List Entry) (nodes : List Node) → Grow level → whole ≡ before ++ es → IsStrictlyIncreasing (lows whole) → All (λ e. e.addr < 2 ^ 64) es
+      → Joined (λ b. Nodes pages order (suc level) b.want b.key) (branches order (suc level) high es) nodes → ((e : Entry) → Contains (listed nodes) e → ReadsOn pages order level high whole e) → GrowsBelow pages order (suc level) high es nodes
+  each_grows level high whole before [] nodes grow split up small is reads = record { children = []; each = tt; lists = ap listed (sym is) }
+  each_grows level high whole before (x ∷ es) nodes grow split up small is reads =
+      let bound = bound_of es high in
+      let lists : listed nodes ≡ listed is.first ++ listed is.rest = ap listed is.is ∙ listed-append is.first is.rest in
+      let within = nodes_within level (child_want order (suc level) x bound) x.key is.first is.one in
+      let one = grow (child_want order (suc level) x bound) x.key is.first (All-head (λ (e : Entry). e.addr < 2 ^ 64) x es small) is.one (λ e has.
+          (let r = reads e (subst (λ (l : List Entry). Contains l e) (sym lists) (Contains-append_left (listed is.first) (listed is.rest) e has)) in
+          let lies = All-contains (IsListedWithin x.low bound x.addr) (listed is.first) e within has in
+          let mine : IsWay whole high e.low x bound = record { before = before; after = es; split = split; ends = refl; from = lies.from; below = lies.to } in
+          let same = way_is_one whole high e.low r.bound bound r.entry x up r.way mine in
+          subst (λ (n : ℕ). Reads pages order level (child_want order (suc level) x n) x.key e) same.1 (subst (λ (y : Entry). Reads pages order level (child_want order (suc level) y r.bound) y.key e) same.0 r.below))) in
+      let rest = each_grows level high whole (before ++ x ∷ []) es is.rest grow (split ∙ sym (append_assoc before (x ∷ []) es)) up (All-tail (λ (e : Entry). e.addr < 2 ^ 64) x es small) is.others
+          (λ e has. reads e (subst (λ (l : List Entry). Contains l e) (sym lists) (Contains-append_right (listed is.first) (listed is.rest) e has))) in
+      record {
+        children = one.parts ∷ rest.children;
+        each = (one.tree, rest.each);
+        lists = map-append entry_of one.parts.mapped (joined rest.children).mapped ∙ (λ i. one.lists i ++ rest.lists i) ∙ sym lists;
+      }
+
+  grows : (level : ℕ) → Grow level
+  unfolding Subtree Nodes Finds
+  grows zero want key nodes small is reads = grows_leaf want key nodes small is reads
+  grows (suc level) want key nodes small is reads =
+      let whole : listed nodes ≡ listed is.below = ap listed is.is ∙ listed-inner want.addr level is.entries is.below in
+      let below = each_grows level want.high is.entries [] is.entries is.below (grows level) refl is.fits.0.in_range.0.ascend
+          (All-weaker (λ (e : Entry). e.addr < want.addr) (λ (e : Entry). e.addr < 2 ^ 64) (λ e less. omega (arith, less, small)) is.entries is.fits.0.in_range.0.below) is.each
+          (λ e has.
+          (let r = reads e (subst (λ (l : List Entry). Contains l e) (sym whole) has) in
+          let value : NodeRecord (suc (suc level)) r.finds.entries ≡ NodeRecord (suc (suc level)) is.entries = one_record pages want.addr key _ _ small r.finds.fits.0 is.fits.0 in
+          let entries : r.finds.entries ≡ is.entries = cc in
+          record {
+            entry = r.finds.entry;
+            bound = r.finds.bound;
+            way = subst (λ (es : List Entry). IsWay es want.high e.low r.finds.entry r.finds.bound) entries r.finds.way;
+            below = record { found = r.found; path = r.finds.rest; finds = r.finds.goes; content = r.content; reads = r.reads };
+          })) in
+      record {
+        parts = node_parts want.addr key is.entries (joined below.children);
+        tree = record { entries = is.entries; children = below.children; fits = is.fits; each = below.each; has = refl };
+        lists = below.lists ∙ sym whole;
+      }
+
+-- ---- the tree of a root record
+
+-- what is wanted of the root of a tree without a change
+wanted : (root : Root) (grove : Grove) → IsTreeOf root grove → top_want grove.order grove.blocks (suc (grove.level - 1)) root.addr ≡ root_want root
+wanted root grove of =
+    let level : suc (grove.level - 1) ≡ root.level = above_leaves grove.level of.sound.one ∙ of.level in
+    ap (λ n. top_want n grove.blocks (suc (grove.level - 1)) root.addr) of.order ∙ (ap (λ n. top_want root.order n (suc (grove.level - 1)) root.addr) of.blocks ∙ ap (λ n. top_want root.order root.blocks n root.addr) level)
+
+-- a look-up in it goes down from the root
+pub finds_root : (pages : List (List ℕ)) (root : Root) (grove : Grove) (block : ℕ) (found : Option Entry) → IsTreeOf root grove → GroveFinds pages block grove found → FindsBelow (FitsAt pages) block (root_want root) root.key found
+finds_root pages root grove block found of is =
+    let out : out-Child grove.top ≡ Kept 0 root.addr root.key = ap out-Child of.top ∙ made.outs-Kept 0 root.addr root.key in
+    subst (λ w. FindsBelow (FitsAt pages) block w root.key found) (wanted root grove of)
+    (subst (λ x. RootFindsBy (FitsAt pages) grove.order block (grove.level - 1) grove.blocks x found) out is)
+
+-- is whole
+pub tree_grown : (pages : List (List ℕ)) (root : Root) (nodes : List Node) (grove : Grove) → FitsRoot root → IsTreeOf root grove → NodesOf pages root nodes → ((e : Entry) → Contains (listed nodes) e → (content : List ℕ) × FindsContent pages grove e.low content)
+    → (parts : Parts) × Tree pages root parts × (map entry_of parts.mapped ≡ listed nodes)
+tree_grown pages root nodes grove fits of are reads =
+    let up = above_leaves root.level fits.level_least in
+    let whole = grows pages root.order (root.level - 1) (root_want root) root.key nodes (omega (arith, fits.addr, fits.head)) (subst (λ (n : ℕ). Nodes pages root.order n (root_want root) root.key nodes) (sym up) are)
+        (λ e has.
+        (let r = reads e has in
+        let f = finds_root pages root grove e.low r.1.found of r.1.finds in
+        record { found = r.1.found; path = f.0; finds = f.1; content = r.0; reads = r.1.reads })) in
+    (whole.parts, subst (λ (n : ℕ). Subtree pages root.order n (root_want root) root.key whole.parts) up whole.tree, whole.lists)

@@ -1,0 +1,73 @@
+-- What a move that was done found of a device, on any pages.
+use Rattle.std.specs.Prelude.{◌≡◌, ◌<◌, ◌≤◌, ℕ, Bool, Contains, List, All, IsTrue, Result, OnOk, length, map}
+use Rattle.platform.specs.History.{History, image_at, moment}
+use Rattle.platform.specs.Image.{Image}
+use Rattle.root_codec.specs.declared.root.Root.{Root}
+use Rattle.page_store.specs.Kept.{IsRootOf}
+use Rattle.page_store.specs.Tree.{Parts, Tree}
+use Rattle.btree_walk.specs.Nodes.{Node, NodesOf, listed}
+use Rattle.device_session.specs.Open.{blocks_of, root_of}
+use Rattle.device_session.specs.Reading.{FindsContent, KeepsBlock}
+use Rattle.device_session.specs.Sessions.{Session}
+use Rattle.session_calls.specs.Damage.{IsWrongPage}
+use Rattle.transfer.specs.declared.halts.Halt.{Halt}
+
+-- each node below the root record fits its place, and these are the blocks of their entries, in their order
+pub record HasBlocks (image : Image) (root : Root) (blocks : List ℕ) : Type 0 where
+  pub nodes : List Node
+  pub are : NodesOf image.readable root nodes
+  pub is : blocks ≡ map (λ e. e.low) (listed nodes)
+
+-- where the platform tells, a look-up of the block in the session's tree comes to a content
+abbrev pub IsRead : Type 0 → Image → Session → ℕ → Type 0
+IsRead tells image session block = tells → (content : List ℕ) × FindsContent image.readable session.grove block content
+
+-- a read leaves the session's tree; and where it was done, a look-up of the block comes to these bytes
+pub record ReadsTree (tells : Type 0) (image : Image) (session now : Session) (block : ℕ) (bytes : List ℕ) (result : Result (Unit {0}) Halt) : Type 0 where
+  pub tree : now.grove ≡ session.grove
+  pub found : tells → OnOk result (FindsContent image.readable session.grove block bytes)
+
+-- a block has one content on both: a look-up of it comes to that in the tree of either session, where its platform tells
+pub record HasOne (from_tells to_tells : Type 0) (from to : Image) (source target : Session) (block : ℕ) : Type 0 where
+  pub content : List ℕ
+  pub here : from_tells → FindsContent from.readable source.grove block content
+  pub there : to_tells → FindsContent to.readable target.grove block content
+
+-- these blocks were copied: a look-up of each comes to one content on both, and one of each other block on the second to what it came to before
+pub record CopiesTree (from_tells to_tells : Type 0) (from to to_now : Image) (source target target_now : Session) (blocks : List ℕ) : Type 0 where
+  pub each : All (HasOne from_tells to_tells from to_now source target_now) blocks
+  pub others : to_tells → (other : ℕ) → other < blocks_of target → (Contains blocks other → ⊥) → KeepsBlock to.readable to_now.readable target target_now other
+
+-- it is an image of this time
+abbrev pub IsWithin : History → History → Image → Type 0
+IsWithin old new image = (i : ℕ) × (moment old ≤ i) × (i ≤ moment new) × (image ≡ image_at new i)
+
+-- at a moment these blocks were copied, into a session that was open on the second platform
+pub record CopiesOnce (from_tells to_tells : Type 0) (from : Image) (to to_now : History) (source target : Session) (blocks : List ℕ) : Type 0 where
+  pub image : Image
+  pub within : to_tells → IsWithin to to_now image
+  pub session : Session
+  pub copies : CopiesTree from_tells to_tells from to.present image source target session blocks
+
+-- the nodes of the second device's tree fit, and these are their blocks, as many as its root record says; they are those of the first one, and each has one content on both, where it is found so
+pub record SeesAll (from_tells to_tells : Type 0) (from to : Image) (source target : Session) (blocks : List ℕ) (has : Bool) : Type 0 where
+  pub others : List ℕ
+  pub listed : to_tells → HasBlocks to (root_of target) others
+  pub count : length others ≡ (root_of target).mapped
+  pub same : IsTrue has → (others ≡ blocks) × All (HasOne from_tells to_tells from to source target) blocks
+
+-- a session's tree was read: its nodes, of which these are the blocks, as many as the root record says, and the content of each of these
+pub record IsReadThrough (tells : Type 0) (image : Image) (session : Session) : Type 0 where
+  pub blocks : List ℕ
+  pub listed : tells → HasBlocks image (root_of session) blocks
+  pub count : length blocks ≡ (root_of session).mapped
+  pub each : All (IsRead tells image session) blocks
+
+-- the root record in the cell has a tree: each node and each data record fits its place, and as many blocks are mapped as it says. So there is no page that a run could name
+pub record HasWholeTree (image : Image) : Type 0 where
+  pub root : Root
+  pub is_root : IsRootOf image root
+  pub parts : Parts
+  pub tree : Tree image.readable root parts
+  pub count : length parts.mapped ≡ root.mapped
+  pub sound : (addr : ℕ) → IsWrongPage image addr → ⊥
