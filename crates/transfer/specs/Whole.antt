@@ -1,15 +1,18 @@
 -- What a move that was done found of a device, on any pages.
-use Rattle.std.specs.Prelude.{◌≡◌, ◌<◌, ◌≤◌, ℕ, Bool, Contains, List, All, IsTrue, Result, OnOk, length, map}
+use Rattle.std.specs.Prelude.{◌≡◌, ◌<◌, ◌≤◌, ℕ, Bool, false, Contains, List, All, IsTrue, Result, OnOk, length, map}
+use Rattle.std.specs.FinMap.{from_entries}
+use Rattle.sdbt_base.specs.Arrays.{Blocks, content_of}
 use Rattle.platform.specs.History.{History, image_at, moment}
 use Rattle.platform.specs.Image.{Image}
 use Rattle.root_codec.specs.declared.root.Root.{Root}
 use Rattle.page_store.specs.Kept.{IsRootOf}
+use Rattle.page_store.specs.Stands.{pairs_of}
 use Rattle.page_store.specs.Tree.{Parts, Tree}
 use Rattle.btree_walk.specs.Nodes.{Node, NodesOf, listed}
-use Rattle.device_session.specs.Open.{blocks_of, root_of}
+use Rattle.device_session.specs.Open.{blocks_of, is_touched, root_of}
 use Rattle.device_session.specs.Reading.{FindsContent, KeepsBlock}
 use Rattle.device_session.specs.Sessions.{Session}
-use Rattle.session_calls.specs.Damage.{IsWrongPage}
+use Rattle.session_calls.specs.Damage.{IsMounted, IsWrongPage}
 use Rattle.transfer.specs.declared.halts.Halt.{Halt}
 
 -- each node below the root record fits its place, and these are the blocks of their entries, in their order
@@ -47,7 +50,27 @@ pub record CopiesOnce (from_tells to_tells : Type 0) (from : Image) (to to_now :
   pub image : Image
   pub within : to_tells → IsWithin to to_now image
   pub session : Session
+  pub mounted : to_tells → IsMounted image session
   pub copies : CopiesTree from_tells to_tells from to.present image source target session blocks
+
+-- each node of the second device's tree fit its place, and it had none but these blocks
+pub record BeginsWithin (image : Image) (target : Session) (blocks : List ℕ) : Type 0 where
+  pub others : List ℕ
+  pub listed : HasBlocks image (root_of target) others
+  pub among : All (Contains blocks) others
+
+-- these blocks were copied to a device that had none but them
+pub record FillsOnce (from_tells to_tells : Type 0) (from : Image) (to to_now : History) (source target : Session) (blocks : List ℕ) : Type 0 where
+  pub begins : to_tells → BeginsWithin to.present target blocks
+  pub once : CopiesOnce from_tells to_tells from to to_now source target blocks
+
+-- all blocks of a device were, to one of as many blocks
+pub record IsFilled (from_tells to_tells : Type 0) (from : Image) (to to_now : History) (source target : Session) : Type 0 where
+  pub blocks : List ℕ
+  pub listed : from_tells → HasBlocks from (root_of source) blocks
+  pub count : length blocks ≡ (root_of source).mapped
+  pub alike : blocks_of target ≡ blocks_of source
+  pub fills : FillsOnce from_tells to_tells from to to_now source target blocks
 
 -- the nodes of the second device's tree fit, and these are their blocks, as many as its root record says; they are those of the first one, and each has one content on both, where it is found so
 pub record SeesAll (from_tells to_tells : Type 0) (from to : Image) (source target : Session) (blocks : List ℕ) (has : Bool) : Type 0 where
@@ -71,3 +94,20 @@ pub record HasWholeTree (image : Image) : Type 0 where
   pub tree : Tree image.readable root parts
   pub count : length parts.mapped ≡ root.mapped
   pub sound : (addr : ℕ) → IsWrongPage image addr → ⊥
+
+-- all of the first device was copied: at a moment of this time a session was open on the second one, on the root record in its cell, in whose tree a look-up of each block of the device
+-- comes to the content that the first one's whole tree has
+pub record IsCopied (from : Image) (to to_now : History) : Type 0 where
+  pub whole : HasWholeTree from
+  pub contents : Blocks
+  pub are : contents ≡ from_entries (pairs_of whole.parts)
+  pub image : Image
+  pub within : IsWithin to to_now image
+  pub session : Session
+  pub mounted : IsMounted image session
+  pub each : (block : ℕ) → block < whole.root.blocks → FindsContent image.readable session.grove block (content_of contents block)
+
+-- a session's tree was read through, and where that had no change, all of it was copied
+pub record IsMoved (from_tells to_tells : Type 0) (from : Image) (to to_now : History) (source : Session) : Type 0 where
+  pub read : IsReadThrough from_tells from source
+  pub copied : is_touched source ≡ false → from_tells → to_tells → IsCopied from to to_now

@@ -48,7 +48,7 @@ pub fn run_transfer<P: Platform, Q: Platform, T: Tape, O: Sink, L: Sink>(
     ensures other_words { result ≡ 2 → (from.new ≡ from.old) × (to.new ≡ to.old) × (tape.new ≡ tape.old) × (output.new ≡ output.old) × (ledger.new ≡ ledger.old) }
 
     // What was said, and, on any pages, which record is named, and when nothing is moved.
-    ensures ran { map string_bytes words.now ≡ [] → Ran P.tells Q.tells (P.history from.old).present (Q.history to.old).present (P.history from.new).present (Q.history to.new).present (Q.capacity to.old - Q.head to.old) result
+    ensures ran { map string_bytes words.now ≡ [] → Ran P.tells Q.tells (P.history from.old).present (Q.history to.old) (P.history from.new).present (Q.history to.new) (Q.capacity to.old - Q.head to.old) result
         (O.written output.old) (O.written output.new) }
 
     // From one device to another one, or to none: the first one is cleared only once the second one is a copy, whatever stops the run.

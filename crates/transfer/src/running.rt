@@ -1,5 +1,5 @@
 //! A run: the device that is moved, the one that it comes to, and the last line.
-ghost use Rattle.std.specs.Prelude.{◌≡◌, ◌-◌, ◌<◌, ℕ, All, None, Some, Err, IfErr, IfOk, IsOk, IsTrue, Option, length};
+ghost use Rattle.std.specs.Prelude.{◌≡◌, ◌-◌, ◌<◌, [], ℕ, All, None, Some, Err, IfErr, IfOk, IsOk, IsTrue, Option, length};
 ghost use Rattle.device_session.specs.Open.{blocks_of, needed_by, number_of, root_of};
 ghost use Rattle.transfer.specs.Refusals.{HaltsAt, IsFreshRoot, IsIdle};
 ghost use Rattle.device_course.specs.States.{around};
@@ -16,7 +16,7 @@ ghost use Rattle.transfer.specs.Both.{AreReady, FillsBoth, ReadsBoth};
 ghost use Rattle.transfer.specs.Counts.{counts};
 ghost use Rattle.transfer.specs.Halts.{Blames};
 ghost use Rattle.session_calls.specs.Spans.{Spans};
-ghost use Rattle.transfer.specs.Whole.{CopiesOnce, HasWholeTree, IsRead, IsReadThrough, SeesAll};
+ghost use Rattle.transfer.specs.Whole.{CopiesOnce, FillsOnce, HasBlocks, HasWholeTree, IsCopied, IsFilled, IsMoved, IsRead, IsReadThrough, SeesAll};
 ghost use Rattle.transfer.specs.Running.{Clears, HasMapped, IsBehindMount, Looked, LookedThere, MeetsWrong, alone};
 
 use crate::copying::{commit_target, copy_blocks};
@@ -75,7 +75,7 @@ fn move_device<P: Platform, Q: Platform, T: Tape, L: Sink>(
     ensures there { LookedThere Q.tells (Q.history to.old).present result }
     ensures refused { Refusing P.tells Q.tells (P.history from.old).present (Q.history to.old).present (Q.capacity to.old - Q.head to.old) result }
     ensures mapped { IfOk result (λ moved. P.tells → HasMapped (P.history from.old).present moved.blocks) }
-    ensures whole { IfOk result (λ moved. P.tells → HasWholeTree (P.history from.old).present) }
+    ensures whole { IfOk result (λ moved. (P.tells → HasWholeTree (P.history from.old).present) × (P.tells → Q.tells → IsCopied (P.history from.old).present (Q.history to.old) (Q.history to.new))) }
     // From one device to another one, or to none.
     ensures leads { P.tells → Q.tells → (device : Device) (there : Option Device) → Stands (P.history from.old).present (Some device) → IsServedImage (P.history from.old).present
         → Stands (Q.history to.old).present there → IsServedImage (Q.history to.old).present
@@ -109,7 +109,7 @@ fn move_session<P: Platform, Q: Platform, T: Tape, L: Sink>(
         → Moves (P.history from.old) (P.history from.new) (Q.history to.old) (Q.history to.new) device there (IsShort device 1 (Q.capacity to.old - Q.head to.old)) result }
     ensures refused { Refusing P.tells Q.tells (P.history from.old).present (Q.history to.old).present (Q.capacity to.old - Q.head to.old) result }
     ensures mapped { IfOk result (λ moved. moved.blocks ≡ first.mapped) }
-    ensures read { IfOk result (λ moved. IsReadThrough P.tells (P.history from.old).present first) }
+    ensures moves { IfOk result (λ moved. IsMoved P.tells Q.tells (P.history from.old).present (Q.history to.old) (Q.history to.new) first) }
     ensures there { LookedThere Q.tells (Q.history to.old).present result }
     ensures behind { IfErr result IsBehindMount }
 {
@@ -144,8 +144,8 @@ fn fill<P: Platform, Q: Platform, T: Tape, L: Sink>(
     ensures there { LookedThere Q.tells (Q.history to.old).present result }
     ensures refused { Refusing P.tells Q.tells (P.history from.old).present (Q.history to.old).present (Q.capacity to.old - Q.head to.old) result }
     ensures behind { IfErr result IsBehindMount }
-    // On any pages: all of the first device was read.
-    ensures read { IfOk result (λ number. IsReadThrough P.tells (P.history from.old).present source.old) }
+    // On any pages: all of the first device was read, and copied.
+    ensures moves { IfOk result (λ number. IsMoved P.tells Q.tells (P.history from.old).present (Q.history to.old) (Q.history to.new) source.old) }
 {
     let blocks = source.blocks();
     let order = source.root().order;
@@ -179,6 +179,8 @@ fn fill_target<P: Platform, Q: Platform, T: Tape, L: Sink>(
     ensures refused { IsIdle target → IfErr result (HaltsAt (IsFreshRoot (blocks_of source.old) (root_of source.old).order (root_of target)) (root_of source.old).mapped (Q.capacity to.old - Q.head to.old)) }
     ensures unlike { ((blocks_of source.old ≡ blocks_of target) × ((root_of source.old).order ≡ (root_of target).order) → ⊥) → result ≡ Err Halt.NotEmpty }
     ensures read { IfOk result (λ number. IsReadThrough P.tells (P.history from.old).present source.old) }
+    ensures fills { (IsTrue is_new → Q.tells → HasBlocks (Q.history to.old).present (root_of target) []) → IsIdle target
+        → IfOk result (λ number. IsFilled P.tells Q.tells (P.history from.old).present (Q.history to.old) (Q.history to.new) source.old target) }
     ensures leads { P.tells → Q.tells → (device there : Device) → IsAt (P.history from.old).present (Some source.old) (mounted device (session_on device))
         → IsAt (Q.history to.old).present (Some target) (mounted there (session_on there)) → (IsTrue is_new → IsBlank device there)
         → Reaches (Q.history to.old) (Q.history to.new) device (Some there) (IsShort device 0 (Q.capacity to.old - Q.head to.old)) result }
@@ -208,6 +210,7 @@ fn fill_found<P: Platform, Q: Platform, T: Tape, L: Sink>(
     requires { AreReady P.tells Q.tells (alone P.Platform from.old) (around Q.Platform T.Tape L.Sink to.old tape.old ledger.old) source.old found blocks.now }
     ensures both { FillsBoth P.Platform Q.Platform T.Tape L.Sink from.old from.new to.old to.new tape.old tape.new ledger.old ledger.new source.old source.new found result }
     ensures refused { needed_by found ≡ 0 → IfErr result (HaltsAt ((number_of found ≡ 0) × (found.mapped ≡ 0)) (length blocks.now) (Q.capacity to.old - Q.head to.old)) }
+    ensures fills { found.mapped ≡ (root_of found).mapped → IfOk result (λ number. FillsOnce P.tells Q.tells (P.history from.old).present (Q.history to.old) (Q.history to.new) source.old found blocks.now) }
     ensures read { IfOk result (λ number. All (IsRead P.tells (P.history from.old).present source.old) blocks.now) }
     ensures leads { P.tells → Q.tells → (device there : Device) → IsAt (P.history from.old).present (Some source.old) (mounted device (session_on device))
         → IsAt (Q.history to.old).present (Some found) (mounted there (session_on there)) → blocks.now ≡ map.keys device.contents → IsAlike device there

@@ -103,9 +103,9 @@ loop-block-preserved g c =
           let block : ℕ = get_or blocks index 0 in
           let One : ℕ → Type 0 = HasOne P.tells Q.tells (P.history c.args.from.now).present (Q.history c.args.to.now).present c.args.source.now c.args.target.now in
           let next : One block = one_as P.tells Q.tells (P.history c.args.from.now).present (P.history c.loop-block.from).present (Q.history c.args.to.now).present (Q.history c.loop-block.to).present c.args.source.now c.loop-block.source c.args.target.now c.loop-block.target block
-              (pages_same P c.args.from.now c.loop-block.from no_draw no_draw c.args.source.now c.loop-block.source g.met.P.Platform.counts_pages (before.source no_draw))
-              (pages_same Q c.args.to.now c.loop-block.to no_draw no_draw c.args.target.now c.loop-block.target g.met.Q.Platform.counts_pages (before.target no_draw))
-              before.source_tree before.target_tree (c.in_ok-has_same_block.ensures.same c.if-not-branch.false) in
+          (pages_same P c.args.from.now c.loop-block.from no_draw no_draw c.args.source.now c.loop-block.source g.met.P.Platform.counts_pages (before.source no_draw))
+          (pages_same Q c.args.to.now c.loop-block.to no_draw no_draw c.args.target.now c.loop-block.target g.met.Q.Platform.counts_pages (before.target no_draw))
+          before.source_tree before.target_tree (c.in_ok-has_same_block.ensures.same c.if-not-branch.false) in
           subst (All One) (sym (take_more blocks index 0 c.loop-block-test.true)) (All-append One (take index blocks) (block ∷ []) before.same (All-cons One block [] next (All-nil One)));
       size = c.has_same_block.ensures.size;
       other_size = c.has_same_block.ensures.other_size;

@@ -97,5 +97,6 @@ returns-clause-copied g c =
       image = mid.present;
       within = λ told. within_then first mid last (c.copy_blocks.ensures.to.cell told).extends (c.commit_target.ensures.carries.keeps.keys.extends told);
       session = c.copy_blocks.new.target;
+      mounted = λ told. c.copy_blocks.ensures.to.mounted told (c.requires.target.mounted told);
       copies = c.in_ok-copy_blocks.ensures.copies.1;
     })

@@ -1,4 +1,7 @@
-use Rattle.std.proofs.Common.{◌-◌, ◌∙◌, ap, arith}
+use Rattle.std.proofs.Common.{◌-◌, ◌∙◌, ℕ, List, None, Option, ap, arith, length, subst, sym}
+use Rattle.device_terms.specs.Served.{IsServedCell}
+use Rattle.device_session.specs.Sessions.{Session}
+use Rattle.transfer.proofs.WholeLaws.{lists_none, moved_all, new_on}
 use Rattle.root_codec.specs.declared.root.Root.{Root}
 use Rattle.session_calls.proofs.AlongLaws.{along_start}
 use Rattle.transfer.proofs.BlameLaws.{blames_as, blames_then}
@@ -71,8 +74,19 @@ returns-in_err-target-clause-refused g c =
     rw (halted c.from_residual.result c.in_err-target.field-0.0 c.from_residual.ensures.1) (refusing_unopened _ _ _ _ _ c.args.source.now.root c.in_err-target.field-0.0 (λ told. root_there _ _ _ c.requires.ready.is_open (c.requires.ready.mounted told).cell)
     c.in_err-target.ensures.target.stops c.in_err-target.ensures.target.opens_not)
 
-pub returns-in_err-target-clause-read : goal.returns-in_err-target-clause-read
-returns-in_err-target-clause-read g c = rw (halted c.from_residual.result c.in_err-target.field-0.0 c.from_residual.ensures.1) tt
+pub returns-in_err-target-clause-moves : goal.returns-in_err-target-clause-moves
+returns-in_err-target-clause-moves g c = rw (halted c.from_residual.result c.in_err-target.field-0.0 c.from_residual.ensures.1) tt
 
-pub returns-clause-read : goal.returns-clause-read
-returns-clause-read g c = c.fill_target.ensures.read
+pub returns-clause-moves : goal.returns-clause-moves
+returns-clause-moves g c =
+    let P = g.P.Platform in
+    let Q = g.Q.Platform in
+    let target = c.in_ok-target.ensures.target in
+    let session : Session = c.in_ok-target.target.session in
+    moved_all P.tells Q.tells (P.history c.args.from.now).present (Q.history c.args.to.now) (Q.history c.open_target.new.to) (Q.history c.fill_target.new.to) c.args.source.now session (P.head c.args.from.now) (Q.head c.open_target.new.to) c.fill_target.result
+    c.requires.ready.is_open c.requires.ready.mounted target.opened.ready.is_open target.idle.untouched (λ told. target.opened.keeps.keys.extends told) c.fill_target.ensures.read
+    (c.fill_target.ensures.fills (λ new told.
+    (let on = new_on (Q.history c.args.to.now).present c.blocks-blocks.result c.root.result.now.order c.in_ok-target.target.is_new session new (target.on told) in
+    let opened = target.opened.made told None on.0 (subst (λ (cell : Option (List ℕ)). IsServedCell cell (length (Q.history c.args.to.now).present.recorded)) (sym on.0) tt) in
+    let stands = opened.4.exits.there.session.0.stands in
+    lists_none (Q.history c.open_target.new.to).present session.root opened.4.exits.there.session.0.committed stands.in_range stands.tree (stands.count ∙ on.1))) target.idle)

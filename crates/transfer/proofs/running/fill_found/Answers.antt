@@ -11,6 +11,9 @@ use Rattle.transfer.proofs.FillLaws.{fresh_blank, number_at, reaches_halted, rea
 use Rattle.transfer.proofs.RefusalLaws.{at_then, reads_at, reads_behind}
 use Rattle.transfer.proofs.running.fill_found.Goals as goal
 use Rattle.transfer.proofs.WholeLaws.{copied_read, one_read, pages_same, reads_back}
+use Rattle.std.proofs.Common.{refl}
+use Rattle.transfer.specs.Whole.{SeesAll}
+use Rattle.transfer.proofs.WholeLaws.{fills_copied, fills_same}
 
 pub returns-in_err-has-clause-both : goal.returns-in_err-has-clause-both
 returns-in_err-has-clause-both g c = rw (halted c.from_residual.result c.in_err-has.field-0.0 c.from_residual.ensures.1) (record {
@@ -129,3 +132,27 @@ returns-then-fresh-clause-read g c =
     reads_back P.tells (P.history c.args.from.now).present (P.history c.has_all.new.from).present c.args.source.now c.has_all.new.source c.args.blocks.now c.copy.result
     (pages_same P c.args.from.now c.has_all.new.from no_draw no_draw c.args.source.now c.has_all.new.source g.met.P.Platform.counts_pages (c.has_all.ensures.both.from no_draw)) c.in_ok-has.ensures.both.trees.0
     (copied_read P.tells g.Q.Platform.tells (P.history c.has_all.new.from).present (g.Q.Platform.history c.has_all.new.to) (g.Q.Platform.history c.copy.new.to) c.has_all.new.source c.has_all.new.target c.args.blocks.now c.copy.result c.copy.ensures.copied)
+
+pub returns-in_err-has-clause-fills : goal.returns-in_err-has-clause-fills
+returns-in_err-has-clause-fills g c idle = rw (halted c.from_residual.result c.in_err-has.field-0.0 c.from_residual.ensures.1) tt
+
+pub returns-then-has-clause-fills : goal.returns-then-has-clause-fills
+returns-then-has-clause-fills g c idle =
+    let P = g.P.Platform in
+    let Q = g.Q.Platform in
+    fills_same P.tells Q.tells (P.history c.args.from.now).present (Q.history c.args.to.now) (Q.history c.has_all.new.to) c.args.source.now c.args.found c.args.blocks.now true refl (subst (SeesAll P.tells Q.tells (P.history c.args.from.now).present (Q.history c.args.to.now).present c.args.source.now c.args.found c.args.blocks.now) c.if-has.true c.in_ok-has.ensures.sees)
+    (λ told. ((c.has_all.ensures.both.to no_draw).cell told).extends) c.requires.target.mounted
+
+pub returns-then-fresh-clause-fills : goal.returns-then-fresh-clause-fills
+returns-then-fresh-clause-fills g c idle =
+    let P = g.P.Platform in
+    let Q = g.Q.Platform in
+    let source = c.has_all.ensures.both.from no_draw in
+    let target = c.has_all.ensures.both.to no_draw in
+    let sees = c.in_ok-has.ensures.sees in
+    let fresh = c.is_fresh-fresh.ensures.0 c.if-fresh.true in
+    let none : c.args.found.mapped ≡ 0 = fresh.1 in
+    fills_copied P.tells Q.tells (P.history c.args.from.now).present (P.history c.has_all.new.from).present (Q.history c.args.to.now) (Q.history c.has_all.new.to) (Q.history c.copy.new.to) c.args.source.now c.has_all.new.source c.args.found c.has_all.new.target c.args.blocks.now sees.others c.copy.result
+    (pages_same P c.args.from.now c.has_all.new.from no_draw no_draw c.args.source.now c.has_all.new.source g.met.P.Platform.counts_pages source) c.in_ok-has.ensures.both.trees.0
+    (pages_same Q c.args.to.now c.has_all.new.to no_draw no_draw c.args.found c.has_all.new.target g.met.Q.Platform.counts_pages target) c.in_ok-has.ensures.both.trees.1 target.blocks
+    (λ told. (target.cell told).extends) sees.listed (sees.count ∙ (sym idle ∙ none)) c.copy.ensures.copied

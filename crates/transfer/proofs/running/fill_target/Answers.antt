@@ -17,6 +17,7 @@ use Rattle.transfer.proofs.RefusalLaws.{at_then, reads_at, reads_from}
 use Rattle.transfer.proofs.running.fill_target.Goals as goal
 use Rattle.transfer.specs.Whole.{HasBlocks}
 use Rattle.transfer.proofs.WholeLaws.{copied_read, read_through}
+use Rattle.transfer.proofs.WholeLaws.{filled, fills_new}
 
 pub returns-then-not-is_alike-clause-both : goal.returns-then-not-is_alike-clause-both
 returns-then-not-is_alike-clause-both g c = record {
@@ -141,3 +142,26 @@ returns-clause-read g c =
     let image : Image = (P.history c.args.from.now).present in
     read_through P.tells image (P.history c.list_source.new.from).present c.args.source.now c.deref-else-is_new.result.now c.fill_found.result c.list_source.ensures.image
     (λ told. subst (HasBlocks image c.args.source.now.root) (sym c.deref-else-is_new.ensures.value) (c.in_ok-blocks.ensures.listed told)) (ap length c.deref-else-is_new.ensures.value ∙ c.in_ok-blocks.ensures.count) c.fill_found.ensures.read
+
+pub returns-in_err-blocks-clause-fills : goal.returns-in_err-blocks-clause-fills
+returns-in_err-blocks-clause-fills g c new idle = rw (halted c.from_residual.result c.in_err-blocks.field-0.0 c.from_residual.ensures.1) tt
+
+pub returns-then-is_new-clause-fills : goal.returns-then-is_new-clause-fills
+returns-then-is_new-clause-fills g c new idle =
+    let P = g.P.Platform in
+    let Q = g.Q.Platform in
+    let image : Image = (P.history c.args.from.now).present in
+    let mid : Image = (P.history c.list_source.new.from).present in
+    filled P.tells Q.tells image mid (Q.history c.args.to.now) (Q.history c.copy.new.to) c.args.source.now c.args.target c.deref.result.now c.copy.result c.list_source.ensures.image
+    (λ told. subst (HasBlocks image c.args.source.now.root) (sym c.deref.ensures.value) (c.in_ok-blocks.ensures.listed told)) (ap length c.deref.ensures.value ∙ c.in_ok-blocks.ensures.count) (sym (c.if-not-is_alike.ensures.0 refl).0)
+    (fills_new P.tells Q.tells image mid (Q.history c.args.to.now) (Q.history c.copy.new.to) c.args.source.now c.args.target c.deref.result.now c.copy.result c.list_source.ensures.image (new c.if-is_new.true) c.copy.ensures.copied)
+
+pub returns-clause-fills : goal.returns-clause-fills
+returns-clause-fills g c new idle =
+    let P = g.P.Platform in
+    let Q = g.Q.Platform in
+    let image : Image = (P.history c.args.from.now).present in
+    let mid : Image = (P.history c.list_source.new.from).present in
+    filled P.tells Q.tells image mid (Q.history c.args.to.now) (Q.history c.fill_found.new.to) c.args.source.now c.args.target c.deref-else-is_new.result.now c.fill_found.result c.list_source.ensures.image
+    (λ told. subst (HasBlocks image c.args.source.now.root) (sym c.deref-else-is_new.ensures.value) (c.in_ok-blocks.ensures.listed told)) (ap length c.deref-else-is_new.ensures.value ∙ c.in_ok-blocks.ensures.count) (sym (c.if-not-is_alike.ensures.0 refl).0)
+    (c.fill_found.ensures.fills idle.mapped)

@@ -113,4 +113,4 @@ returns-in-Err-clause-refused g c = refusing_from _ _ _ _ _ c.in-Err.stop
 
 pub returns-in-Ok-Some-clause-whole : goal.returns-in-Ok-Some-clause-whole
 returns-in-Ok-Some-clause-whole g c =
-    whole_found g.P.Platform c.args.from.now c.mount_session.new.platform c.in-Ok-Some.source c.mount_session.result c.move_session.result (c.in-Ok-Some.is ∙ ap Ok c.in-Ok-Some.field-0-is) c.mount_session.ensures.looks c.mount_session.ensures.finds c.move_session.ensures.read
+    whole_found g.Q.Platform.tells g.P.Platform c.args.from.now c.mount_session.new.platform (g.Q.Platform.history c.args.to.now) (g.Q.Platform.history c.move_session.new.to) c.in-Ok-Some.source c.mount_session.result c.move_session.result (c.in-Ok-Some.is ∙ ap Ok c.in-Ok-Some.field-0-is) c.mount_session.ensures.looks c.mount_session.ensures.finds c.move_session.ensures.moves

@@ -83,8 +83,8 @@ returns-in-Ok-clause-refused g c = refusing_done _ _ _ _ _ c.in_ok-number.number
 pub returns-clause-refused : goal.returns-clause-refused
 returns-clause-refused g c = refusing_from _ _ _ _ _ _
 
-pub returns-in_err-number-clause-read : goal.returns-in_err-number-clause-read
-returns-in_err-number-clause-read g c = rw (halted c.from_residual.result c.in_err-number.field-0.0 c.from_residual.ensures.1) tt
+pub returns-in_err-number-clause-moves : goal.returns-in_err-number-clause-moves
+returns-in_err-number-clause-moves g c = rw (halted c.from_residual.result c.in_err-number.field-0.0 c.from_residual.ensures.1) tt
 
-pub returns-in-Ok-clause-read : goal.returns-in-Ok-clause-read
-returns-in-Ok-clause-read g c = c.in_ok-number.ensures.read
+pub returns-in-Ok-clause-moves : goal.returns-in-Ok-clause-moves
+returns-in-Ok-clause-moves g c = c.in_ok-number.ensures.moves
