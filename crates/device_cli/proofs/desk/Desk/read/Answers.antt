@@ -100,7 +100,7 @@ returns-clause-answered g c told entry rep =
 pub returns-clause-any : goal.returns-clause-any
 returns-clause-any g c =
     let image = (g.P.Platform.history c.args.platform.now).present in
-    subst (λ (r : Reply). MayReply g.P.Platform.tells image c.args.self.now.session (Read c.args.block) r) (sym c.reply_with_content.ensures.value)
+    subst (λ (r : Reply). MayReply g.P.Platform.tells image (g.P.Platform.history c.read_block.new.platform).present c.args.self.now.session (Some c.read_block.new.session) (Read c.args.block) r) (sym c.reply_with_content.ensures.value)
     (held_has c.args.self.now.session c.in-Some.session (λ (s : Session). g.P.Platform.tells → IsLookedUp image c.args.block (trimmed c.read_block.new.out) s) c.in-Some.is
     (λ told. (c.read_block.new.out, c.in_ok-read_block.ensures.any (told, mounted_held _ c.in-Some.session _ c.in-Some.is (c.requires.mounted told)), refl)))
 

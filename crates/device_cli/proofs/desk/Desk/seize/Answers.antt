@@ -91,7 +91,7 @@ returns-in-Ok-clause-enough g c updates enough =
 pub returns-in-Ok-clause-any : goal.returns-in-Ok-clause-any
 returns-in-Ok-clause-any g c =
     let P = g.P.Platform in
-    subst (λ (r : Given). MayReply P.tells (P.history c.args.platform.now).present c.args.self.now.session commands.Seize (said r c.args.self.now.buffer)) (sym c.reply_with_counts.ensures)
+    subst (λ (r : Given). MayReply P.tells (P.history c.args.platform.now).present (P.history c.seize.new.platform).present c.args.self.now.session c.args.self.now.session commands.Seize (said r c.args.self.now.buffer)) (sym c.reply_with_counts.ensures)
     (tt, λ told. counted_of (P.history c.args.platform.now).present (P.head c.args.platform.now) c.in-Ok.report (g.met.P.Platform.counts_pages told c.args.platform.now) (c.in-Ok.ensures.report told))
 
 pub returns-in-Err-Memory-clause-any : goal.returns-in-Err-Memory-clause-any
