@@ -145,5 +145,5 @@ read_then first second third session between now at done k place before piece af
 }
 
 -- what was read is what the reply has
-pub read_as : (image after : Image) (session now : Session) (place : ℕ) (told out : List ℕ) → told ≡ out → ReadsFound image after session now place out (Ok tt) → HasRead image after session now place told
-read_as image after session now place told out is read = record { found = subst (FindsBytes image session place) (sym is) read.found; same = read.same }
+pub bytes_as : (image : Image) (session : Session) (place : ℕ) (told out : List ℕ) → told ≡ out → FindsBytes image session place out → FindsBytes image session place told
+bytes_as image session place told out is found = subst (FindsBytes image session place) (sym is) found

@@ -15,7 +15,7 @@ use Rattle.nbd_lang.specs.declared.requests.RequestKind.TheVariants as kinds
 use Rattle.nbd_lang.specs.declared.requests.RequestKind.{RequestKind}
 use Rattle.session_calls.specs.Damage.{IsMounted, IsWrongPage}
 use Rattle.nbd_core.specs.Exchanges.{Exchange}
-use Rattle.nbd_core.specs.Found.{HasRead, HasTrimmed, HasWritten}
+use Rattle.nbd_core.specs.Found.{FindsBytes, FindsSame, HasTrimmed, HasWritten}
 use Rattle.nbd_core.specs.Serving.{reply_of}
 use Rattle.nbd_core.specs.declared.halts.Halt.{Halt}
 use Rattle.nbd_core.specs.declared.serving.Performed.{Performed}
@@ -24,32 +24,35 @@ use Rattle.nbd_core.specs.declared.serving.Performed.{Performed}
 abbrev pub HasWrongPage : Image → Type 0
 HasWrongPage image = (addr : ℕ) × IsWrongPage image addr
 
--- an outcome says what is true: that this was done, or that a page doesn't fit its place
-abbrev pub SaysTrue : Image → Type 0 → Outcome → Type 0
-SaysTrue image Did outcomes.Done = Did
-SaysTrue image Did outcomes.Damaged = HasWrongPage image
-SaysTrue image Did outcomes.NoMemory = Unit {0}
-SaysTrue image Did outcomes.Invalid = Unit {0}
-SaysTrue image Did outcomes.NoSpace = Unit {0}
+-- an outcome says what is true: that this was done, that a page doesn't fit its place, or that nothing was
+-- done
+abbrev pub SaysTrue : Image → Type 0 → Type 0 → Outcome → Type 0
+SaysTrue image Did Nothing outcomes.Done = Did
+SaysTrue image Did Nothing outcomes.Damaged = HasWrongPage image
+SaysTrue image Did Nothing outcomes.Invalid = Nothing
+SaysTrue image Did Nothing outcomes.NoSpace = Nothing
+SaysTrue image Did Nothing outcomes.NoMemory = Unit {0}
 
 -- a request was done, whose bytes these are, with those of its reply: what look-ups find before it and
 -- behind it. Behind a flush the session has no changes of its own
 abbrev pub HasDone : RequestKind → Image → Image → Session → Session → Request → List ℕ → List ℕ → Type 0
-HasDone kinds.Read image after session now request sent told = HasRead image after session now request.offset told
+HasDone kinds.Read image after session now request sent told = FindsBytes image session request.offset told
 HasDone kinds.Write image after session now request sent told = HasWritten image after session now request.offset sent
 HasDone kinds.Trim image after session now request sent told = HasTrimmed image after session now (covered_blocks request.offset request.length)
 HasDone kinds.Flush image after session now request sent told = needed_by now ≡ 0
 HasDone kinds.Disconnect image after session now request sent told = Unit {0}
 HasDone (kinds.Other number) image after session now request sent told = Unit {0}
 
--- a reply says what is true of the image and the session before its request and behind it
-abbrev pub TellsTrue : Image → Image → Session → Session → RequestSent → Reply → Type 0
-TellsTrue image after session now sent reply = SaysTrue after (HasDone sent.head.kind image after session now sent.head sent.bytes reply.bytes) reply.outcome
+-- a reply says what is true of the image and the session before its request and behind it; and a read leaves
+-- what look-ups find, whatever its reply
+pub record TellsTrue (image after : Image) (session now : Session) (sent : RequestSent) (reply : Reply) : Type 0 where
+  pub says : SaysTrue after (HasDone sent.head.kind image after session now sent.head sent.bytes reply.bytes) (FindsSame image after session now) reply.outcome
+  pub reads : sent.head.kind ≡ kinds.Read → FindsSame image after session now
 
 -- so does what a write of these bytes comes to
 abbrev pub WritesTrue : {S : Type 0} → PlatformGhosts S → S → S → Session → Session → ℕ → List ℕ → Result Outcome Halt → Type 0
 WritesTrue P platform platform_now session now offset bytes result =
-    P.tells → IsMounted (P.history platform).present session → IfOk result (SaysTrue (P.history platform_now).present (HasWritten (P.history platform).present (P.history platform_now).present session now offset bytes))
+    P.tells → IsMounted (P.history platform).present session → IfOk result (SaysTrue (P.history platform_now).present (HasWritten (P.history platform).present (P.history platform_now).present session now offset bytes) (FindsSame (P.history platform).present (P.history platform_now).present session now))
 
 -- and the reply to a request that comes to an outcome, with so much in the room of a reply
 abbrev pub AnswersTrue : {S : Type 0} → PlatformGhosts S → S → S → Session → Session → RequestSent → List ℕ → Result Outcome Halt → Type 0

@@ -8,7 +8,7 @@ ghost use Rattle.device_course.specs.States.{IsAt};
 ghost use Rattle.nbd_core.specs.Arrays.{ReadsBytes};
 ghost use Rattle.session_calls.specs.Damage.{IsMounted};
 ghost use Rattle.nbd_core.specs.Damages.{SaysTrue};
-ghost use Rattle.nbd_core.specs.Found.{HasRead, ReadsFound};
+ghost use Rattle.nbd_core.specs.Found.{FindsBytes, FindsSame, ReadsFound};
 ghost use Rattle.nbd_core.specs.Halts.{Blames};
 ghost use Rattle.nbd_terms.specs.Turn.{Reads};
 ghost use Rattle.session_calls.specs.Calling.{Calls};
@@ -47,10 +47,13 @@ pub(crate) fn read<P: Platform>(
         (bytes_of_reply RequestKind.Read request.now.length outcome reply.new.items) next) result }
     // On any pages: it has these bytes of the look-ups, or there is damage.
     ensures damage { P.tells → IsMounted (P.history platform.old).present session.old
-        → IfOk result (SaysTrue (P.history platform.new).present
-        (HasRead (P.history platform.old).present (P.history platform.new).present
-        session.old session.new request.now.offset
-        (bytes_of_reply RequestKind.Read request.now.length Outcome.Done reply.new.items))) }
+        → FindsSame (P.history platform.old).present (P.history platform.new).present
+        session.old session.new
+        × IfOk result (SaysTrue (P.history platform.new).present
+        (FindsBytes (P.history platform.old).present session.old request.now.offset
+        (bytes_of_reply RequestKind.Read request.now.length Outcome.Done reply.new.items))
+        (FindsSame (P.history platform.old).present (P.history platform.new).present
+        session.old session.new)) }
 {
     let length = request.length as usize;
     if !has_room(reply, REPLY_HEAD + length) {

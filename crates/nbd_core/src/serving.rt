@@ -1,7 +1,8 @@
 //! Requests, one after another.
 ghost use Rattle.std.specs.Prelude.{◌≡◌, ◌≢◌, ◌+◌, ◌-◌, ◌*◌, ◌≤◌, ◌<◌, ℕ, List, Option, None, Some, Err, IsOk, IfOk, IfErr, OnOk, OnErr, IfSome, IsTrue, ◌↔◌, [], length, take, drop};
 ghost use Rattle.nbd_core.specs.Ample.{blocks_of_range, unless_refused};
-ghost use Rattle.nbd_core.specs.Damages.{AnswersTrue, PerformsTrue};
+ghost use Rattle.nbd_core.specs.Damages.{AnswersTrue, PerformsTrue, SaysTrue};
+ghost use Rattle.nbd_core.specs.Found.{FindsSame};
 ghost use Rattle.nbd_core.specs.Near.{left_by, needed_at, needed_for};
 ghost use Rattle.nbd_core.specs.Short.{FlushSpends, Spends};
 ghost use Rattle.nbd_core.specs.Stops.{TellsPut};
@@ -345,7 +346,10 @@ fn flush<P: Platform, T: Tape, L: Sink>(
     ensures flushes { Flushed P.tells
         (around P.Platform T.Tape L.Sink platform.old tape.old ledger.old)
         (around P.Platform T.Tape L.Sink platform.new tape.new ledger.new) session result }
-    ensures sound { IfOk result (λ done. done.outcome ≢ Outcome.Damaged) }
+    ensures says { IfOk result (λ done. SaysTrue (P.history platform.new).present
+        (needed_by done.session ≡ 0)
+        (FindsSame (P.history platform.old).present (P.history platform.new).present
+        session done.session) done.outcome) }
     ensures comes { IfOk result (λ done. MayCome RequestKind.Flush done.outcome) }
     ensures adds { IfErr result (λ halt. P.head platform.new ≤ P.head platform.old
         + left_by halt (needed_by session)) }

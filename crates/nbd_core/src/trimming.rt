@@ -7,7 +7,7 @@ ghost use Rattle.session_calls.specs.Along.{Along, Drawn};
 ghost use Rattle.sdbt_base.specs.Counts.{Counts};
 ghost use Rattle.session_calls.specs.Damage.{IsMounted};
 ghost use Rattle.nbd_core.specs.Damages.{SaysTrue};
-ghost use Rattle.nbd_core.specs.Found.{HasTrimmed};
+ghost use Rattle.nbd_core.specs.Found.{FindsSame, HasTrimmed};
 ghost use Rattle.nbd_core.specs.Halts.{Blames};
 ghost use Rattle.nbd_core.specs.Serving.{IsWithin};
 ghost use Rattle.nbd_core.specs.Turns.{LeadsOn, MayCome};
@@ -43,7 +43,9 @@ pub(crate) fn trim<P: Platform>(
     ensures damage { P.tells → IsMounted (P.history platform.old).present session.old
         → IfOk result (SaysTrue (P.history platform.new).present
         (HasTrimmed (P.history platform.old).present (P.history platform.new).present
-        session.old session.new (covered_blocks request.now.offset request.now.length))) }
+        session.old session.new (covered_blocks request.now.offset request.now.length))
+        (FindsSame (P.history platform.old).present (P.history platform.new).present
+        session.old session.new)) }
 {
     let blocks = covered(request.offset, request.length as u64);
     for block in blocks.start..blocks.end {

@@ -6,7 +6,7 @@ use Rattle.session_calls.proofs.AlongLaws.{along_start}
 use Rattle.session_calls.proofs.CallLaws.{draws_none, no_draw, platform_quiet}
 use Rattle.nbd_core.proofs.BlameLaws.{blame_done, blame_platform, platform_halts, stop_comes}
 use Rattle.nbd_core.proofs.DamageLaws.{stop_after}
-use Rattle.nbd_core.proofs.FoundLaws.{read_as}
+use Rattle.nbd_core.proofs.FoundLaws.{bytes_as, same_start}
 use Rattle.nbd_core.proofs.TurnLaws.{held_still, read_halted, read_room}
 use Rattle.nbd_core.proofs.reading.read.Goals as goal
 
@@ -60,7 +60,7 @@ pub returns-in-Err-clause-leads : goal.returns-in-Err-clause-leads
 returns-in-Err-clause-leads g c told entry held = read_halted _ _ _ entry.device entry.session c.args.request.now.offset c.read_range.new.out c.in-Err.stop _ (c.in-Err.ensures.reads told entry.device entry.session held.at) c.after_stop.ensures
 
 pub returns-then-not-has_room-clause-damage : goal.returns-then-not-has_room-clause-damage
-returns-then-not-has_room-clause-damage g c told mounted = tt
+returns-then-not-has_room-clause-damage g c told mounted = (same_start _ _, tt)
 
 pub returns-in-Ok-clause-damage : goal.returns-in-Ok-clause-damage
 returns-in-Ok-clause-damage g c told mounted =
@@ -69,10 +69,13 @@ returns-in-Ok-clause-damage g c told mounted =
     let long : 16 + n ≤ length room = omega (arith, c.if-not-has_room.ensures refl, ap length c.deref_mut.ensures.value) in
     let out : List ℕ = c.read_range.new.out in
     let size : length out ≡ n = omega (arith, c.in-Ok.ensures.size) in
-    read_as _ _ _ _ c.args.request.now.offset _ out (read_room n _ (take 16 room) out _ _ (omega (arith, length-take 16 room, long)) size (omega (arith, long, c.deref_mut.ensures.len))) (c.in-Ok.ensures.damage told mounted)
+    let read = c.in-Ok.ensures.damage told mounted in
+    (read.same, bytes_as _ _ c.args.request.now.offset _ out (read_room n _ (take 16 room) out _ _ (omega (arith, length-take 16 room, long)) size (omega (arith, long, c.deref_mut.ensures.len))) read.found)
 
 pub returns-in-Err-clause-damage : goal.returns-in-Err-clause-damage
-returns-in-Err-clause-damage g c told mounted = stop_after _ _ c.in-Err.stop _ (c.in-Err.ensures.damage told mounted).met c.after_stop.ensures
+returns-in-Err-clause-damage g c told mounted =
+    let read = c.in-Err.ensures.damage told mounted in
+    (read.same, stop_after _ _ _ c.in-Err.stop _ read.met c.after_stop.ensures)
 
 pub returns-in-Err-clause-comes : goal.returns-in-Err-clause-comes
 returns-in-Err-clause-comes g c = stop_comes Read c.in-Err.stop _ tt c.after_stop.ensures

@@ -2,7 +2,7 @@ use Rattle.session_calls.proofs.CarryLaws.{carries_committed, carries_stopped, c
 use Rattle.nbd_core.proofs.BlameLaws.{blame_commit, blame_committed, commit_comes, commit_halts, of_commit}
 use Rattle.platform.proofs.Moments.{During-now}
 use Rattle.device_terms.specs.Served.{IsServedImage}
-use Rattle.nbd_core.proofs.DamageLaws.{commit_sound}
+use Rattle.nbd_core.proofs.DamageLaws.{commit_says}
 use Rattle.nbd_core.proofs.NearLaws.{commit_adds}
 use Rattle.nbd_core.proofs.ShortLaws.{flush_spent}
 use Rattle.nbd_core.proofs.TurnLaws.{commit_halted, flushed_to}
@@ -39,8 +39,8 @@ returns-in-Err-clause-blame g c rest =
     let blame = c.in-Err.ensures.goes.blame in
     blame_commit rest _ _ _ _ _ _ c.in-Err.stop _ (of_commit g.P.Platform g.T.Tape _ _ _ _ c.in-Err.stop c.in-Err.ensures.answers.left) c.after_commit.ensures blame.fell blame.cause
 
-pub returns-in-Ok-clause-sound : goal.returns-in-Ok-clause-sound
-returns-in-Ok-clause-sound g c = commit_sound c.in-Ok.done.reply _ c.outcome_of.ensures
+pub returns-in-Ok-clause-says : goal.returns-in-Ok-clause-says
+returns-in-Ok-clause-says g c = commit_says g.P.Platform _ _ _ _ _ _ _ _ c.in-Ok.done.reply _ c.outcome_of.ensures c.in-Ok.ensures.answers
 
 pub returns-in-Ok-clause-spends : goal.returns-in-Ok-clause-spends
 returns-in-Ok-clause-spends g c = flush_spent g.P.Platform _ _ _ _ _ _ _ _ c.in-Ok.done.reply _ c.outcome_of.ensures c.in-Ok.ensures.answers

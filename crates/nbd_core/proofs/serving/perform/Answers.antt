@@ -39,7 +39,7 @@ returns-then-is_flush-clause-bytes g c =
     let both = c.if-is_flush.ensures.0 refl in
     no_data (g.I.Source.left c.args.input.now) c.args.intake.now _ _ c.flush.result (ap (λ k. bytes_behind k c.args.request.now.length) both.0) (c.flush.ensures.halts (g.I.Source.left c.args.input.now) c.args.intake.now.ahead) (
       flush_performed _ _ _ _ c.args.request.now _ c.flush.result both.0 (ap (λ (n : ℕ). refusal n c.args.request.now) (size_of_session c.args.first _ c.blocks-2.ensures) ∙ sym c.refusal-refused.ensures ∙ both.1) c.flush.ensures.flushes,
-      (λ told. flush_says _ _ _ _ _ _ _ c.args.request.now [] _ c.flush.result both.0 c.flush.ensures.spends c.flush.ensures.sound),
+      (λ told. flush_says _ _ _ c.args.request.now [] _ c.flush.result both.0 c.flush.ensures.says),
     )
 
 pub returns-in-Ok-clause-bytes : goal.returns-in-Ok-clause-bytes

@@ -30,7 +30,7 @@ pub returns-in-Read-clause-bytes : goal.returns-in-Read-clause-bytes
 returns-in-Read-clause-bytes g c =
     no_data (g.I.Source.left c.args.input.now) c.args.intake.now _ _ c.read.result (ap (λ k. bytes_behind k c.args.request.now.length) c.in-Read.is) (platform_ends c.read.result (g.I.Source.left c.args.input.now) c.args.intake.now.ahead c.read.ensures.halts) (
       leads_as g.P.Platform _ _ _ _ _ _ _ (λ outcome entry next is. answers_read _ entry next c.args.request.now _ outcome [] _ c.in-Read.is c.in_default.is is) c.read.ensures.leads,
-      (λ told mounted. kind_says _ _ _ _ c.args.request.now [] _ Read _ c.read.result c.in-Read.is (λ has. has) (c.read.ensures.damage told mounted)),
+      (λ told mounted. kind_says _ _ _ _ c.args.request.now [] _ Read _ c.read.result c.in-Read.is (λ has. has) (λ is. (c.read.ensures.damage told mounted).0) (c.read.ensures.damage told mounted).1),
     )
 
 pub returns-in-Trim-clause-along : goal.returns-in-Trim-clause-along
@@ -62,7 +62,7 @@ pub returns-in-Trim-clause-bytes : goal.returns-in-Trim-clause-bytes
 returns-in-Trim-clause-bytes g c =
     no_data (g.I.Source.left c.args.input.now) c.args.intake.now _ _ c.trim.result (ap (λ k. bytes_behind k c.args.request.now.length) c.in-Trim.is) (platform_ends c.trim.result (g.I.Source.left c.args.input.now) c.args.intake.now.ahead c.trim.ensures.halts) (
       leads_as g.P.Platform _ _ _ _ _ _ _ (λ outcome entry next is. answers_trim _ entry next c.args.request.now _ outcome [] _ c.in-Trim.is c.in_default.is is) c.trim.ensures.leads,
-      (λ told mounted. kind_says _ _ _ _ c.args.request.now [] _ Trim _ c.trim.result c.in-Trim.is (λ has. has) (c.trim.ensures.damage told mounted)),
+      (λ told mounted. kind_says _ _ _ _ c.args.request.now [] _ Trim _ c.trim.result c.in-Trim.is (λ has. has) (λ is. absurd cc) (c.trim.ensures.damage told mounted)),
     )
 
 pub returns-in-Some-clause-bytes : goal.returns-in-Some-clause-bytes
@@ -70,7 +70,7 @@ returns-in-Some-clause-bytes g c =
     data_did _ _ _ _ _ _ _ _ _ c.bytes_of.ensures
     (λ gone nothing. (
       leads_idle g.P.Platform _ _ _ _ _ c.let_go.ensures.outcome (λ outcome entry held is. answers_refused _ entry _ c.args.request.now _ c.in-Some.outcome outcome gone _ c.requires.refusal c.in-Some.is is),
-      (λ told mounted. refused_says _ _ _ _ _ c.args.request.now gone _ _ c.in-Some.outcome c.let_go.result c.requires.refusal c.in-Some.is c.let_go.ensures.outcome),
+      (λ told mounted. refused_says _ _ _ c.args.request.now gone _ _ c.in-Some.outcome c.let_go.result c.requires.refusal c.in-Some.is c.let_go.ensures.outcome),
     ))
     c.let_go.ensures.bytes
 
@@ -79,7 +79,7 @@ returns-in-Write-clause-bytes g c =
     data_did _ _ _ _ _ _ _ _ _ (sym (ap (λ k. bytes_behind k c.args.request.now.length) c.in-Write.is))
     (λ gone both. (
       leads_as g.P.Platform _ _ _ _ _ _ _ (λ outcome entry next is. answers_write _ entry next c.args.request.now _ outcome gone _ c.in-Write.is c.in_default.is is) both.0,
-      (λ told mounted. kind_says _ _ _ _ c.args.request.now gone _ Write _ c.write.result c.in-Write.is (λ has. has) (both.1 told mounted)),
+      (λ told mounted. kind_says _ _ _ _ c.args.request.now gone _ Write _ c.write.result c.in-Write.is (λ has. has) (λ is. absurd cc) (both.1 told mounted)),
     ))
     c.write.ensures.bytes
 

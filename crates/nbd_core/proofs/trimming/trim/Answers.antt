@@ -108,7 +108,7 @@ returns-clause-leads g c =
 
 pub returns-in-Err-clause-damage : goal.returns-in-Err-clause-damage
 returns-in-Err-clause-damage g c told mounted =
-    stop_after _ _ c.in-Err.stop _ (trim_meets _ (g.P.Platform.history c.loop-block.platform).present (g.P.Platform.history c.trim_block.new.platform).present c.loop-block.session c.loop-block.block (Err c.in-Err.stop) c.in-Err.ensures.any (told, (c.loop-block.invariant.along no_draw).mounted told mounted)) c.after_stop.ensures
+    stop_after _ _ _ c.in-Err.stop _ (trim_meets _ (g.P.Platform.history c.loop-block.platform).present (g.P.Platform.history c.trim_block.new.platform).present c.loop-block.session c.loop-block.block (Err c.in-Err.stop) c.in-Err.ensures.any (told, (c.loop-block.invariant.along no_draw).mounted told mounted)) c.after_stop.ensures
 
 pub returns-clause-damage : goal.returns-clause-damage
 returns-clause-damage g c told mounted =

@@ -8,6 +8,7 @@ use Rattle.session_calls.proofs.CallLaws.{along_more}
 use Rattle.nbd_lang.specs.declared.replies.Outcome.TheVariants.{NoSpace}
 use Rattle.nbd_core.proofs.BlameLaws.{given_ends}
 use Rattle.nbd_core.proofs.DamageLaws.{given_says}
+use Rattle.nbd_core.proofs.FoundLaws.{same_start}
 use Rattle.nbd_core.proofs.ShortLaws.{never_short}
 use Rattle.nbd_core.proofs.DataLaws.{data_did}
 use Rattle.nbd_core.proofs.TurnLaws.{leads_idle, no_space, on_outcome, writes_held}
@@ -33,7 +34,7 @@ returns-then-blocks-capacity-clause-bytes g c =
           (λ outcome entry held is.
           no_space _ _ entry gone (touched_blocks c.args.request.now.offset c.args.request.now.length) outcome is
           (omega (arith, held.pages, ap length c.touched-blocks.ensures.blocks, length-blocks_from blocks.start (blocks.end - blocks.start), c.if-blocks-capacity.true))),
-      (λ told mounted. given_says _ _ NoSpace c.let_go.result tt c.let_go.ensures.outcome),
+      (λ told mounted. given_says _ _ _ NoSpace c.let_go.result (same_start _ _) c.let_go.ensures.outcome),
     ))
     c.let_go.ensures.bytes
 

@@ -237,7 +237,7 @@ returns-in-Err-written-clause-bytes g c =
           (λ whole_is.
           c.in-Err-written.ensures.writes told device _
           (so_far.wrote told device array at_first all whole_is (take-append-le c.loop-done.done (so_far.gone ++ piece) after (omega (arith, size)) ∙ take-append-le c.loop-done.done so_far.gone piece (omega (arith, so_far.all)) ∙ take_all c.loop-done.done so_far.gone (omega (arith, so_far.all)))))),
-      (λ told mounted. stop_given _ _ c.in-Err-written.stop c.give_up.result (c.in-Err-written.ensures.damage told (so_far.along.mounted told mounted)) c.give_up.ensures.outcome),
+      (λ told mounted. stop_given _ _ _ c.in-Err-written.stop c.give_up.result (c.in-Err-written.ensures.damage told (so_far.along.mounted told mounted)) c.give_up.ensures.outcome),
     ))
     c.give_up.ensures.bytes
 
