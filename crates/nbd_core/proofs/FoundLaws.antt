@@ -16,7 +16,7 @@ use Rattle.session_calls.specs.Damage.{MeetsDamage, ReadsAny}
 use Rattle.session_calls.specs.declared.stops.DeviceStop.{DeviceStop}
 use Rattle.session_calls.specs.declared.stops.DeviceStop.TheVariants as stops
 use Rattle.session_calls.proofs.DamageLaws.{read_meets}
-use Rattle.nbd_core.specs.Found.{FindsByte, FindsBytes, FindsSame, HasRead, ReadsFound}
+use Rattle.nbd_core.specs.Found.{FindsByte, FindsBytes, FindsSame, ReadsFound}
 
 -- ---- the bytes of lists
 
@@ -134,14 +134,15 @@ same_of_call P platform platform_now drawn drawn_now session now many many_now t
 }
 
 -- one part more was read
-pub read_then : (first second third : Image) (session between now : Session) (at done k place : ℕ) (before piece after : List ℕ) → HasRead first second session between at (take done before) → ReadsFound second third between now place piece (Ok tt) → place ≡ at + done → done ≤ length before
-    → take (done + k) after ≡ take done before ++ piece → HasRead first third session now at (take (done + k) after)
+pub read_then : (first second third : Image) (session between now : Session) (at done k place : ℕ) (before piece after : List ℕ) → ReadsFound first second session between at (take done before) (Ok tt) → ReadsFound second third between now place piece (Ok tt) → place ≡ at + done → done ≤ length before
+    → take (done + k) after ≡ take done before ++ piece → ReadsFound first third session now at (take (done + k) after) (Ok tt)
 read_then first second third session between now at done k place before piece after so_far here is within joined = record {
   found =
       let size : at + length (take done before) ≡ place = omega (arith, length-take done before, within, is) in
       subst (FindsBytes first session at) (sym joined)
       (finds_then first session at (take done before) piece so_far.found (subst (λ (p : ℕ). FindsBytes first session p piece) (sym size) (same_bytes first second session between place piece so_far.same here.found)));
   same = same_then first second third session between now so_far.same here.same;
+  met = tt;
 }
 
 -- what was read is what the reply has

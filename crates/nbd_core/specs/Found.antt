@@ -24,12 +24,8 @@ pub record FindsSame (image after : Image) (session now : Session) : Type 0 wher
   pub pages : after.readable ≡ image.readable
   pub grove : now.grove ≡ session.grove
 
--- a read that was done: these bytes are those that look-ups find from this place on, before and behind it
-pub record HasRead (image after : Image) (session now : Session) (place : ℕ) (bytes : List ℕ) : Type 0 where
-  pub found : FindsBytes image session place bytes
-  pub same : FindsSame image after session now
-
--- what a read of bytes comes to: it has read these, or it met a page that doesn't fit, if it stopped at one
+-- what a read of bytes comes to: it has read those that look-ups find from this place on, or it met a page
+-- that doesn't fit, if it stopped at one; and it leaves what they find
 pub record ReadsFound (image after : Image) (session now : Session) (place : ℕ) (bytes : List ℕ) (result : Result (Unit {0}) DeviceStop) : Type 0 where
   pub same : FindsSame image after session now
   pub found : OnOk result (FindsBytes image session place bytes)

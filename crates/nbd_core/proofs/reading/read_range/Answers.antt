@@ -17,7 +17,7 @@ loop-done-init g c = record {
   within = omega arith;
   quiet = refl;
   reads = λ told device array at. (at, refl);
-  found = λ told mounted. record { found = finds_nothing _ _ c.args.at; same = same_start _ _ };
+  found = λ told mounted. record { same = same_start _ _; found = finds_nothing _ _ c.args.at; met = tt };
 }
 
 pub read_part-requires-clause-open : goal.read_part-requires-clause-open

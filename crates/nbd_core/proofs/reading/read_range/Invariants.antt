@@ -1,11 +1,11 @@
-use Rattle.std.specs.Prelude.{◌≡◌, Some, take, ◌≤◌, ◌-◌, length}
+use Rattle.std.specs.Prelude.{◌≡◌, Ok, Some, take, ◌≤◌, ◌-◌, length}
 use Rattle.sdbt_base.specs.Arrays.{Device, Session as OpenSession, mounted}
 use Rattle.byte_arrays.specs.Arrays.{bytes_at}
 use Rattle.device_course.specs.States.{IsAt}
 use Rattle.nbd_terms.specs.Bytes.{array_of}
 use Rattle.session_calls.specs.Along.{Along, Drawn}
 use Rattle.session_calls.specs.Damage.{IsMounted}
-use Rattle.nbd_core.specs.Found.{HasRead}
+use Rattle.nbd_core.specs.Found.{ReadsFound}
 use Rattle.nbd_core.proofs.reading.read_range.Given as goal
 
 abbrev pub invariant-loop-done : goal.invariant-loop-done
@@ -15,7 +15,7 @@ invariant-loop-done g l = record {
       → IsAt (g.P.Platform.history l.platform).present (Some l.session) (mounted device array) × (take l.done l.out ≡ bytes_at (array_of array) l.at l.done);
   within : l.done ≤ length l.out;
   found : g.P.Platform.tells → IsMounted (g.P.Platform.history l.fn.platform).present l.fn.session
-      → HasRead (g.P.Platform.history l.fn.platform).present (g.P.Platform.history l.platform).present l.fn.session l.session l.at (take l.done l.out);
+      → ReadsFound (g.P.Platform.history l.fn.platform).present (g.P.Platform.history l.platform).present l.fn.session l.session l.at (take l.done l.out) (Ok tt);
   quiet : g.P.Platform.faults l.platform ≡ g.P.Platform.faults l.fn.platform;
 }
 
