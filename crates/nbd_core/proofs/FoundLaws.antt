@@ -1,6 +1,6 @@
 -- Bytes that look-ups find.
 use Rattle.std.proofs.Common.{◌≡◌, ◌<◌, ◌≤◌, ◌+◌, ◌*◌, ◌++◌, ◌⊎◌, ◌∙◌, ℕ, zero, suc, List, [], ◌∷◌, Some, Result, Ok, Err, inl, inr, length, length-take, take, get_or, refl, sym, ap, subst, arith}
-use Rattle.std.specs.Prelude.{◌/◌, ◌%◌, IfErr, OnOk, slice_get}
+use Rattle.std.specs.Prelude.{◌/◌, OnOk, slice_get}
 use Rattle.std.proofs.lemmas.List.{take_all}
 use Rattle.std.proofs.lemmas.Option.{slice_get-get_or}
 use Rattle.byte_arrays.specs.Arrays.{bytes_at, byte_of}
@@ -12,9 +12,8 @@ use Rattle.platform.proofs.Moments.{Extends-earlier, whole-now}
 use Rattle.device_session.specs.Reading.{FindsContent}
 use Rattle.device_session.specs.Sessions.{Session}
 use Rattle.session_calls.specs.Along.{Along, Drawn}
-use Rattle.session_calls.specs.Damage.{MeetsDamage, ReadsAny}
+use Rattle.session_calls.specs.Damage.{ReadsAny}
 use Rattle.session_calls.specs.declared.stops.DeviceStop.{DeviceStop}
-use Rattle.session_calls.specs.declared.stops.DeviceStop.TheVariants as stops
 use Rattle.session_calls.proofs.DamageLaws.{read_meets}
 use Rattle.nbd_core.specs.Found.{FindsByte, FindsBytes, FindsSame, ReadsFound}
 

@@ -1,5 +1,5 @@
 -- Blocks of which look-ups find behind a call what they found before, and those that a trim or a write changed.
-use Rattle.std.proofs.Common.{◌≡◌, ◌≢◌, ◌<◌, ◌≤◌, ◌+◌, ◌-◌, ◌*◌, ◌++◌, ◌⊎◌, ◌∙◌, ℕ, zero, suc, List, [], ◌∷◌, Option, None, Some, Result, Ok, Err, false, inl, inr, length, length-append, take, drop, get_or, replicate, append-nil, refl, sym, ap, subst, arith}
+use Rattle.std.proofs.Common.{◌≡◌, ◌≢◌, ◌<◌, ◌≤◌, ◌+◌, ◌-◌, ◌*◌, ◌++◌, ◌⊎◌, ◌∙◌, ℕ, List, [], None, Some, Result, Ok, Err, false, inl, inr, length, length-append, take, drop, get_or, replicate, append-nil, refl, sym, ap, subst, arith}
 use Rattle.std.specs.Prelude.{◌/◌, ◌%◌, All, Contains, IfErr, OnOk, slice_get}
 use Rattle.sdbt_base.specs.Arrays.{padded}
 use Rattle.session_calls.specs.Damage.{MeetsDamage}
@@ -9,9 +9,9 @@ use Rattle.std.proofs.lemmas.List.{take_all}
 use Rattle.std.proofs.lemmas.Option.{get_or_from_slice_get, slice_get-get_or, slice_get_within}
 use Rattle.byte_arrays.specs.Arrays.{bytes_at, byte_of, with_bytes}
 use Rattle.byte_arrays.specs.Parts.{IsAtPart, IsPart}
-use Rattle.byte_arrays.specs.Ranges.{IsTouched, blocks_from, covered_blocks, touched_blocks}
-use Rattle.byte_arrays.proofs.ArrayLaws.{block_of_place, byte_in_block, get_or-bytes_at, length-bytes_at, part_read, with_before, with_behind, with_inside}
-use Rattle.byte_arrays.proofs.RangeLaws.{get_or-blocks_from, in_blocks_from, is_touched, length-blocks_from, length-touched_blocks, of_blocks_from, touched_is}
+use Rattle.byte_arrays.specs.Ranges.{IsTouched, blocks_from, touched_blocks}
+use Rattle.byte_arrays.proofs.ArrayLaws.{byte_in_block, get_or-bytes_at, length-bytes_at, part_read, with_before, with_behind, with_inside}
+use Rattle.byte_arrays.proofs.RangeLaws.{get_or-blocks_from, in_blocks_from, is_touched, length-blocks_from, length-touched_blocks, touched_is}
 use Rattle.platform.specs.Image.{Image}
 use Rattle.device_session.specs.Damage.{HasPut, HasTaken, IsFound}
 use Rattle.device_session.specs.Open.{blocks_of}
