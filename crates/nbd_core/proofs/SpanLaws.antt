@@ -30,6 +30,7 @@ use Rattle.device_course.specs.Marks.{last_mark}
 use Rattle.device_course.specs.States.{Outside, IsAt, IsListed, around}
 use Rattle.device_course.proofs.KeysLaws.{on_look, on_then, listed_image}
 use Rattle.device_course.proofs.MadeLaws.{made_kept, made_since, made_then, shut}
+use Rattle.device_session.specs.Reading.{room_of}
 use Rattle.device_session.specs.Sessions.{Session}
 use Rattle.session_calls.specs.Mounts.{IsFound, IsMountStop, MountLeads}
 use Rattle.session_calls.specs.declared.stops.DeviceStop.{DeviceStop}
@@ -210,19 +211,19 @@ since_look tells old mid head same stays entry start = (
 )
 
 -- the session is on the device that the image stood for
-pub blocks_found : {S : Type 0} (P : PlatformGhosts S) (platform platform_now : S) (session : Session) (result : Result (Option Session) DeviceStop) → result ≡ Ok (Some session) → IfOk result (IsFound P 256 platform platform_now)
+pub blocks_found : {S : Type 0} (P : PlatformGhosts S) (nodes : ℕ) (platform platform_now : S) (session : Session) (result : Result (Option Session) DeviceStop) → result ≡ Ok (Some session) → IfOk result (IsFound P nodes platform platform_now)
     → P.tells → (there : Device) → Stands (P.history platform).present (Some there) → 4096 * blocks_of session ≡ 4096 * there.blocks
-blocks_found P platform platform_now session result is finds told there stands =
-    let found : IsFound P 256 platform platform_now (Some session) = subst (λ (r : Result (Option Session) DeviceStop). IfOk r (IsFound P 256 platform platform_now)) is finds in
+blocks_found P nodes platform platform_now session result is finds told there stands =
+    let found : IsFound P nodes platform platform_now (Some session) = subst (λ (r : Result (Option Session) DeviceStop). IfOk r (IsFound P nodes platform platform_now)) is finds in
     ap (λ (n : ℕ). 4096 * n) (found.0.holds told there stands).stands.blocks
 
-pub since_mount : {S : Type 0} (P : PlatformGhosts S) (platform platform_now : S) (old mid : Outside) (session : Session) (result : Result (Option Session) DeviceStop) → result ≡ Ok (Some session) → old.history ≡ P.history platform → mid.history ≡ P.history platform_now → old.head ≡ P.head platform → mid.head ≡ P.head platform_now
-    → Looks P platform platform_now → IfOk result (IsFound P 256 platform platform_now)
+pub since_mount : {S : Type 0} (P : PlatformGhosts S) (nodes : ℕ) (platform platform_now : S) (old mid : Outside) (session : Session) (result : Result (Option Session) DeviceStop) → result ≡ Ok (Some session) → old.history ≡ P.history platform → mid.history ≡ P.history platform_now → old.head ≡ P.head platform → mid.head ≡ P.head platform_now
+    → Looks P platform platform_now → IfOk result (IsFound P nodes platform platform_now)
     → (P.tells → (entry : State) → IsAt (P.history platform).present None entry → MountLeads (P.history platform_now).present entry result)
     → Since (IsStart P.tells old) (IsFrom P.tells mid session) old mid
-since_mount P platform platform_now old mid session result is old_history mid_history old_head mid_head looks finds leads entry start =
+since_mount P nodes platform platform_now old mid session result is old_history mid_history old_head mid_head looks finds leads entry start =
     let told = start.told in
-    let found : IsFound P 256 platform platform_now (Some session) = subst (λ (r : Result (Option Session) DeviceStop). IfOk r (IsFound P 256 platform platform_now)) is finds in
+    let found : IsFound P nodes platform platform_now (Some session) = subst (λ (r : Result (Option Session) DeviceStop). IfOk r (IsFound P nodes platform platform_now)) is finds in
     let stands : Stands (P.history platform).present (Some entry.device) = subst (λ (h : History). Stands h.present (Some entry.device)) old_history start.stands in
     let served : IsServedImage (P.history platform).present = subst (λ (h : History). IsServedImage h.present) old_history start.served in
     let led = led_of (P.history platform_now).present session (closed (Some entry.device)) (subst (MountLeads (P.history platform_now).present (closed (Some entry.device))) is (leads told (closed (Some entry.device)) (shut (P.history platform).present (Some entry.device) stands served))) in
@@ -234,27 +235,33 @@ since_mount P platform platform_now old mid session result is old_history mid_hi
     )
 
 -- which needs no page
-pub fresh_found : {S : Type 0} (P : PlatformGhosts S) (platform platform_now : S) (session : Session) (result : Result (Option Session) DeviceStop) → result ≡ Ok (Some session) → IfOk result (IsFound P 256 platform platform_now) → needed_by session ≡ 0
-fresh_found P platform platform_now session result is finds =
-    let found : IsFound P 256 platform platform_now (Some session) = subst (λ (r : Result (Option Session) DeviceStop). IfOk r (IsFound P 256 platform platform_now)) is finds in
+pub fresh_found : {S : Type 0} (P : PlatformGhosts S) (nodes : ℕ) (platform platform_now : S) (session : Session) (result : Result (Option Session) DeviceStop) → result ≡ Ok (Some session) → IfOk result (IsFound P nodes platform platform_now) → needed_by session ≡ 0
+fresh_found P nodes platform platform_now session result is finds =
+    let found : IsFound P nodes platform platform_now (Some session) = subst (λ (r : Result (Option Session) DeviceStop). IfOk r (IsFound P nodes platform platform_now)) is finds in
     needs_none session (P.head platform_now) found.0.is_open found.0.untouched
+
+-- and has room for so many nodes
+pub room_found : {S : Type 0} (P : PlatformGhosts S) (nodes : ℕ) (platform platform_now : S) (session : Session) (result : Result (Option Session) DeviceStop) → result ≡ Ok (Some session) → IfOk result (IsFound P nodes platform platform_now) → room_of session ≡ nodes
+room_found P nodes platform platform_now session result is finds =
+    let found : IsFound P nodes platform platform_now (Some session) = subst (λ (r : Result (Option Session) DeviceStop). IfOk r (IsFound P nodes platform platform_now)) is finds in
+    ap (λ cache. cache.capacity) found.0.empty
 
 -- ---- what is said, from the start of a run
 
-pub talks_mounted : {S R W : Type 0} (P : PlatformGhosts S) (T : TapeGhosts R) (L : SinkGhosts W) (platform platform_now : S) (tape : R) (ledger : W) (after : Outside) (session : Session) (result : Result (Option Session) DeviceStop)
-    (left left_now written written_now : Option (List ℕ)) (ending : Result (Unit {0}) Halt) → result ≡ Ok (Some session) → Looks P platform platform_now → IfOk result (IsFound P 256 platform platform_now)
+pub talks_mounted : {S R W : Type 0} (P : PlatformGhosts S) (T : TapeGhosts R) (L : SinkGhosts W) (nodes : ℕ) (platform platform_now : S) (tape : R) (ledger : W) (after : Outside) (session : Session) (result : Result (Option Session) DeviceStop)
+    (left left_now written written_now : Option (List ℕ)) (ending : Result (Unit {0}) Halt) → result ≡ Ok (Some session) → Looks P platform platform_now → IfOk result (IsFound P nodes platform platform_now)
     → (P.tells → (entry : State) → IsAt (P.history platform).present None entry → MountLeads (P.history platform_now).present entry result)
     → Says (IsFrom P.tells (around P T L platform_now tape ledger) session) P.tells (around P T L platform_now tape ledger) after (4096 * blocks_of session) left left_now written written_now ending
     → Talks P.tells (around P T L platform tape ledger) after left left_now written written_now ending
-talks_mounted P T L platform platform_now tape ledger after session result left left_now written written_now ending is looks finds leads says =
+talks_mounted P T L nodes platform platform_now tape ledger after session result left left_now written written_now ending is looks finds leads says =
     let old : Outside = around P T L platform tape ledger in
     let mid : Outside = around P T L platform_now tape ledger in
-    let since : Since (IsStart P.tells old) (IsFrom P.tells mid session) old mid = since_mount P platform platform_now old mid session result is refl refl refl refl looks finds leads in
+    let since : Since (IsStart P.tells old) (IsFrom P.tells mid session) old mid = since_mount P nodes platform platform_now old mid session result is refl refl refl refl looks finds leads in
     elim says [
       | inl silent ↦ inl (silent_since (IsStart P.tells old) (IsFrom P.tells mid session) old mid after left left_now written written_now ending looks.head since silent)
       | inr conversed ↦ inr record {
         size = 4096 * blocks_of session;
-        is = blocks_found P platform platform_now session result is finds;
+        is = blocks_found P nodes platform platform_now session result is finds;
         conversed = conversed_since (IsStart P.tells old) (IsFrom P.tells mid session) P.tells old mid after (4096 * blocks_of session) left left_now written written_now ending looks.capacity looks.head (λ told. (looks.time told).extends) since conversed;
       }
     ]

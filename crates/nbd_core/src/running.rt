@@ -1,8 +1,9 @@
 //! A run: what is looked at first, the talk with a client, and its requests.
-ghost use Rattle.std.specs.Prelude.{◌≡◌, ◌≢◌, ◌⊎◌, ◌*◌, None, IsOk, IfErr, IsErrOf};
+ghost use Rattle.std.specs.Prelude.{◌≡◌, ◌≢◌, ◌≤◌, ◌⊎◌, ◌*◌, None, IsOk, IfErr, IsErrOf};
 ghost use Rattle.device_terms.specs.Served.{IsServedImage};
 ghost use Rattle.device_course.specs.States.{around};
 ghost use Rattle.device_session.specs.Open.{blocks_of, needed_by};
+ghost use Rattle.device_session.specs.Reading.{room_of};
 ghost use Rattle.nbd_core.specs.Halts.{Blames, IsLate};
 ghost use Rattle.session_calls.specs.Blame.{counts_of};
 ghost use Rattle.session_calls.specs.Carrying.{Carries, IsReady};
@@ -125,6 +126,8 @@ fn serve_client<P: Platform, T: Tape, I: Source, O: Sink, L: Sink>(
 ) -> Result<(), Halt>
     requires ready { IsReady P.tells (around P.Platform T.Tape L.Sink platform.old tape.old ledger.old) session }
     requires fresh { needed_by session ≡ 0 }
+    // The session's cache has room for a node of each level.
+    requires room { 20 ≤ room_of session }
     ensures carries { Carries P.tells
         (around P.Platform T.Tape L.Sink platform.old tape.old ledger.old)
         (around P.Platform T.Tape L.Sink platform.new tape.new ledger.new) session None (IsOk result) }
