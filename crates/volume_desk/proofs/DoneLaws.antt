@@ -1,5 +1,5 @@
 -- What a line that is done found or left, by its calls, at which moment, and behind calls that leave other blocks.
-use Rattle.std.proofs.Common.{◌≡◌, ◌≢◌, ◌≤◌, ◌<◌, ◌+◌, ◌∙◌, ℕ, List, None, Some, Option, Ok, inl, inr, refl, sym, ap, subst, length, arith, append-nil, ◌++◌, replicate, ◌-◌}
+use Rattle.std.proofs.Common.{◌≡◌, ◌≢◌, ◌≤◌, ◌<◌, ◌+◌, ◌∙◌, ℕ, List, None, Some, Ok, inl, inr, refl, sym, ap, subst, length, arith, append-nil, ◌++◌, replicate, ◌-◌}
 use Rattle.std.specs.Prelude.{false}
 use Rattle.std.proofs.lemmas.Bool.{cases_lt}
 use Rattle.sdbt_base.specs.Arrays.{padded}

@@ -1,5 +1,5 @@
 -- Which keys a line draws, by its calls.
-use Rattle.std.proofs.Common.{◌≡◌, ◌≤◌, ◌+◌, ℕ, List, [], ◌∷◌, Option, None, Some, Result, Ok, Err, length, refl, ap, sym, subst, arith}
+use Rattle.std.proofs.Common.{◌≡◌, ◌+◌, ℕ, List, [], ◌∷◌, Option, None, Some, Result, Ok, Err, length, refl, ap, sym, subst, arith}
 use Rattle.std.specs.Prelude.{IfOk, OnOk}
 use Rattle.sdbt_base.specs.Told.{Drew}
 use Rattle.page_store.proofs.KeepingLaws.{drew_none, drew_then}
@@ -11,14 +11,14 @@ use Rattle.device_session.specs.declared.refusals.CommitReply.TheVariants as com
 use Rattle.session_calls.specs.Commits.{AnswersReply, DrewForPages}
 use Rattle.session_calls.specs.declared.stops.DeviceStop.{DeviceStop}
 use Rattle.volume_table.specs.declared.volume.Volume.{Volume}
-use Rattle.volume_lines.specs.Lines.{Line, Create, Read, Write, Trim, Destroy, Commit, asked}
+use Rattle.volume_lines.specs.Lines.{Line, Read, Write, Trim, Destroy, Commit, asked}
 use Rattle.volume_lines.specs.declared.lines.Line.{Line as Parsed}
 use Rattle.volume_lines.specs.Replies.{said}
 use Rattle.volume_lines.specs.declared.replies.Reply.{Reply as Given}
 use Rattle.volume_lines.specs.declared.replies.Reply.TheVariants as given
 use Rattle.volume_desk.specs.Causes.{Draws, answer_in}
 use Rattle.volume_desk.specs.declared.serving.Answered.{Answered}
-use Rattle.volume_desk.specs.Drawing.{AreDrawnFor, DrewFor, DrewOne, Seals, Spends, Tally, TakesDrew, tally}
+use Rattle.volume_desk.specs.Drawing.{DrewFor, DrewOne, Seals, Spends, Tally, TakesDrew, tally}
 use Rattle.volume_desk.specs.Turns.{NoBlock, commit_reply, destroy_reply}
 
 -- ---- no key

@@ -1,5 +1,5 @@
 -- Why a line is answered so, or the device stops at it, on any pages, forged ones too: by the table in memory, by the line's name and numbers, and by the pages that are free; and what a line that is done found or left.
-use Rattle.std.specs.Prelude.{◌≡◌, ◌≤◌, ◌<◌, ◌+◌, ◌⊎◌, ℕ, List, Option, None, Some, Result, Ok, Err}
+use Rattle.std.specs.Prelude.{◌≡◌, ◌≤◌, ◌<◌, ◌⊎◌, ℕ, List, Option, None, Some, Result, Ok, Err}
 use Rattle.platform.specs.Image.{Image}
 use Rattle.platform.specs.History.{History, moment}
 use Rattle.device_session.specs.Sessions.{Session}

@@ -2,7 +2,7 @@
 use Rattle.std.specs.Prelude.{◌≡◌, ◌≤◌, ◌+◌, ℕ, List, ◌∷◌, [], Option, None, Some, Result, IfOk, length}
 use Rattle.page_store.specs.Keeping.{DrewAll}
 use Rattle.session_calls.specs.declared.stops.DeviceStop.{DeviceStop}
-use Rattle.volume_lines.specs.Lines.{Line, Create, Read, Write, Trim, Destroy, Commit}
+use Rattle.volume_lines.specs.Lines.{Line, Create, Write, Destroy, Commit}
 use Rattle.volume_lines.specs.Replies.{Reply, Created, Done, Destroyed, Uncommitted, Committed, said}
 use Rattle.volume_lines.specs.declared.replies.Reply.{Reply as Given}
 use Rattle.volume_desk.specs.Causes.{Draws}

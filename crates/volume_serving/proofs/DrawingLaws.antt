@@ -1,13 +1,13 @@
 -- Which keys lines draw that are handled one after another.
-use Rattle.std.proofs.Common.{◌≡◌, ◌⊎◌, ℕ, List, [], ◌∷◌, ◌++◌, length, inl, inr, refl, sym, ap, subst, arith}
+use Rattle.std.proofs.Common.{◌≡◌, ◌⊎◌, ℕ, List, [], ◌∷◌, ◌++◌, length, inl, inr, refl, sym, subst, arith}
 use Rattle.page_store.specs.Keeping.{DrewAll}
 use Rattle.page_store.proofs.KeepingLaws.{drew_none}
 use Rattle.volume_lines.specs.Grammar.{IsBad, Spells}
 use Rattle.volume_lines.specs.Lines.{Line, Create, Read, Write, Trim, Destroy, Commit}
 use Rattle.volume_lines.specs.Replies.{Reply, Bad}
 use Rattle.volume_desk.specs.Causes.{Draws}
-use Rattle.volume_desk.specs.Drawing.{DrewFor, Seals, Tally}
-use Rattle.volume_serving.specs.Drawing.{AreDrawnAt, DrewOn, DrewUntil, IsOfDrawn}
+use Rattle.volume_desk.specs.Drawing.{DrewFor, Tally}
+use Rattle.volume_serving.specs.Drawing.{DrewOn, DrewUntil, IsOfDrawn}
 use Rattle.volume_serving.specs.Tabled.{IfNext}
 use Rattle.volume_serving.proofs.TabledLaws.{next_behind, next_longer}
 

@@ -1,5 +1,5 @@
 -- Replies over a table, and stops at a line, behind other lines and before more of them.
-use Rattle.std.proofs.Common.{◌≡◌, ◌≤◌, ◌∙◌, ℕ, List, [], ◌∷◌, ◌++◌, Ok, Err, inl, inr, length, refl, sym, subst, arith}
+use Rattle.std.proofs.Common.{◌≡◌, ◌≤◌, ℕ, List, [], ◌∷◌, ◌++◌, Ok, Err, inl, inr, length, refl, sym, subst, arith}
 use Rattle.platform.specs.Image.{Image}
 use Rattle.platform.specs.History.{Extends, History, moment}
 use Rattle.platform.proofs.Moments.{Extends-refl, Extends-trans}

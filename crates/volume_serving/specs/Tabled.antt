@@ -1,5 +1,5 @@
 -- Which replies lines have over the table in memory, what a line that is done found or left, and at which line the device may stop a run, on any pages.
-use Rattle.std.specs.Prelude.{◌≡◌, ◌≤◌, ◌⊎◌, ℕ, List, [], ◌∷◌, Ok, Err, OnOk}
+use Rattle.std.specs.Prelude.{◌≡◌, ◌⊎◌, ℕ, List, [], ◌∷◌, Ok, Err, OnOk}
 use Rattle.platform.specs.History.{Extends, History, moment}
 use Rattle.device_course.specs.States.{Outside}
 use Rattle.line_run.specs.Stops.{Ending}

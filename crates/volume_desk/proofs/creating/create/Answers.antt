@@ -105,8 +105,7 @@ returns-in-Ok-clause-any g c buffer =
     let fits = subst (λ (b : ℕ). IsCount b c.args.count) c.blocks-2.ensures (c.if-not-is_count.ensures.0 refl) in
     let placed = c.in-Some.ensures.placed in
     let new = is_new (blocks_of c.args.session.now) c.blocks-3.result c.args.count c.args.table.now c.duplicate-next.result c.put.new.self c.args.name.now c.in-Some.volume c.blocks-3.ensures c.duplicate-next.ensures placed.0 placed.1 placed.2
-    c.in-Some.ensures.inserted c.in-Some.ensures.table in
-    (
+    c.in-Some.ensures.inserted c.in-Some.ensures.table in (
       inr (c.put.new.self, (c.if-has_volume.ensures.lacks refl, fits, c.in-Some.volume, new), inl (tt, refl)),
       λ known. (c.in-Some.volume, (placed_has c.duplicate-next.result c.in-Some.volume c.put.new.self c.in-Some.ensures.inserted, placed.0), c.in-Ok.ensures.left known.0 known.1),
     )

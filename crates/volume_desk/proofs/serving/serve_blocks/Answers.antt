@@ -1,7 +1,7 @@
 use Rattle.std.proofs.Common.{◌+◌, arith}
 use Rattle.device_session.specs.Open.{blocks_of}
 use Rattle.session_calls.specs.Along.{drawn_by}
-use Rattle.volume_lines.specs.Lines.{Create, Write}
+use Rattle.volume_lines.specs.Lines.{Create}
 use Rattle.volume_lines.specs.declared.lines.Line.TheVariants as parsed
 use Rattle.session_calls.proofs.CallLaws.{calls_more}
 use Rattle.volume_desk.specs.Causes.{sizes}

@@ -2,7 +2,6 @@ use Rattle.std.proofs.Common.{◌+◌}
 use Rattle.device_session.specs.Open.{blocks_of}
 use Rattle.session_calls.specs.Damage.{IsMounted}
 use Rattle.volume_lines.specs.Lines.{Commit, Destroy, asked}
-use Rattle.volume_lines.specs.Replies.{said}
 use Rattle.volume_desk.specs.Causes.{answer_in, sizes}
 use Rattle.volume_desk.specs.Drawing.{tally}
 use Rattle.volume_desk.specs.Turns.{goes_on}

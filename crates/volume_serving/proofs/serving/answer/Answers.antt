@@ -1,4 +1,4 @@
-use Rattle.std.proofs.Common.{None, Some, inl, inr, refl}
+use Rattle.std.proofs.Common.{None, Some, refl}
 use Rattle.device_course.specs.States.{Outside, around}
 use Rattle.device_session.specs.Open.{blocks_of}
 use Rattle.volume_desk.proofs.CauseLaws.{may_meets}
