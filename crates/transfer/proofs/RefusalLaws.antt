@@ -1,5 +1,5 @@
 -- When a move is refused, on any images.
-use Rattle.std.proofs.Common.{◌≡◌, ◌<◌, ◌+◌, ◌*◌, ◌∙◌, ◌-◌, ℕ, List, Option, None, Some, Bool, true, false, Result, Ok, Err, refl, sym, ap, subst, arith}
+use Rattle.std.proofs.Common.{◌≡◌, ◌<◌, ◌+◌, ◌*◌, ◌∙◌, ◌-◌, ℕ, Option, None, Some, Bool, true, false, Result, Ok, Err, refl, sym, ap, subst, arith}
 use Rattle.std.specs.Prelude.{IfErr, IfOk}
 use Rattle.sdbt_base.specs.Arrays.{Device, mounted, new_device, session_on}
 use Rattle.sdbt_base.specs.Counts as device

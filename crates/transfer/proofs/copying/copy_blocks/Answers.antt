@@ -6,7 +6,7 @@ use Rattle.session_calls.proofs.AlongLaws.{along_start, along_then}
 use Rattle.session_calls.proofs.CallLaws.{along_more, no_draw}
 use Rattle.transfer.proofs.HaltLaws.{halted}
 use Rattle.transfer.specs.Counts.{Counts}
-use Rattle.std.proofs.Common.{◌∷◌, [], List, Some, get_or, sym, take}
+use Rattle.std.proofs.Common.{List, Some, get_or, sym, take}
 use Rattle.std.proofs.lemmas.List.{take_all, take_more}
 use Rattle.sdbt_base.specs.Arrays.{Session as OpenSession, mounted}
 use Rattle.device_course.specs.States.{IsAt}
