@@ -43,8 +43,8 @@ use Rattle.session_calls.specs.declared.stops.DeviceStop.{DeviceStop}
 use Rattle.device_session.proofs.KeepLaws.{block_then, still_keeps}
 use Rattle.device_session.proofs.OrderLaws.{places_up}
 use Rattle.device_session.proofs.ReadLaws.{HasRecord, IsArray, content_none, entry_read, grove_maps, grove_tiles, parts_records}
-use Rattle.transfer.specs.Whole.{BeginsWithin, CopiesOnce, CopiesTree, FillsOnce, HasBlocks, HasOne, HasWholeTree, IsCopied, IsFilled, IsMoved, IsRead, IsReadThrough, IsWithin, SeesAll}
-use Rattle.transfer.specs.Refusals.{IsOn}
+use Rattle.transfer.specs.Whole.{BeginsWithin, CopiesOnce, CopiesTree, FillsOnce, HasBlocks, HasOne, HasWholeTree, IsCopied, IsFilled, IsMoved, IsNew, IsRead, IsReadThrough, IsWithin, SeesAll, WasFresh}
+use Rattle.transfer.specs.Refusals.{IsIdle, IsOn}
 use Rattle.transfer.specs.declared.halts.Halt.{Halt}
 use Rattle.transfer.specs.declared.halts.Moved.{Moved}
 use Rattle.transfer.proofs.LookedLaws.{found_at}
@@ -297,17 +297,28 @@ never_found image session pages block blocks is_open untouched begins less none 
         let has : Contains begins.others e.low = subst (λ (bs : List ℕ). Contains bs e.low) (sym begins.listed.is) (map_contains (λ (x : Entry). x.low) (listed begins.listed.nodes) e among.0) in
         absurd (none (subst (Contains blocks) among.1 (All-contains (Contains blocks) begins.others e.low begins.among has)))
 
+-- where it was never written, or there was none, as its root record says
+was_fresh : (image : Image) (root : Root) (blocks order : ℕ) (is_new : Bool) (session : Session) → IsIdle session → IsOn image blocks order is_new session → session.root.blocks ≡ root.blocks → session.root.order ≡ root.order → IsNew is_new session → WasFresh root image
+was_fresh image root blocks order true session idle on same same_order new = inl on.0
+was_fresh image root blocks order false session idle on same same_order (inl never) = absurd cc
+was_fresh image root blocks order false session idle on same same_order (inr fresh) = inr (session.root, on, record { blocks_are = same; order_is = same_order; commit = fresh.0; mapped = sym idle.mapped ∙ fresh.1 })
+
 -- a look-up of each block of the device comes to what the first tree has
-pub copied_of : (from_tells to_tells : Type 0) (from : Image) (to to_now : History) (source target : Session) (pages to_pages : ℕ) → IsOpen source pages → is_touched source ≡ false → from.cell ≡ Some (root_bytes source.root) → IsOpen target to_pages → is_touched target ≡ false
-    → from_tells → to_tells → IsFilled from_tells to_tells from to to_now source target → IsCopied from to to_now
-copied_of from_tells to_tells from to to_now source target pages to_pages is_open untouched cell target_open target_untouched from_told to_told filled = record {
+pub copied_of : (from_tells to_tells : Type 0) (from : Image) (first to to_now : History) (blocks order : ℕ) (is_new : Bool) (source target : Session) (pages to_pages : ℕ) → IsOpen source pages → is_touched source ≡ false → from.cell ≡ Some (root_bytes source.root) → IsOpen target to_pages → IsIdle target
+    → IsMounted to.present target → IsOn first.present blocks order is_new target → Extends first to → from_tells → to_tells → IsFilled from_tells to_tells from to to_now source target (IsNew is_new target) → IsCopied from first to_now
+copied_of from_tells to_tells from first to to_now blocks order is_new source target pages to_pages is_open untouched cell target_open idle mounted on extends from_told to_told filled = record {
   whole = whole.0;
   contents = contents;
   are = refl;
   image = once.image;
-  within = once.within to_told;
+  within =
+      let w = once.within to_told in
+      let later = extends.later in
+      let since = w.1 in
+      (w.0, omega (arith, later, since), w.2, w.3);
   session = once.session;
   mounted = once.mounted to_told;
+  kept = kept filled.fills.kept;
   each = λ block less. each block less (contained filled.blocks block);
 }
   where
@@ -329,6 +340,13 @@ copied_of from_tells to_tells from to to_now source target pages to_pages is_ope
     contents : Blocks
     contents = from_entries (pairs_of whole.0.parts)
 
+    kept : IsNew is_new target ⊎ ((once.session ≡ target) × (once.image ≡ to.present) × IsReadThrough to_tells to.present target) → WasFresh whole.0.root first.present ⊎ (HasWholeTree once.image × (is_touched once.session ≡ false))
+    kept (inl new) = inl (subst (λ (r : Root). WasFresh r first.present) (sym whole.1) (was_fresh first.present source.root blocks order is_new target idle on filled.alike filled.same_order new))
+    kept (inr stays) = inr (
+      subst HasWholeTree (sym stays.1) (whole_tree to_tells to.present target to_pages target_open idle.untouched mounted.cell to_told stays.2),
+      ap (λ (t : Session). is_touched t) stays.0 ∙ idle.untouched,
+    )
+
     each : (block : ℕ) → block < whole.0.root.blocks → Contains filled.blocks block ⊎ (Contains filled.blocks block → ⊥) → FindsContent once.image.readable once.session.grove block (content_of contents block)
     each block less (inl among) =
         let one = All-contains (HasOne from_tells to_tells from once.image source once.session) filled.blocks block once.copies.each among in
@@ -336,7 +354,7 @@ copied_of from_tells to_tells from to to_now source target pages to_pages is_ope
         subst (FindsContent once.image.readable once.session.grove block) is (one.there to_told)
     each block less (inr none) =
         let within : block < blocks_of target = (let same = ap (λ (r : Root). r.blocks) whole.1 in let alike = filled.alike in omega (arith, less, same, alike)) in
-        let finds = never_found to.present target to_pages block filled.blocks target_open target_untouched (filled.fills.begins to_told) within none in
+        let finds = never_found to.present target to_pages block filled.blocks target_open idle.untouched (filled.fills.begins to_told) within none in
         record {
           found = None;
           finds = ((once.copies.others to_told block within none).entry None).0 finds;
@@ -346,9 +364,9 @@ copied_of from_tells to_tells from to to_now source target pages to_pages is_ope
 -- ---- the parts of a move
 
 -- a device that has all of these blocks, with these contents, already
-pub fills_same : (from_tells to_tells : Type 0) (from : Image) (to to_now : History) (source target : Session) (blocks : List ℕ) (has : Bool) → IsTrue has → SeesAll from_tells to_tells from to.present source target blocks has → (to_tells → Extends to to_now) → (to_tells → IsMounted to.present target)
-    → FillsOnce from_tells to_tells from to to_now source target blocks
-fills_same from_tells to_tells from to to_now source target blocks has agrees sees extends mounted = record {
+pub fills_same : (New from_tells to_tells : Type 0) (from : Image) (to to_now : History) (source target : Session) (blocks : List ℕ) (has : Bool) → IsTrue has → SeesAll from_tells to_tells from to.present source target blocks has → (to_tells → Extends to to_now) → (to_tells → IsMounted to.present target)
+    → FillsOnce from_tells to_tells from to to_now source target blocks New
+fills_same New from_tells to_tells from to to_now source target blocks has agrees sees extends mounted = record {
   begins = λ told. record { others = sees.others; listed = sees.listed told; among = subst (All (Contains blocks)) (sym (sees.same agrees).0) (All-contains_itself blocks) };
   once = record {
     image = to.present;
@@ -357,14 +375,24 @@ fills_same from_tells to_tells from to to_now source target blocks has agrees se
     mounted = mounted;
     copies = record { each = (sees.same agrees).1; others = λ told other less none. still_keeps to.present.readable target other };
   };
+  kept = inr (
+    refl,
+    refl,
+    record {
+      blocks = sees.others;
+      listed = sees.listed;
+      count = sees.count;
+      each = subst (All (IsRead to_tells to.present target)) (sym (sees.same agrees).0) (All-weaker (HasOne from_tells to_tells from to.present source target) (IsRead to_tells to.present target) (λ b one told. (one.content, one.there told)) blocks (sees.same agrees).1);
+    },
+  );
 }
 
 -- one that has no block, to which they were copied behind reads
-pub fills_copied : {X : Type 0} (from_tells to_tells : Type 0) (from from_mid : Image) (to to_mid to_now : History) (source source_mid target target_mid : Session) (blocks others : List ℕ) (result : Result X Halt)
+pub fills_copied : {X : Type 0} (New from_tells to_tells : Type 0) (from from_mid : Image) (to to_mid to_now : History) (source source_mid target target_mid : Session) (blocks others : List ℕ) (result : Result X Halt)
     → (from_tells → from_mid.readable ≡ from.readable) → source_mid.grove ≡ source.grove → (to_tells → to_mid.present.readable ≡ to.present.readable) → target_mid.grove ≡ target.grove → blocks_of target_mid ≡ blocks_of target → (to_tells → Extends to to_mid)
-    → (to_tells → HasBlocks to.present (root_of target) others) → length others ≡ 0 → IfOk result (λ x. CopiesOnce from_tells to_tells from_mid to_mid to_now source_mid target_mid blocks) → IfOk result (λ x. FillsOnce from_tells to_tells from to to_now source target blocks)
-fills_copied from_tells to_tells from from_mid to to_mid to_now source source_mid target target_mid blocks others (Err halt) from_pages source_tree to_pages target_tree same extends listed none once = tt
-fills_copied from_tells to_tells from from_mid to to_mid to_now source source_mid target target_mid blocks others (Ok x) from_pages source_tree to_pages target_tree same extends listed none once = record {
+    → New → (to_tells → HasBlocks to.present (root_of target) others) → length others ≡ 0 → IfOk result (λ x. CopiesOnce from_tells to_tells from_mid to_mid to_now source_mid target_mid blocks) → IfOk result (λ x. FillsOnce from_tells to_tells from to to_now source target blocks New)
+fills_copied New from_tells to_tells from from_mid to to_mid to_now source source_mid target target_mid blocks others (Err halt) from_pages source_tree to_pages target_tree same extends new listed none once = tt
+fills_copied New from_tells to_tells from from_mid to to_mid to_now source source_mid target target_mid blocks others (Ok x) from_pages source_tree to_pages target_tree same extends new listed none once = record {
   begins = λ told. record { others = others; listed = listed told; among = λ k d inside. absurd (omega (arith, inside, none)) };
   once = record {
     image = once.image;
@@ -381,6 +409,7 @@ fills_copied from_tells to_tells from from_mid to to_mid to_now source source_mi
       others = λ told other less apart. keeps_as to.present to_mid.present once.image target target_mid once.session other (to_pages told) target_tree (once.copies.others told other (omega (arith, less, same)) apart);
     };
   };
+  kept = inl new;
 }
   where
     keeps_as : (image later after : Image) (one between now : Session) (block : ℕ) → later.readable ≡ image.readable → between.grove ≡ one.grove → KeepsBlock later.readable after.readable between now block → KeepsBlock image.readable after.readable one now block
@@ -390,24 +419,27 @@ fills_copied from_tells to_tells from from_mid to to_mid to_now source source_mi
     }
 
 -- a device that is new
-pub fills_new : {X : Type 0} (from_tells to_tells : Type 0) (from from_mid : Image) (to to_now : History) (source target : Session) (blocks : List ℕ) (result : Result X Halt) → (from_tells → from_mid ≡ from) → (to_tells → HasBlocks to.present (root_of target) [])
-    → IfOk result (λ x. CopiesOnce from_tells to_tells from_mid to to_now source target blocks) → IfOk result (λ x. FillsOnce from_tells to_tells from_mid to to_now source target blocks)
-fills_new from_tells to_tells from from_mid to to_now source target blocks (Err halt) same listed once = tt
-fills_new from_tells to_tells from from_mid to to_now source target blocks (Ok x) same listed once = record {
+pub fills_new : {X : Type 0} (New from_tells to_tells : Type 0) (from : Image) (to to_now : History) (source target : Session) (blocks : List ℕ) (result : Result X Halt) → New → (to_tells → HasBlocks to.present (root_of target) [])
+    → IfOk result (λ x. CopiesOnce from_tells to_tells from to to_now source target blocks) → IfOk result (λ x. FillsOnce from_tells to_tells from to to_now source target blocks New)
+fills_new New from_tells to_tells from to to_now source target blocks (Err halt) new listed once = tt
+fills_new New from_tells to_tells from to to_now source target blocks (Ok x) new listed once = record {
   begins = λ told. record { others = []; listed = listed told; among = All-nil (Contains blocks) };
   once = once;
+  kept = inl new;
 }
 
 -- all blocks of a device, which were listed before
-pub filled : {X : Type 0} (from_tells to_tells : Type 0) (from from_mid : Image) (to to_now : History) (source target : Session) (blocks : List ℕ) (result : Result X Halt) → (from_tells → from_mid ≡ from) → (from_tells → HasBlocks from (root_of source) blocks) → length blocks ≡ (root_of source).mapped
-    → blocks_of target ≡ blocks_of source → IfOk result (λ x. FillsOnce from_tells to_tells from_mid to to_now source target blocks) → IfOk result (λ x. IsFilled from_tells to_tells from to to_now source target)
-filled from_tells to_tells from from_mid to to_now source target blocks (Err halt) same listed count alike fills = tt
-filled from_tells to_tells from from_mid to to_now source target blocks (Ok x) same listed count alike fills = record {
+pub filled : {X : Type 0} (New More from_tells to_tells : Type 0) (from from_mid : Image) (to to_now : History) (source target : Session) (blocks : List ℕ) (result : Result X Halt) → (from_tells → from_mid ≡ from) → (from_tells → HasBlocks from (root_of source) blocks) → length blocks ≡ (root_of source).mapped
+    → blocks_of target ≡ blocks_of source → (root_of target).order ≡ (root_of source).order → (New → More) → IfOk result (λ x. FillsOnce from_tells to_tells from_mid to to_now source target blocks New) → IfOk result (λ x. IsFilled from_tells to_tells from to to_now source target More)
+filled New More from_tells to_tells from from_mid to to_now source target blocks (Err halt) same listed count alike same_order more fills = tt
+filled New More from_tells to_tells from from_mid to to_now source target blocks (Ok x) same listed count alike same_order more fills = record {
   blocks = blocks;
   listed = listed;
   count = count;
   alike = alike;
+  same_order = same_order;
   fills = record {
+    kept = widen fills.kept;
     begins = fills.begins;
     once = record {
       image = fills.once.image;
@@ -422,6 +454,10 @@ filled from_tells to_tells from from_mid to to_now source target blocks (Ok x) s
     };
   };
 }
+  where
+    widen : {Kept : Type 0} → New ⊎ Kept → More ⊎ Kept
+    widen (inl new) = inl (more new)
+    widen (inr kept) = inr kept
 
 -- a session on a device that is new: there was none, and its root record says that no block is mapped
 pub new_on : (image : Image) (blocks order : ℕ) (is_new : Bool) (session : Session) → IsTrue is_new → IsOn image blocks order is_new session → (image.cell ≡ None) × (session.root.mapped ≡ 0)
@@ -440,14 +476,12 @@ lists_none image root parts fits tree none =
     by (m ∷ ms) is = absurd (omega (arith, is))
 
 -- behind an opening
-pub moved_all : {X : Type 0} (from_tells to_tells : Type 0) (from : Image) (to to_mid to_now : History) (source target : Session) (pages to_pages : ℕ) (result : Result X Halt) → IsOpen source pages → (from_tells → IsMounted from source) → IsOpen target to_pages → is_touched target ≡ false → (to_tells → Extends to to_mid)
-    → IfOk result (λ x. IsReadThrough from_tells from source) → IfOk result (λ x. IsFilled from_tells to_tells from to_mid to_now source target) → IfOk result (λ x. IsMoved from_tells to_tells from to to_now source)
-moved_all from_tells to_tells from to to_mid to_now source target pages to_pages (Err halt) is_open mounted target_open target_untouched extends read fills = tt
-moved_all from_tells to_tells from to to_mid to_now source target pages to_pages (Ok x) is_open mounted target_open target_untouched extends read fills = record {
+pub moved_all : {X : Type 0} (from_tells to_tells : Type 0) (from : Image) (first to to_now : History) (blocks order : ℕ) (is_new : Bool) (source target : Session) (pages to_pages : ℕ) (result : Result X Halt) → IsOpen source pages → (from_tells → IsMounted from source) → IsOpen target to_pages → IsIdle target
+    → (to_tells → IsMounted to.present target) → (to_tells → IsOn first.present blocks order is_new target) → (to_tells → Extends first to) → IfOk result (λ x. IsReadThrough from_tells from source) → IfOk result (λ x. IsFilled from_tells to_tells from to to_now source target (IsNew is_new target))
+    → IfOk result (λ x. IsMoved from_tells to_tells from first to_now source)
+moved_all from_tells to_tells from first to to_now blocks order is_new source target pages to_pages (Err halt) is_open mounted target_open idle target_mounted on extends read fills = tt
+moved_all from_tells to_tells from first to to_now blocks order is_new source target pages to_pages (Ok x) is_open mounted target_open idle target_mounted on extends read fills = record {
   read = read;
   copied = λ untouched from_told to_told.
-      (let c = copied_of from_tells to_tells from to_mid to_now source target pages to_pages is_open untouched (mounted from_told).cell target_open target_untouched from_told to_told fills in
-      let later = (extends to_told).later in
-      let since = c.within.1 in
-      record { whole = c.whole; contents = c.contents; are = c.are; image = c.image; within = (c.within.0, omega (arith, later, since), c.within.2, c.within.3); session = c.session; mounted = c.mounted; each = c.each });
+      copied_of from_tells to_tells from first to to_now blocks order is_new source target pages to_pages is_open untouched (mounted from_told).cell target_open idle (target_mounted to_told) (on to_told) (extends to_told) from_told to_told fills;
 }

@@ -1,5 +1,5 @@
 -- What a move that was done found of a device, on any pages.
-use Rattle.std.specs.Prelude.{◌≡◌, ◌<◌, ◌≤◌, ℕ, Bool, false, Contains, List, All, IsTrue, Result, OnOk, length, map}
+use Rattle.std.specs.Prelude.{◌≡◌, ◌<◌, ◌≤◌, ◌⊎◌, ℕ, None, Bool, false, Contains, List, All, IsTrue, Result, OnOk, length, map}
 use Rattle.std.specs.FinMap.{from_entries}
 use Rattle.sdbt_base.specs.Arrays.{Blocks, content_of}
 use Rattle.platform.specs.History.{History, image_at, moment}
@@ -9,10 +9,11 @@ use Rattle.page_store.specs.Kept.{IsRootOf}
 use Rattle.page_store.specs.Stands.{pairs_of}
 use Rattle.page_store.specs.Tree.{Parts, Tree}
 use Rattle.btree_walk.specs.Nodes.{Node, NodesOf, listed}
-use Rattle.device_session.specs.Open.{blocks_of, is_touched, root_of}
+use Rattle.device_session.specs.Open.{blocks_of, is_touched, number_of, root_of}
 use Rattle.device_session.specs.Reading.{FindsContent, KeepsBlock}
 use Rattle.device_session.specs.Sessions.{Session}
 use Rattle.session_calls.specs.Damage.{IsMounted, IsWrongPage}
+use Rattle.transfer.specs.Refusals.{IsFreshRoot}
 use Rattle.transfer.specs.declared.halts.Halt.{Halt}
 
 -- each node below the root record fits its place, and these are the blocks of their entries, in their order
@@ -53,24 +54,33 @@ pub record CopiesOnce (from_tells to_tells : Type 0) (from : Image) (to to_now :
   pub mounted : to_tells → IsMounted image session
   pub copies : CopiesTree from_tells to_tells from to.present image source target session blocks
 
+-- a session's tree was read: its nodes, of which these are the blocks, as many as the root record says, and the content of each of these
+pub record IsReadThrough (tells : Type 0) (image : Image) (session : Session) : Type 0 where
+  pub blocks : List ℕ
+  pub listed : tells → HasBlocks image (root_of session) blocks
+  pub count : length blocks ≡ (root_of session).mapped
+  pub each : All (IsRead tells image session) blocks
+
 -- each node of the second device's tree fit its place, and it had none but these blocks
 pub record BeginsWithin (image : Image) (target : Session) (blocks : List ℕ) : Type 0 where
   pub others : List ℕ
   pub listed : HasBlocks image (root_of target) others
   pub among : All (Contains blocks) others
 
--- these blocks were copied to a device that had none but them
-pub record FillsOnce (from_tells to_tells : Type 0) (from : Image) (to to_now : History) (source target : Session) (blocks : List ℕ) : Type 0 where
+-- these blocks were copied to a device that had none but them. Either this holds, or nothing was written, and that device was read through too
+pub record FillsOnce (from_tells to_tells : Type 0) (from : Image) (to to_now : History) (source target : Session) (blocks : List ℕ) (New : Type 0) : Type 0 where
   pub begins : to_tells → BeginsWithin to.present target blocks
   pub once : CopiesOnce from_tells to_tells from to to_now source target blocks
+  pub kept : New ⊎ ((once.session ≡ target) × (once.image ≡ to.present) × IsReadThrough to_tells to.present target)
 
--- all blocks of a device were, to one of as many blocks
-pub record IsFilled (from_tells to_tells : Type 0) (from : Image) (to to_now : History) (source target : Session) : Type 0 where
+-- all blocks of a device were, to one as large and of the same order
+pub record IsFilled (from_tells to_tells : Type 0) (from : Image) (to to_now : History) (source target : Session) (New : Type 0) : Type 0 where
   pub blocks : List ℕ
   pub listed : from_tells → HasBlocks from (root_of source) blocks
   pub count : length blocks ≡ (root_of source).mapped
   pub alike : blocks_of target ≡ blocks_of source
-  pub fills : FillsOnce from_tells to_tells from to to_now source target blocks
+  pub same_order : (root_of target).order ≡ (root_of source).order
+  pub fills : FillsOnce from_tells to_tells from to to_now source target blocks New
 
 -- the nodes of the second device's tree fit, and these are their blocks, as many as its root record says; they are those of the first one, and each has one content on both, where it is found so
 pub record SeesAll (from_tells to_tells : Type 0) (from to : Image) (source target : Session) (blocks : List ℕ) (has : Bool) : Type 0 where
@@ -78,13 +88,6 @@ pub record SeesAll (from_tells to_tells : Type 0) (from to : Image) (source targ
   pub listed : to_tells → HasBlocks to (root_of target) others
   pub count : length others ≡ (root_of target).mapped
   pub same : IsTrue has → (others ≡ blocks) × All (HasOne from_tells to_tells from to source target) blocks
-
--- a session's tree was read: its nodes, of which these are the blocks, as many as the root record says, and the content of each of these
-pub record IsReadThrough (tells : Type 0) (image : Image) (session : Session) : Type 0 where
-  pub blocks : List ℕ
-  pub listed : tells → HasBlocks image (root_of session) blocks
-  pub count : length blocks ≡ (root_of session).mapped
-  pub each : All (IsRead tells image session) blocks
 
 -- the root record in the cell has a tree: each node and each data record fits its place, and as many blocks are mapped as it says. So there is no page that a run could name
 pub record HasWholeTree (image : Image) : Type 0 where
@@ -95,8 +98,16 @@ pub record HasWholeTree (image : Image) : Type 0 where
   pub count : length parts.mapped ≡ root.mapped
   pub sound : (addr : ℕ) → IsWrongPage image addr → ⊥
 
+-- there was no device, or one as large and of the same order that was never written
+abbrev pub WasFresh : Root → Image → Type 0
+WasFresh root image = (image.cell ≡ None) ⊎ ((other : Root) × IsRootOf image other × IsFreshRoot root.blocks root.order other)
+
+-- the session's device is new, or was never written
+abbrev pub IsNew : Bool → Session → Type 0
+IsNew is_new session = IsTrue is_new ⊎ ((number_of session ≡ 0) × (session.mapped ≡ 0))
+
 -- all of the first device was copied: at a moment of this time a session was open on the second one, on the root record in its cell, in whose tree a look-up of each block of the device
--- comes to the content that the first one's whole tree has
+-- comes to the content that the first one's whole tree has. Where there was a device that had been written, its own tree is whole too, and that session has no change
 pub record IsCopied (from : Image) (to to_now : History) : Type 0 where
   pub whole : HasWholeTree from
   pub contents : Blocks
@@ -105,6 +116,7 @@ pub record IsCopied (from : Image) (to to_now : History) : Type 0 where
   pub within : IsWithin to to_now image
   pub session : Session
   pub mounted : IsMounted image session
+  pub kept : WasFresh whole.root to.present ⊎ (HasWholeTree image × (is_touched session ≡ false))
   pub each : (block : ℕ) → block < whole.root.blocks → FindsContent image.readable session.grove block (content_of contents block)
 
 -- a session's tree was read through, and where that had no change, all of it was copied

@@ -16,7 +16,7 @@ ghost use Rattle.transfer.specs.Both.{AreReady, FillsBoth, ReadsBoth};
 ghost use Rattle.transfer.specs.Counts.{counts};
 ghost use Rattle.transfer.specs.Halts.{Blames};
 ghost use Rattle.session_calls.specs.Spans.{Spans};
-ghost use Rattle.transfer.specs.Whole.{CopiesOnce, FillsOnce, HasBlocks, HasWholeTree, IsCopied, IsFilled, IsMoved, IsRead, IsReadThrough, SeesAll};
+ghost use Rattle.transfer.specs.Whole.{CopiesOnce, FillsOnce, HasBlocks, HasWholeTree, IsCopied, IsFilled, IsMoved, IsNew, IsRead, IsReadThrough, SeesAll};
 ghost use Rattle.transfer.specs.Running.{Clears, HasMapped, IsBehindMount, Looked, LookedThere, MeetsWrong, alone};
 
 use crate::copying::{commit_target, copy_blocks};
@@ -180,7 +180,7 @@ fn fill_target<P: Platform, Q: Platform, T: Tape, L: Sink>(
     ensures unlike { ((blocks_of source.old ≡ blocks_of target) × ((root_of source.old).order ≡ (root_of target).order) → ⊥) → result ≡ Err Halt.NotEmpty }
     ensures read { IfOk result (λ number. IsReadThrough P.tells (P.history from.old).present source.old) }
     ensures fills { (IsTrue is_new → Q.tells → HasBlocks (Q.history to.old).present (root_of target) []) → IsIdle target
-        → IfOk result (λ number. IsFilled P.tells Q.tells (P.history from.old).present (Q.history to.old) (Q.history to.new) source.old target) }
+        → IfOk result (λ number. IsFilled P.tells Q.tells (P.history from.old).present (Q.history to.old) (Q.history to.new) source.old target (IsNew is_new target)) }
     ensures leads { P.tells → Q.tells → (device there : Device) → IsAt (P.history from.old).present (Some source.old) (mounted device (session_on device))
         → IsAt (Q.history to.old).present (Some target) (mounted there (session_on there)) → (IsTrue is_new → IsBlank device there)
         → Reaches (Q.history to.old) (Q.history to.new) device (Some there) (IsShort device 0 (Q.capacity to.old - Q.head to.old)) result }
@@ -210,7 +210,8 @@ fn fill_found<P: Platform, Q: Platform, T: Tape, L: Sink>(
     requires { AreReady P.tells Q.tells (alone P.Platform from.old) (around Q.Platform T.Tape L.Sink to.old tape.old ledger.old) source.old found blocks.now }
     ensures both { FillsBoth P.Platform Q.Platform T.Tape L.Sink from.old from.new to.old to.new tape.old tape.new ledger.old ledger.new source.old source.new found result }
     ensures refused { needed_by found ≡ 0 → IfErr result (HaltsAt ((number_of found ≡ 0) × (found.mapped ≡ 0)) (length blocks.now) (Q.capacity to.old - Q.head to.old)) }
-    ensures fills { found.mapped ≡ (root_of found).mapped → IfOk result (λ number. FillsOnce P.tells Q.tells (P.history from.old).present (Q.history to.old) (Q.history to.new) source.old found blocks.now) }
+    ensures fills { found.mapped ≡ (root_of found).mapped → IfOk result (λ number. FillsOnce P.tells Q.tells (P.history from.old).present (Q.history to.old) (Q.history to.new) source.old found blocks.now
+        ((number_of found ≡ 0) × (found.mapped ≡ 0))) }
     ensures read { IfOk result (λ number. All (IsRead P.tells (P.history from.old).present source.old) blocks.now) }
     ensures leads { P.tells → Q.tells → (device there : Device) → IsAt (P.history from.old).present (Some source.old) (mounted device (session_on device))
         → IsAt (Q.history to.old).present (Some found) (mounted there (session_on there)) → blocks.now ≡ map.keys device.contents → IsAlike device there

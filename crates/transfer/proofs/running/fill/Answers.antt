@@ -83,8 +83,8 @@ returns-clause-moves g c =
     let Q = g.Q.Platform in
     let target = c.in_ok-target.ensures.target in
     let session : Session = c.in_ok-target.target.session in
-    moved_all P.tells Q.tells (P.history c.args.from.now).present (Q.history c.args.to.now) (Q.history c.open_target.new.to) (Q.history c.fill_target.new.to) c.args.source.now session (P.head c.args.from.now) (Q.head c.open_target.new.to) c.fill_target.result
-    c.requires.ready.is_open c.requires.ready.mounted target.opened.ready.is_open target.idle.untouched (λ told. target.opened.keeps.keys.extends told) c.fill_target.ensures.read
+    moved_all P.tells Q.tells (P.history c.args.from.now).present (Q.history c.args.to.now) (Q.history c.open_target.new.to) (Q.history c.fill_target.new.to) c.blocks-blocks.result c.root.result.now.order c.in_ok-target.target.is_new c.args.source.now session (P.head c.args.from.now) (Q.head c.open_target.new.to) c.fill_target.result
+    c.requires.ready.is_open c.requires.ready.mounted target.opened.ready.is_open target.idle target.opened.ready.mounted target.on (λ told. target.opened.keeps.keys.extends told) c.fill_target.ensures.read
     (c.fill_target.ensures.fills (λ new told.
     (let on = new_on (Q.history c.args.to.now).present c.blocks-blocks.result c.root.result.now.order c.in_ok-target.target.is_new session new (target.on told) in
     let opened = target.opened.made told None on.0 (subst (λ (cell : Option (List ℕ)). IsServedCell cell (length (Q.history c.args.to.now).present.recorded)) (sym on.0) tt) in

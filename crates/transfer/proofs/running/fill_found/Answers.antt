@@ -140,7 +140,7 @@ pub returns-then-has-clause-fills : goal.returns-then-has-clause-fills
 returns-then-has-clause-fills g c idle =
     let P = g.P.Platform in
     let Q = g.Q.Platform in
-    fills_same P.tells Q.tells (P.history c.args.from.now).present (Q.history c.args.to.now) (Q.history c.has_all.new.to) c.args.source.now c.args.found c.args.blocks.now true refl (subst (SeesAll P.tells Q.tells (P.history c.args.from.now).present (Q.history c.args.to.now).present c.args.source.now c.args.found c.args.blocks.now) c.if-has.true c.in_ok-has.ensures.sees)
+    fills_same _ P.tells Q.tells (P.history c.args.from.now).present (Q.history c.args.to.now) (Q.history c.has_all.new.to) c.args.source.now c.args.found c.args.blocks.now true refl (subst (SeesAll P.tells Q.tells (P.history c.args.from.now).present (Q.history c.args.to.now).present c.args.source.now c.args.found c.args.blocks.now) c.if-has.true c.in_ok-has.ensures.sees)
     (λ told. ((c.has_all.ensures.both.to no_draw).cell told).extends) c.requires.target.mounted
 
 pub returns-then-fresh-clause-fills : goal.returns-then-fresh-clause-fills
@@ -152,7 +152,7 @@ returns-then-fresh-clause-fills g c idle =
     let sees = c.in_ok-has.ensures.sees in
     let fresh = c.is_fresh-fresh.ensures.0 c.if-fresh.true in
     let none : c.args.found.mapped ≡ 0 = fresh.1 in
-    fills_copied P.tells Q.tells (P.history c.args.from.now).present (P.history c.has_all.new.from).present (Q.history c.args.to.now) (Q.history c.has_all.new.to) (Q.history c.copy.new.to) c.args.source.now c.has_all.new.source c.args.found c.has_all.new.target c.args.blocks.now sees.others c.copy.result
+    fills_copied _ P.tells Q.tells (P.history c.args.from.now).present (P.history c.has_all.new.from).present (Q.history c.args.to.now) (Q.history c.has_all.new.to) (Q.history c.copy.new.to) c.args.source.now c.has_all.new.source c.args.found c.has_all.new.target c.args.blocks.now sees.others c.copy.result
     (pages_same P c.args.from.now c.has_all.new.from no_draw no_draw c.args.source.now c.has_all.new.source g.met.P.Platform.counts_pages source) c.in_ok-has.ensures.both.trees.0
     (pages_same Q c.args.to.now c.has_all.new.to no_draw no_draw c.args.found c.has_all.new.target g.met.Q.Platform.counts_pages target) c.in_ok-has.ensures.both.trees.1 target.blocks
-    (λ told. (target.cell told).extends) sees.listed (sees.count ∙ (sym idle ∙ none)) c.copy.ensures.copied
+    (λ told. (target.cell told).extends) fresh sees.listed (sees.count ∙ (sym idle ∙ none)) c.copy.ensures.copied

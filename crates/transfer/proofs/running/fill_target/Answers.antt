@@ -1,4 +1,4 @@
-use Rattle.std.proofs.Common.{◌≡◌, ◌∙◌, Some, false, true, refl, sym, ap, subst, length, ◌<◌, ℕ, List, arith}
+use Rattle.std.proofs.Common.{◌≡◌, ◌∙◌, inl, inr, Some, false, true, refl, sym, ap, subst, length, ◌<◌, ℕ, List, arith}
 use Rattle.std.specs.Prelude.{All}
 use Rattle.device_session.specs.Open.{blocks_of}
 use Rattle.sdbt_base.specs.Arrays.{mounted, session_on}
@@ -152,9 +152,9 @@ returns-then-is_new-clause-fills g c new idle =
     let Q = g.Q.Platform in
     let image : Image = (P.history c.args.from.now).present in
     let mid : Image = (P.history c.list_source.new.from).present in
-    filled P.tells Q.tells image mid (Q.history c.args.to.now) (Q.history c.copy.new.to) c.args.source.now c.args.target c.deref.result.now c.copy.result c.list_source.ensures.image
-    (λ told. subst (HasBlocks image c.args.source.now.root) (sym c.deref.ensures.value) (c.in_ok-blocks.ensures.listed told)) (ap length c.deref.ensures.value ∙ c.in_ok-blocks.ensures.count) (sym (c.if-not-is_alike.ensures.0 refl).0)
-    (fills_new P.tells Q.tells image mid (Q.history c.args.to.now) (Q.history c.copy.new.to) c.args.source.now c.args.target c.deref.result.now c.copy.result c.list_source.ensures.image (new c.if-is_new.true) c.copy.ensures.copied)
+    filled _ _ P.tells Q.tells image mid (Q.history c.args.to.now) (Q.history c.copy.new.to) c.args.source.now c.args.target c.deref.result.now c.copy.result c.list_source.ensures.image
+    (λ told. subst (HasBlocks image c.args.source.now.root) (sym c.deref.ensures.value) (c.in_ok-blocks.ensures.listed told)) (ap length c.deref.ensures.value ∙ c.in_ok-blocks.ensures.count) (sym (c.if-not-is_alike.ensures.0 refl).0) (sym (c.if-not-is_alike.ensures.0 refl).1) inl
+    (fills_new _ P.tells Q.tells mid (Q.history c.args.to.now) (Q.history c.copy.new.to) c.args.source.now c.args.target c.deref.result.now c.copy.result c.if-is_new.true (new c.if-is_new.true) c.copy.ensures.copied)
 
 pub returns-clause-fills : goal.returns-clause-fills
 returns-clause-fills g c new idle =
@@ -162,6 +162,6 @@ returns-clause-fills g c new idle =
     let Q = g.Q.Platform in
     let image : Image = (P.history c.args.from.now).present in
     let mid : Image = (P.history c.list_source.new.from).present in
-    filled P.tells Q.tells image mid (Q.history c.args.to.now) (Q.history c.fill_found.new.to) c.args.source.now c.args.target c.deref-else-is_new.result.now c.fill_found.result c.list_source.ensures.image
-    (λ told. subst (HasBlocks image c.args.source.now.root) (sym c.deref-else-is_new.ensures.value) (c.in_ok-blocks.ensures.listed told)) (ap length c.deref-else-is_new.ensures.value ∙ c.in_ok-blocks.ensures.count) (sym (c.if-not-is_alike.ensures.0 refl).0)
+    filled _ _ P.tells Q.tells image mid (Q.history c.args.to.now) (Q.history c.fill_found.new.to) c.args.source.now c.args.target c.deref-else-is_new.result.now c.fill_found.result c.list_source.ensures.image
+    (λ told. subst (HasBlocks image c.args.source.now.root) (sym c.deref-else-is_new.ensures.value) (c.in_ok-blocks.ensures.listed told)) (ap length c.deref-else-is_new.ensures.value ∙ c.in_ok-blocks.ensures.count) (sym (c.if-not-is_alike.ensures.0 refl).0) (sym (c.if-not-is_alike.ensures.0 refl).1) inr
     (c.fill_found.ensures.fills idle.mapped)
