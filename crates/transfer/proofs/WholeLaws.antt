@@ -10,10 +10,10 @@ use Rattle.std.proofs.lemmas.Result.{IfOk-weaker}
 use Rattle.key_graph.proofs.ChainLaws.{map_contains}
 use Rattle.sdbt_base.specs.Arrays.{Blocks, content_of, padded}
 use Rattle.platform.specs.Calls.{Looks}
-use Rattle.platform.specs.History.{Extends, History, moment}
+use Rattle.platform.specs.History.{CellStays, Extends, History, moment}
 use Rattle.platform.specs.Image.{Image}
 use Rattle.platform.specs.declared.platforms.Platform.{Ghosts as PlatformGhosts}
-use Rattle.platform.proofs.Moments.{Extends-earlier, image_at-now, whole-now}
+use Rattle.platform.proofs.Moments.{During-now, Extends-earlier, image_at-now, whole-now}
 use Rattle.node_codec.specs.declared.body.Entry.{Entry}
 use Rattle.root_codec.specs.Laws.{one_root}
 use Rattle.root_codec.specs.RootRecord.{FitsRoot, root_bytes}
@@ -43,7 +43,7 @@ use Rattle.session_calls.specs.declared.stops.DeviceStop.{DeviceStop}
 use Rattle.device_session.proofs.KeepLaws.{block_then, still_keeps}
 use Rattle.device_session.proofs.OrderLaws.{places_up}
 use Rattle.device_session.proofs.ReadLaws.{HasRecord, IsArray, content_none, entry_read, grove_maps, grove_tiles, parts_records}
-use Rattle.transfer.specs.Whole.{BeginsWithin, CopiesOnce, CopiesTree, FillsOnce, HasBlocks, HasOne, HasWholeTree, IsCopied, IsFilled, IsMoved, IsNew, IsRead, IsReadThrough, IsWithin, SeesAll, WasFresh}
+use Rattle.transfer.specs.Whole.{BeginsWithin, CopiesOnce, CopiesTree, FillsOnce, HasBlocks, HasOne, HasWholeTree, IsCopied, IsFilled, IsMoved, IsNew, IsRead, IsReadThrough, IsWholeMove, IsWithin, MovesWhole, SeesAll, WasFresh, WhereDone}
 use Rattle.transfer.specs.Refusals.{IsIdle, IsOn}
 use Rattle.transfer.specs.declared.halts.Halt.{Halt}
 use Rattle.transfer.specs.declared.halts.Moved.{Moved}
@@ -222,15 +222,31 @@ pub whole_tree : (tells : Type 0) (image : Image) (session : Session) (pages : �
 whole_tree tells image session pages is_open untouched cell told read = (whole_with tells image session pages is_open untouched cell told read).0
 
 -- so it is where a mount found the session
-pub whole_found : {S : Type 0} (to_tells : Type 0) (P : PlatformGhosts S) (platform mid : S) (to to_now : History) (session : Session) (mount : Result (Option Session) DeviceStop) (result : Result Moved Halt) → mount ≡ Ok (Some session) → Looks P platform mid → IfOk mount (IsFound P 256 platform mid)
-    → IfOk result (λ moved. IsMoved P.tells to_tells (P.history mid).present to to_now session) → IfOk result (λ moved. (P.tells → HasWholeTree (P.history platform).present) × (P.tells → to_tells → IsCopied (P.history platform).present to to_now))
-whole_found to_tells P platform mid to to_now session mount result is looks finds moves =
-    let found : IsFound P 256 platform mid (Some session) = found_at P platform mid session mount is finds in
-    IfOk-weaker result (λ moved. IsMoved P.tells to_tells (P.history mid).present to to_now session) (λ moved. (P.tells → HasWholeTree (P.history platform).present) × (P.tells → to_tells → IsCopied (P.history platform).present to to_now))
-    (λ moved all. (
+pub whole_found : {S : Type 0} (to_tells : Type 0) (P : PlatformGhosts S) (platform mid platform_now : S) (to to_now : History) (session : Session) (mount : Result (Option Session) DeviceStop) (result : Result Moved Halt) → mount ≡ Ok (Some session) → Looks P platform mid → IfOk mount (IsFound P 256 platform mid)
+    → WhereDone P.tells (P.history platform_now).present result (IsMoved P.tells to_tells (P.history mid).present to to_now session) → MovesWhole P.tells to_tells (P.history platform).present (P.history platform_now).present to to_now result
+whole_found to_tells P platform mid platform_now to to_now session mount result is looks finds moves = record {
+  done = IfOk-weaker result (λ moved. IsMoved P.tells to_tells (P.history mid).present to to_now session) (λ moved. IsWholeMove P.tells to_tells (P.history platform).present to to_now) (λ moved all. by all) moves.0;
+  cleared = λ told full empty. by (moves.1 told empty);
+}
+  where
+    found : IsFound P 256 platform mid (Some session)
+    found = found_at P platform mid session mount is finds
+
+    by : IsMoved P.tells to_tells (P.history mid).present to to_now session → IsWholeMove P.tells to_tells (P.history platform).present to to_now
+    by all = (
       (λ told. subst HasWholeTree (looks.image told) (whole_tree P.tells (P.history mid).present session (P.head mid) found.0.is_open found.0.untouched (found.1 told).cell told all.read)),
       (λ told to_told. subst (λ (i : Image). IsCopied i to to_now) (looks.image told) (all.copied found.0.untouched told to_told)),
-    )) moves
+    )
+
+-- where none was opened, the cell is as it was
+pub whole_looked : {S : Type 0} (to_tells : Type 0) (P : PlatformGhosts S) (platform mid : S) (to to_now : History) (halt : Halt) → Looks P platform mid → MovesWhole {X = Moved} P.tells to_tells (P.history platform).present (P.history mid).present to to_now (Err halt)
+whole_looked to_tells P platform mid to to_now halt looks = record { done = tt; cleared = λ told full empty. absurd (full (sym (ap (λ (i : Image). i.cell) (looks.image told)) ∙ empty)) }
+
+-- while a session is on the root record in the cell, that isn't empty
+pub never_empty : (first mid : History) (session : Session) → CellStays first mid → IsMounted first.present session → mid.present.cell ≡ None → ⊥
+never_empty first mid session stays mounted empty =
+    let none : Some (root_bytes session.root) ≡ None = sym mounted.cell ∙ (sym (During-now first mid (λ image. image.cell ≡ first.present.cell) stays) ∙ empty) in
+    cc
 
 -- ---- all of a device was copied
 

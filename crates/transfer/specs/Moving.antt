@@ -16,7 +16,7 @@ use Rattle.transfer.specs.Copies.{HasCopy, IsCopy, IsOnWay, IsOther}
 use Rattle.transfer.specs.Halts.{EndsAs}
 use Rattle.transfer.specs.Refusals.{AreUnlike, IsRefused}
 use Rattle.transfer.specs.Running.{HasMapped, Looked, LookedThere, MeetsWrong}
-use Rattle.transfer.specs.Whole.{HasWholeTree, IsCopied}
+use Rattle.transfer.specs.Whole.{MovesWhole}
 use Rattle.transfer.specs.declared.halts.Halt.{Halt}
 use Rattle.transfer.specs.declared.halts.Halt.TheVariants as halts
 use Rattle.transfer.specs.declared.halts.Moved.{Moved}
@@ -124,7 +124,7 @@ pub record Went (from_tells to_tells : Type 0) (from from_now to to_now : Histor
   pub looked : Looked from_tells from.present moved
   pub there : LookedThere to_tells to.present moved
   pub mapped : IfOk moved (λ one. from_tells → HasMapped from.present one.blocks)
-  pub whole : IfOk moved (λ one. (from_tells → HasWholeTree from.present) × (from_tells → to_tells → IsCopied from.present to to_now))
+  pub whole : MovesWhole from_tells to_tells from.present from_now.present to to_now moved
   pub refused : IfErr moved (λ halt. from_tells → to_tells → IsRefused from.present to.present free halt)
   pub unlike : from_tells → to_tells → AreUnlike from.present to.present → Refuses moved
   pub leads : from_tells → to_tells → (device : Device) (there : Option Device) → Stands from.present (Some device) → IsServedImage from.present → Stands to.present there → IsServedImage to.present

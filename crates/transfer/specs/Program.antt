@@ -22,7 +22,7 @@ use Rattle.transfer.specs.Halts.{EndsAs, exit_of, last_line_of, moved_line}
 use Rattle.transfer.specs.Moving.{IsShort, Refuses}
 use Rattle.transfer.specs.Refusals.{AreUnlike, IsRefused}
 use Rattle.transfer.specs.Running.{HasMapped, Looked, LookedThere, MeetsWrong}
-use Rattle.transfer.specs.Whole.{HasWholeTree, IsCopied}
+use Rattle.transfer.specs.Whole.{MovesWhole}
 use Rattle.transfer.specs.declared.halts.Halt.{Halt}
 use Rattle.transfer.specs.declared.halts.Halt.TheVariants as halts
 use Rattle.transfer.specs.declared.halts.Moved.{Moved}
@@ -54,7 +54,7 @@ pub record Exits (words : List (List ℕ)) (status : ℕ) (before now : Counts) 
 
 -- how a run went that was given no words: it moved a device, or halted; what it said of that, and its status. A record that is named doesn't fit its place; and that there is no device to be
 -- moved, or that its root record can't be served, is said exactly where that was so, but for faults of its platform. On any images it is refused only as the root records in the cells say,
--- and where these are of other numbers of blocks, or of other orders, nothing is moved. A device is moved only where its tree is whole, and was copied block by block. So many pages were free on the second platform
+-- and where these are of other numbers of blocks, or of other orders, nothing is moved. A device is moved, or its root record cleared, only where its tree is whole, and all of it was copied. So many pages were free on the second platform
 pub record Ran (from_tells to_tells : Type 0) (first : Image) (first_to : History) (from : Image) (to : History) (free status : ℕ) (written written_now : Option (List ℕ)) : Type 0 where
   pub moved : Result Moved Halt
   pub ending : Result (Unit {0}) Halt
@@ -64,7 +64,7 @@ pub record Ran (from_tells to_tells : Type 0) (first : Image) (first_to : Histor
   pub looked : Looked from_tells first moved
   pub there : LookedThere to_tells first_to.present moved
   pub mapped : IfOk moved (λ one. from_tells → HasMapped first one.blocks)
-  pub whole : IfOk moved (λ one. (from_tells → HasWholeTree first) × (from_tells → to_tells → IsCopied first first_to to))
+  pub whole : MovesWhole from_tells to_tells first from first_to to moved
   pub refused : IfErr moved (λ halt. from_tells → to_tells → IsRefused first first_to.present free halt)
   pub unlike : from_tells → to_tells → AreUnlike first first_to.present → Refuses moved
 

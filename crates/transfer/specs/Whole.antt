@@ -1,5 +1,5 @@
 -- What a move that was done found of a device, on any pages.
-use Rattle.std.specs.Prelude.{◌≡◌, ◌<◌, ◌≤◌, ◌⊎◌, ℕ, None, Bool, false, Contains, List, All, IsTrue, Result, OnOk, length, map}
+use Rattle.std.specs.Prelude.{◌≡◌, ◌<◌, ◌≤◌, ◌⊎◌, ℕ, None, Bool, false, Contains, List, All, IfOk, IsTrue, Result, OnOk, length, map}
 use Rattle.std.specs.FinMap.{from_entries}
 use Rattle.sdbt_base.specs.Arrays.{Blocks, content_of}
 use Rattle.platform.specs.History.{History, image_at, moment}
@@ -123,3 +123,16 @@ pub record IsCopied (from : Image) (to to_now : History) : Type 0 where
 pub record IsMoved (from_tells to_tells : Type 0) (from : Image) (to to_now : History) (source : Session) : Type 0 where
   pub read : IsReadThrough from_tells from source
   pub copied : is_touched source ≡ false → from_tells → to_tells → IsCopied from to to_now
+
+-- where a part of a move was done, or the first platform's cell is empty behind it, this holds
+abbrev pub WhereDone : {X : Type 0} → Type 0 → Image → Result X Halt → Type 0 → Type 0
+WhereDone tells from_now result Holds = IfOk result (λ x. Holds) × (tells → from_now.cell ≡ None → Holds)
+
+-- the first device's tree is whole, and all of it was copied
+abbrev pub IsWholeMove : Type 0 → Type 0 → Image → History → History → Type 0
+IsWholeMove from_tells to_tells from to to_now = (from_tells → HasWholeTree from) × (from_tells → to_tells → IsCopied from to to_now)
+
+-- so it is where a device was moved, and wherever its root record was cleared, whatever is answered
+pub record MovesWhole {X : Type 0} (from_tells to_tells : Type 0) (from from_now : Image) (to to_now : History) (result : Result X Halt) : Type 0 where
+  pub done : IfOk result (λ x. IsWholeMove from_tells to_tells from to to_now)
+  pub cleared : from_tells → (from.cell ≡ None → ⊥) → from_now.cell ≡ None → IsWholeMove from_tells to_tells from to to_now

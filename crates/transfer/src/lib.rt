@@ -47,7 +47,7 @@ pub fn run_transfer<P: Platform, Q: Platform, T: Tape, O: Sink, L: Sink>(
         (counts (P.faults from.new) (Q.faults to.new) (T.faults tape.new) (O.faults output.new) (L.faults ledger.new)) }
     ensures other_words { result ≡ 2 → (from.new ≡ from.old) × (to.new ≡ to.old) × (tape.new ≡ tape.old) × (output.new ≡ output.old) × (ledger.new ≡ ledger.old) }
 
-    // What was said, and, on any pages, which record is named, and when nothing is moved.
+    // What was said, and, on any pages, which record is named, when nothing is moved, and that what is moved is whole.
     ensures ran { map string_bytes words.now ≡ [] → Ran P.tells Q.tells (P.history from.old).present (Q.history to.old) (P.history from.new).present (Q.history to.new) (Q.capacity to.old - Q.head to.old) result
         (O.written output.old) (O.written output.new) }
 

@@ -16,7 +16,7 @@ ghost use Rattle.transfer.specs.Both.{AreReady, FillsBoth, ReadsBoth};
 ghost use Rattle.transfer.specs.Counts.{counts};
 ghost use Rattle.transfer.specs.Halts.{Blames};
 ghost use Rattle.session_calls.specs.Spans.{Spans};
-ghost use Rattle.transfer.specs.Whole.{CopiesOnce, FillsOnce, HasBlocks, HasWholeTree, IsCopied, IsFilled, IsMoved, IsNew, IsRead, IsReadThrough, SeesAll};
+ghost use Rattle.transfer.specs.Whole.{CopiesOnce, FillsOnce, HasBlocks, IsFilled, IsMoved, IsNew, IsRead, IsReadThrough, MovesWhole, SeesAll, WhereDone};
 ghost use Rattle.transfer.specs.Running.{Clears, HasMapped, IsBehindMount, Looked, LookedThere, MeetsWrong, alone};
 
 use crate::copying::{commit_target, copy_blocks};
@@ -75,7 +75,7 @@ fn move_device<P: Platform, Q: Platform, T: Tape, L: Sink>(
     ensures there { LookedThere Q.tells (Q.history to.old).present result }
     ensures refused { Refusing P.tells Q.tells (P.history from.old).present (Q.history to.old).present (Q.capacity to.old - Q.head to.old) result }
     ensures mapped { IfOk result (λ moved. P.tells → HasMapped (P.history from.old).present moved.blocks) }
-    ensures whole { IfOk result (λ moved. (P.tells → HasWholeTree (P.history from.old).present) × (P.tells → Q.tells → IsCopied (P.history from.old).present (Q.history to.old) (Q.history to.new))) }
+    ensures whole { MovesWhole P.tells Q.tells (P.history from.old).present (P.history from.new).present (Q.history to.old) (Q.history to.new) result }
     // From one device to another one, or to none.
     ensures leads { P.tells → Q.tells → (device : Device) (there : Option Device) → Stands (P.history from.old).present (Some device) → IsServedImage (P.history from.old).present
         → Stands (Q.history to.old).present there → IsServedImage (Q.history to.old).present
@@ -109,7 +109,7 @@ fn move_session<P: Platform, Q: Platform, T: Tape, L: Sink>(
         → Moves (P.history from.old) (P.history from.new) (Q.history to.old) (Q.history to.new) device there (IsShort device 1 (Q.capacity to.old - Q.head to.old)) result }
     ensures refused { Refusing P.tells Q.tells (P.history from.old).present (Q.history to.old).present (Q.capacity to.old - Q.head to.old) result }
     ensures mapped { IfOk result (λ moved. moved.blocks ≡ first.mapped) }
-    ensures moves { IfOk result (λ moved. IsMoved P.tells Q.tells (P.history from.old).present (Q.history to.old) (Q.history to.new) first) }
+    ensures moves { WhereDone P.tells (P.history from.new).present result (IsMoved P.tells Q.tells (P.history from.old).present (Q.history to.old) (Q.history to.new) first) }
     ensures there { LookedThere Q.tells (Q.history to.old).present result }
     ensures behind { IfErr result IsBehindMount }
 {

@@ -12,7 +12,7 @@ use Rattle.transfer.proofs.OpenLaws.{formatted_found, mount_sound}
 use Rattle.transfer.proofs.ToLaws.{found_none, spans_not}
 use Rattle.transfer.proofs.RefusalLaws.{refusing_behind, refusing_from, refusing_none}
 use Rattle.transfer.proofs.running.move_device.Goals as goal
-use Rattle.transfer.proofs.WholeLaws.{whole_found}
+use Rattle.transfer.proofs.WholeLaws.{whole_found, whole_looked}
 
 pub move_session-requires : goal.move_session-requires
 move_session-requires g c = record { ready = ready_found g.P.Platform c.args.from.now c.mount_session.new.platform c.in-Ok-Some.source c.mount_session.result (c.in-Ok-Some.is ∙ ap Ok c.in-Ok-Some.field-0-is) c.mount_session.ensures.finds }
@@ -113,4 +113,10 @@ returns-in-Err-clause-refused g c = refusing_from _ _ _ _ _ c.in-Err.stop
 
 pub returns-in-Ok-Some-clause-whole : goal.returns-in-Ok-Some-clause-whole
 returns-in-Ok-Some-clause-whole g c =
-    whole_found g.Q.Platform.tells g.P.Platform c.args.from.now c.mount_session.new.platform (g.Q.Platform.history c.args.to.now) (g.Q.Platform.history c.move_session.new.to) c.in-Ok-Some.source c.mount_session.result c.move_session.result (c.in-Ok-Some.is ∙ ap Ok c.in-Ok-Some.field-0-is) c.mount_session.ensures.looks c.mount_session.ensures.finds c.move_session.ensures.moves
+    whole_found g.Q.Platform.tells g.P.Platform c.args.from.now c.mount_session.new.platform c.move_session.new.from (g.Q.Platform.history c.args.to.now) (g.Q.Platform.history c.move_session.new.to) c.in-Ok-Some.source c.mount_session.result c.move_session.result (c.in-Ok-Some.is ∙ ap Ok c.in-Ok-Some.field-0-is) c.mount_session.ensures.looks c.mount_session.ensures.finds c.move_session.ensures.moves
+
+pub returns-in-Ok-None-clause-whole : goal.returns-in-Ok-None-clause-whole
+returns-in-Ok-None-clause-whole g c = whole_looked g.Q.Platform.tells g.P.Platform c.args.from.now c.mount_session.new.platform _ _ _ c.mount_session.ensures.looks
+
+pub returns-in-Err-clause-whole : goal.returns-in-Err-clause-whole
+returns-in-Err-clause-whole g c = whole_looked g.Q.Platform.tells g.P.Platform c.args.from.now c.mount_session.new.platform _ _ _ c.mount_session.ensures.looks

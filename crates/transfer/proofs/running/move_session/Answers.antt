@@ -10,6 +10,7 @@ use Rattle.transfer.proofs.LookedLaws.{there_as, there_behind}
 use Rattle.transfer.proofs.MoveLaws.{moves_cleared, moves_halted}
 use Rattle.transfer.proofs.ToLaws.{spans_more}
 use Rattle.transfer.proofs.RefusalLaws.{refusing_as, refusing_done, refusing_from}
+use Rattle.transfer.proofs.WholeLaws.{never_empty}
 use Rattle.transfer.proofs.running.move_session.Goals as goal
 
 pub returns-in_err-number-clause-from : goal.returns-in_err-number-clause-from
@@ -84,7 +85,13 @@ pub returns-clause-refused : goal.returns-clause-refused
 returns-clause-refused g c = refusing_from _ _ _ _ _ _
 
 pub returns-in_err-number-clause-moves : goal.returns-in_err-number-clause-moves
-returns-in_err-number-clause-moves g c = rw (halted c.from_residual.result c.in_err-number.field-0.0 c.from_residual.ensures.1) tt
+returns-in_err-number-clause-moves g c = (
+  rw (halted c.from_residual.result c.in_err-number.field-0.0 c.from_residual.ensures.1) tt,
+  λ told empty. absurd (never_empty (g.P.Platform.history c.args.from.now) (g.P.Platform.history c.fill.new.from) c.args.first ((c.fill.ensures.from no_draw).cell told) (c.requires.ready.mounted told) empty),
+)
 
 pub returns-in-Ok-clause-moves : goal.returns-in-Ok-clause-moves
-returns-in-Ok-clause-moves g c = c.in_ok-number.ensures.moves
+returns-in-Ok-clause-moves g c = (c.in_ok-number.ensures.moves, λ told empty. c.in_ok-number.ensures.moves)
+
+pub returns-clause-moves : goal.returns-clause-moves
+returns-clause-moves g c = (tt, λ told empty. c.in_ok-number.ensures.moves)
