@@ -13,7 +13,7 @@ use Rattle.device_cli.specs.Represents.{Stood}
 use Rattle.device_cli.proofs.RepliedLaws.{made_idle, Replied-idle, Handled-then, count-then}
 use Rattle.device_cli.proofs.PassLaws.{AreMarks-none}
 use Rattle.device_cli.proofs.DrawingLaws.{until_none}
-use Rattle.device_cli.proofs.ReplyLaws.{so_none}
+use Rattle.device_cli.proofs.ReplyLaws.{so_idle}
 use Rattle.script_lang.specs.Replies.{line_of, Reply}
 use Rattle.device_cli.specs.Run.{Took}
 use Rattle.line_run.specs.Stops.{TookUntil, Ending, IsSound, exit_of}
@@ -30,18 +30,18 @@ use Rattle.line_run.proofs.StopLaws.{TookUntil-line}
 -- the same after the platform stood still
 pub Ran-after : (tells : Type 0) (old mid new : World) (last : DeviceStop → List ℕ) (ending : Ending) (left left_now a b : Option (List ℕ))
     → IsLater old mid → mid.head ≡ old.head → (tells → mid.reads ≡ old.reads) → mid.session ≡ old.session → mid.drawn ≡ old.drawn
-    → (tells → Extends old.history mid.history) → (tells → (entry : State) → Stood old entry → Stood mid entry × During old.history mid.history (Leaves entry.device))
+    → (tells → Extends old.history mid.history) → (tells → mid.history.present ≡ old.history.present) → (tells → (entry : State) → Stood old entry → Stood mid entry × During old.history mid.history (Leaves entry.device))
     → Ran tells ⊥ mid new last ending left left_now a b → Ran tells ⊥ old new last ending left left_now a b
-Ran-after tells old mid new last ending left left_now a b later same unread held undrawn extends still r = record {
+Ran-after tells old mid new last ending left left_now a b later same unread held undrawn extends kept still r = record {
   taken = r.taken;
   lines = r.lines;
   gave = r.gave;
   took = r.took;
   come = r.come;
   handled = Handled-then tells old mid new last ending [] r.lines a a b
-      (record { put = []; got = Got-nothing a; replied = Replied-idle tells old mid last later same unread held undrawn extends still }) r.handled;
+      (record { put = []; got = Got-nothing a; replied = Replied-idle tells old mid last later same unread held undrawn extends kept still }) r.handled;
   prompt =
-      let more = count-then tells old mid new last ending [] r.lines a a b (record { put = []; got = Got-nothing a; replied = Replied-idle tells old mid last later same unread held undrawn extends still }) r.handled in
+      let more = count-then tells old mid new last ending [] r.lines a a b (record { put = []; got = Got-nothing a; replied = Replied-idle tells old mid last later same unread held undrawn extends kept still }) r.handled in
       let p = r.prompt in
       record { before = p.before; last = p.last; parts = p.parts; piece = p.piece; served = omega (arith, p.served, more) };
 }
@@ -185,11 +185,11 @@ IsEarly (device.BadRecord addr) = ⊥
 
 -- a run that was stopped before its first line
 pub Ran-refused : (tells Before : Type 0) (old new : World) (stop : DeviceStop) (left written : Option (List ℕ)) → IsEarly stop → Before
-    → IsLater old new → new.head ≡ old.head → (tells → new.reads ≡ old.reads) → new.drawn ≡ old.drawn
-    → (tells → Extends old.history new.history) → (tells → (entry : State) → Stood old entry → Stood new entry × During old.history new.history (Leaves entry.device))
+    → IsLater old new → new.head ≡ old.head → (tells → new.reads ≡ old.reads) → new.session ≡ old.session → new.drawn ≡ old.drawn
+    → (tells → Extends old.history new.history) → (tells → new.history.present ≡ old.history.present) → (tells → (entry : State) → Stood old entry → Stood new entry × During old.history new.history (Leaves entry.device))
     → (tells → (entry : State) → Stood old entry → IsSound stop) → Ran tells Before old new no_line (Err (stops.Device stop)) left left written written
 unfolding whole_lines_of
-Ran-refused tells Before old new stop left written which before later same unread undrawn extends still sound = record {
+Ran-refused tells Before old new stop left written which before later same unread held undrawn extends kept still sound = record {
   taken = [];
   lines = [];
   gave = Gave-nothing left;
@@ -206,7 +206,7 @@ Ran-refused tells Before old new stop left written which before later same unrea
       many = omega arith;
       stopped = early_end stop which;
       drew = until_none old.drawn new.drawn [] undrawn;
-      so = so_none tells old.history new.history [] extends;
+      so = so_idle tells old.history new.history old.session new.session extends kept held;
       later = later;
       full = λ updates enough. tt;
       enough = λ updates enough. tt;

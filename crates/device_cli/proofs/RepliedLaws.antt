@@ -37,7 +37,7 @@ use Rattle.line_run.specs.Puts.{no_line, IsBehind, HasPut}
 use Rattle.device_cli.specs.Causes.{MayStop, SoOn}
 use Rattle.device_cli.proofs.DrawingLaws.{IfNext-behind, IfNext-longer, until_none, until_then, until_longer}
 use Rattle.device_cli.specs.Drawing.{DrewUntil}
-use Rattle.device_cli.proofs.ReplyLaws.{so_longer, so_none, so_then}
+use Rattle.device_cli.proofs.ReplyLaws.{so_cut, so_idle, so_longer, so_then}
 use Rattle.device_cli.specs.Seen.{Saw, SeenOn}
 use Rattle.device_cli.proofs.SeenLaws.{saw_plain, SeenOn-append, SeenOn-longer}
 use Rattle.line_run.specs.declared.stop.Stop.{Stop}
@@ -67,9 +67,9 @@ made_idle old new entry rep (there, during) =
 
 -- no lines, and nothing put, while the platform stood still
 pub Replied-idle : (tells : Type 0) (old new : World) (last : DeviceStop → List ℕ) → IsLater old new → new.head ≡ old.head → (tells → new.reads ≡ old.reads) → new.session ≡ old.session
-    → new.drawn ≡ old.drawn → (tells → Extends old.history new.history) → (tells → (entry : State) → Stood old entry → Stood new entry × During old.history new.history (Leaves entry.device))
+    → new.drawn ≡ old.drawn → (tells → Extends old.history new.history) → (tells → new.history.present ≡ old.history.present) → (tells → (entry : State) → Stood old entry → Stood new entry × During old.history new.history (Leaves entry.device))
     → Replied tells ⊥ old new last (Ok tt) [] []
-Replied-idle tells old new last later same unread held undrawn extends still = record {
+Replied-idle tells old new last later same unread held undrawn extends kept still = record {
   replies = [];
   part = [];
   put_is = refl;
@@ -77,7 +77,7 @@ Replied-idle tells old new last later same unread held undrawn extends still = r
   many = refl;
   stopped = tt;
   drew = until_none old.drawn new.drawn [] undrawn;
-  so = so_none tells old.history new.history [] extends;
+  so = so_idle tells old.history new.history old.session new.session extends kept held;
   later = later;
   full = λ updates enough. tt;
   enough = λ updates enough. subst (λ (session : Option Session). AreEnough session updates) (sym held) enough;
@@ -102,7 +102,7 @@ still_there w entry rep = (rep, During-start w.history (Leaves entry.device) (st
 
 -- no lines, and nothing put
 pub Replied-nothing : (tells : Type 0) (w : World) (last : DeviceStop → List ℕ) → w.head ≤ w.capacity → Replied tells ⊥ w w last (Ok tt) [] []
-Replied-nothing tells w last fits = Replied-idle tells w w last (IsLater-refl w fits) refl (λ told. refl) refl refl (λ told. Extends-refl w.history) (λ told entry rep. still_there w entry rep)
+Replied-nothing tells w last fits = Replied-idle tells w w last (IsLater-refl w fits) refl (λ told. refl) refl refl (λ told. Extends-refl w.history) (λ told. refl) (λ told entry rep. still_there w entry rep)
 
 -- what the serving of a line did from a state: a reply that belongs to it, and the state after it
 abbrev pub Turned : World → World → State → ℕ → List ℕ → Reply → Type 0
@@ -132,7 +132,7 @@ TurnsEach tells old new line reply = tells → (entry : State) (updates : ℕ) �
 
 -- a line with its reply
 pub Replied-line : (tells : Type 0) (old new : World) (last : DeviceStop → List ℕ) (line : List ℕ) (reply : Reply)
-    → IsLater old new → DrewUntil old.drawn (line ∷ []) (reply ∷ []) new.drawn → SoOn tells old.history new.history (line ∷ []) (reply ∷ []) → TellsShort old new line reply → StaysEnough old new reply
+    → IsLater old new → DrewUntil old.drawn (line ∷ []) (reply ∷ []) new.drawn → SoOn tells old.history new.history old.session new.session (line ∷ []) (reply ∷ []) → TellsShort old new line reply → StaysEnough old new reply
     → LooksOn tells old new (line ∷ []) (IsOk {T = Unit {0}} {E = Stop} (Ok tt)) → TurnsEach tells old new line reply → Replied tells ⊥ old new last (Ok tt) (line ∷ []) (line_of reply)
 Replied-line tells old new last line reply later drew so full enough looks turned = record {
   replies = reply ∷ [];
@@ -177,7 +177,7 @@ Replied-part tells old new last line reply n later drew extends looks turned = r
   many = omega arith;
   stopped = tt;
   drew = drew;
-  so = so_none tells old.history new.history (line ∷ []) extends;
+  so = so_cut tells old.history new.history old.session new.session line [] extends;
   later = later;
   full = λ updates enough. tt;
   enough = λ updates enough. tt;
@@ -264,7 +264,7 @@ Replied-stop tells old new line command stop spells later drew extends added dam
   many = omega arith;
   stopped = damage;
   drew = drew;
-  so = so_none tells old.history new.history (line ∷ []) extends;
+  so = so_cut tells old.history new.history old.session new.session line [] extends;
   later = later;
   full = λ updates enough. tt;
   enough = λ updates enough. tt;
@@ -408,7 +408,7 @@ Replied-then tells old mid new last ending lines more put others p q =
       many = rw (length-append p.replies q.replies, length-append lines more) (AreMany-then ending _ _ _ _ p.many q.many);
       stopped = IsEndingAt-then tells new ending lines more p.replies q.replies p.many q.stopped;
       drew = until_then old.drawn mid.drawn new.drawn lines more p.replies q.replies p.many p.drew q.drew;
-      so = so_then tells old.history mid.history new.history lines more p.replies q.replies p.many p.so q.so;
+      so = so_then tells old.history mid.history new.history old.session mid.session new.session lines more p.replies q.replies p.many p.so q.so;
       later = IsLater-then old mid new p.later q.later;
       full = λ updates paid. AreShort-append new.head new.capacity updates lines more p.replies q.replies p.many
           (AreShort-later mid new updates lines p.replies q.later (p.full updates paid)) (q.full (updates_of updates p.replies) (p.enough updates paid));
@@ -466,7 +466,7 @@ Replied-longer tells old new last stop lines more put line p = record {
   many = AreMany-longer stop (length p.replies) (length lines) (length (lines ++ more)) (omega (arith, length-append lines more)) line p.many;
   stopped = IsEndingAt-longer tells new stop lines more p.replies p.stopped;
   drew = until_longer old.drawn new.drawn lines more p.replies p.drew;
-  so = so_longer tells old.history new.history lines more p.replies p.so;
+  so = so_longer tells old.history new.history old.session new.session lines more p.replies p.so;
   later = p.later;
   full = λ updates enough. AreShort-longer new.head new.capacity updates lines more p.replies (p.full updates enough);
   enough = λ updates enough. tt;
@@ -540,7 +540,7 @@ Handled-cut tells old new last lines a b p = let cut = Replied-cut tells old new
 
 -- a line whose reply was put, whole or in part
 pub Handled-line : (tells : Type 0) (old new : World) (last : DeviceStop → List ℕ) (line : List ℕ) (reply : Reply) (ending : Ending) (a b : Option (List ℕ))
-    → IsLater old new → DrewUntil old.drawn (line ∷ []) (reply ∷ []) new.drawn → DrewUntil old.drawn (line ∷ []) [] new.drawn → SoOn tells old.history new.history (line ∷ []) (reply ∷ []) → TellsShort old new line reply
+    → IsLater old new → DrewUntil old.drawn (line ∷ []) (reply ∷ []) new.drawn → DrewUntil old.drawn (line ∷ []) [] new.drawn → SoOn tells old.history new.history old.session new.session (line ∷ []) (reply ∷ []) → TellsShort old new line reply
     → StaysEnough old new reply → LooksOn tells old new (line ∷ []) (IsOk ending) → TurnsEach tells old new line reply → HasPut (line_of reply) ending a b
     → Handled tells ⊥ old new last ending (line ∷ []) a b
 Handled-line tells old new last line reply (Ok done) a b later drew cut so full enough looks turned put =

@@ -10,6 +10,7 @@ use Rattle.script_lang.specs.Arrays.{Counted}
 use Rattle.script_lang.specs.Answers.{answer}
 use Rattle.script_lang.proofs.CommandLaws.{one_command}
 use Rattle.std.specs.Prelude.{nat_lt}
+use Rattle.platform.specs.History.{moment}
 use Rattle.std.proofs.lemmas.Bool.{cases_lt}
 use Rattle.std.proofs.lemmas.Grind.{common_steps}
 use Rattle.device_terms.specs.Served.{IsServedImage}
@@ -23,7 +24,7 @@ use Rattle.platform.specs.Runs.{Passes}
 use Rattle.device_cli.specs.Replied.{HasMark, AreMany, IsEndingAt, IsAhead, EndsIn, Answered}
 use Rattle.line_run.specs.Stops.{Ending, exit_of}
 use Rattle.line_run.specs.Puts.{IsBehind, IsFirstPart, damage_line, AreLines, HaveCome}
-use Rattle.device_cli.specs.Causes.{Draws, PutsEntry, HasCalled, HasLacked, MeetsRecord, IsOf}
+use Rattle.device_cli.specs.Causes.{AreSo, Draws, PutsEntry, HasCalled, HasLacked, MeetsRecord, IsOf}
 use Rattle.device_cli.specs.Drawing.{DrewUntil}
 use Rattle.device_cli.specs.Added.{left_by, HasAdded, IsNear}
 use Rattle.device_cli.specs.Pages.{needed_for, upgrade_of, most_upgrade, Standing, standing, TurnOn, AnswersOn, AreFew, IfNext}
@@ -512,7 +513,7 @@ answers_script tells Before old drawn drawn_now session history head capacity re
   no_memory = no_memory tells Before (drew_by drawn_now (world session history head capacity reads)) ending p.replies r.lines p.stopped;
   cut = cut ending p.part p.behind;
   full = p.full 0 (enough_alone old.session alone);
-  so = λ told. (p.so told).1;
+  so = λ told. (let so = p.so told in (so.1, so.2, subst (λ (held : Option Session). AreSo tells history (moment old.history) held r.lines p.replies so.1 so.2) alone so.3));
   looks = λ told most last h. (p.looks told None last most (subst (λ (held : Option Session). IsWarmFor held None) (sym alone) tt) h).0;
   answered = λ told there stands served.
       forget old drawn drawn_now session history head capacity reads (exit_of ending) (closed there) r.lines p.replies p.part

@@ -1,5 +1,5 @@
 -- Why a command is answered so, on any image, forged ones too.
-use Rattle.std.specs.Prelude.{if◌then◌else◌, ◌≡◌, ◌≢◌, ◌<◌, ◌≤◌, ◌⊎◌, ◌+◌, ℕ, true, false, List, [], ◌∷◌, Option, None, Some, Result, Ok, Err, IfSome}
+use Rattle.std.specs.Prelude.{if◌then◌else◌, ◌≡◌, ◌≢◌, ◌<◌, ◌≤◌, ◌⊎◌, ◌+◌, ℕ, true, false, List, [], ◌∷◌, Option, None, Some, Result, Ok, Err, IfSome, length}
 use Rattle.platform.specs.Image.{Image}
 use Rattle.platform.specs.History.{History, Extends, image_at, moment}
 use Rattle.root_codec.specs.declared.root.Root.{Root}
@@ -8,7 +8,7 @@ use Rattle.page_store.specs.Roots.{IsBadCell, IsRootWithin}
 use Rattle.device_core.specs.Upgrading.{Begins}
 use Rattle.sdbt_base.specs.Arrays.{padded}
 use Rattle.device_session.specs.Damage.{HasPut, HasTaken}
-use Rattle.device_session.specs.Open.{blocks_of, is_touched, number_of, root_of}
+use Rattle.device_session.specs.Open.{blocks_of, is_touched, needed_by, number_of, root_of}
 use Rattle.device_session.specs.Reading.{FindsContent}
 use Rattle.device_session.specs.Sessions.{Session}
 use Rattle.script_lang.specs.Arrays.{in_limits, trimmed}
@@ -190,9 +190,20 @@ MayReply tells image after held next command given.Done = HasDone tells image af
 MayReply tells image after held next command given.Unmounted = held ≡ None
 MayReply tells image after held next command reply = IsOwnReply held command reply × (tells → IsOfImage image command reply)
 
+-- what a reply leaves of the session: one without a change behind a mount and a commit, the same tree behind a read, and none behind `drop` and `erase`; and else the same one. What an update leaves of it, the
+-- update says
+abbrev pub LeavesHeld : Option Session → Option Session → Reply → Type 0
+LeavesHeld held next (given.Mounted number) = OnHeld next (λ session. needed_by session ≡ 0)
+LeavesHeld held next (given.Committed number) = OnHeld next (λ session. needed_by session ≡ 0)
+LeavesHeld held next (given.Content bytes) = OnHeld held (λ session. OnHeld next (λ now. now.grove ≡ session.grove))
+LeavesHeld held next given.Done = Unit {0}
+LeavesHeld held next given.Dropped = next ≡ None
+LeavesHeld held next given.Erased = next ≡ None
+LeavesHeld held next _ = next ≡ held
+
 -- the one table of a command's answers on any image
 abbrev pub AnswersAny : Type 0 → World → World → Command → Result Reply DeviceStop → Type 0
-AnswersAny tells old now command (Ok reply) = MayReply tells old.history.present now.history.present old.session now.session command reply
+AnswersAny tells old now command (Ok reply) = MayReply tells old.history.present now.history.present old.session now.session command reply × LeavesHeld old.session now.session reply
 AnswersAny tells old now command (Err stop) = MayStop tells old.session now.history.present now.head now.capacity command stop
 
 -- ---- lines
@@ -209,27 +220,33 @@ HasCalled tells image command = (held : Option Session) × CallsPlatform tells h
 abbrev pub HasLacked : Type 0 → Image → ℕ → ℕ → Command → Type 0
 HasLacked tells image head capacity command = (held : Option Session) × LacksMemory tells held image head capacity command
 
--- at a moment, which is not before this one, there was a session on the root record in the cell, or none, and at a later one such a session, or none, behind it, with which the command may have the reply
-pub record WasSo (tells : Type 0) (history : History) (from : ℕ) (command : Command) (reply : Reply) : Type 0 where
+-- at a moment there was a session on the root record in the cell, or none, and at a later one such a session, or none, behind it, with which the command may have the reply; and since an earlier moment, up to
+-- the first of these, the image was as it was
+pub record WasSo (tells : Type 0) (history : History) (from : ℕ) (held next : Option Session) (behind : ℕ) (command : Command) (reply : Reply) : Type 0 where
   pub at : ℕ
   pub later : from ≤ at
-  pub behind : ℕ
+  pub still : image_at history at ≡ image_at history from
   pub after : at ≤ behind
   pub within : behind ≤ moment history
-  pub held : Option Session
   pub in_range : IfSome held (λ session. FitsRoot (root_of session))
   pub mounted : IfSome held (IsMounted (image_at history at))
-  pub next : Option Session
   pub mounted_then : IfSome next (IsMounted (image_at history behind))
   pub may : MayReply tells (image_at history at) (image_at history behind) held next command reply
+  pub leaves : LeavesHeld held next reply
 
--- each of these replies is `bad` to a line outside the grammar, or was so of its line's command
-abbrev pub AreSo : Type 0 → History → ℕ → List (List ℕ) → List Reply → Type 0
-AreSo tells history from lines [] = Unit {0}
-AreSo tells history from [] (reply ∷ replies) = ⊥
-AreSo tells history from (line ∷ lines) (reply ∷ replies) =
-    ((IsBad line × (reply ≡ given.Bad)) ⊎ IsOf (λ command. WasSo tells history from command reply) line) × AreSo tells history from lines replies
+-- the reply is `bad` to a line outside the grammar, and nothing is changed, or it was so of its line's command
+abbrev pub LineSo : Type 0 → History → ℕ → Option Session → Option Session → ℕ → List ℕ → Reply → Type 0
+LineSo tells history from held next behind line reply =
+    (IsBad line × (reply ≡ given.Bad) × (next ≡ held) × (behind ≡ from)) ⊎ IsOf (λ command. WasSo tells history from held next behind command reply) line
 
--- the same of the moments of a part of a run
-abbrev pub SoOn : Type 0 → History → History → List (List ℕ) → List Reply → Type 0
-SoOn tells old new lines replies = tells → Extends old new × AreSo tells new (moment old) lines replies
+-- each of these replies was so, from this moment and this session on, or none: each line goes on with what the one before it left, up to this moment and this session, or none
+abbrev pub AreSo : Type 0 → History → ℕ → Option Session → List (List ℕ) → List Reply → ℕ → Option Session → Type 0
+AreSo tells history from held lines [] end last = (from ≤ end) × (end ≤ moment history) × (image_at history end ≡ image_at history from) × (last ≡ held)
+AreSo tells history from held [] (reply ∷ replies) end last = ⊥
+AreSo tells history from held (line ∷ lines) (reply ∷ replies) end last =
+    (behind : ℕ) × (next : Option Session) × LineSo tells history from held next behind line reply × AreSo tells history behind next lines replies end last
+
+-- the same of the moments of a part of a run, and of the sessions before and behind it; the last ones are those behind it where each line has a reply
+abbrev pub SoOn : Type 0 → History → History → Option Session → Option Session → List (List ℕ) → List Reply → Type 0
+SoOn tells old new held now lines replies = tells → Extends old new × (end : ℕ) × (last : Option Session) × AreSo tells new (moment old) held lines replies end last
+    × (length replies ≡ length lines → (end ≡ moment new) × (last ≡ now))

@@ -9,6 +9,7 @@ use Rattle.sdbt_base.specs.Arrays.{State, Device, closed}
 use Rattle.script_lang.specs.Answers.{Answers}
 use Rattle.script_lang.specs.Commands.{Upgrade}
 use Rattle.script_lang.specs.Grammar.{Spells}
+use Rattle.device_session.specs.Sessions.{Session}
 use Rattle.device_cli.specs.Causes.{Draws, PutsEntry, HasLacked, MeetsRecord, IsOf, AreSo}
 use Rattle.device_cli.specs.Looks.{AreLooks}
 use Rattle.device_cli.specs.World.{World}
@@ -99,9 +100,9 @@ pub record AnswersScript (tells : Type 0) (old new : World) (status : ℕ) (left
   pub cut : status ≡ 4 → ((reply : Reply) × IsFirstPart (line_of reply) part) ⊎ ((stop : DeviceStop) × IsFirstPart (damage_line stop) part)
   -- a reply that too few pages were free is true for good
   pub full : AreShort new.head new.capacity 0 lines replies
-  -- and on any image each was so at a moment of the run: `data` is what a look-up comes to, `ok` comes only where the update can be done, and `range` by the numbers
-  -- alone; so a line that comes to a record which doesn't fit has none of these, and ends the run
-  pub so : tells → AreSo tells new.history (moment old.history) lines replies
+  -- and on any image each was so at a moment of the run, with the session that the line before it left: `data` is what a look-up comes to, behind `ok` look-ups come to what the update made, and
+  -- `range` comes by the numbers alone; so a line that comes to a record which doesn't fit has none of these, and ends the run
+  pub so : tells → (end : ℕ) × (last : Option Session) × AreSo tells new.history (moment old.history) None lines replies end last
   -- where the lines only look, no more pages are read than these: one for a read of the block that was read just before, 21 for another one, and else none
   pub looks : tells → (most : ℕ) (last : Option ℕ) → AreLooks None lines most last → new.reads ≤ old.reads + most
   -- over an image that stands for a device which can be served, from that device on without a session

@@ -111,7 +111,7 @@ pub record Replied (tells Before : Type 0) (old new : World) (last : DeviceStop 
   pub many : AreMany (length replies) (length lines) ending
   pub stopped : IsEndingAt tells Before new replies lines ending
   pub drew : DrewUntil old.drawn lines replies new.drawn
-  pub so : SoOn tells old.history new.history lines replies
+  pub so : SoOn tells old.history new.history old.session new.session lines replies
   pub later : IsLater old new
   pub full : (updates : ℕ) → AreEnough old.session updates → AreShort new.head new.capacity updates lines replies
   pub enough : (updates : ℕ) → AreEnough old.session updates → OnOk ending (AreEnough new.session (updates_of updates replies))

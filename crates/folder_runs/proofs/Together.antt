@@ -96,7 +96,7 @@ told_answers tells old new status left left_now written written_now told run = r
   no_memory = λ is. next_line run.replies run.lines _ _ (λ line of. (of.0, of.1, (of.2.0, told_lacks tells of.2.0 new.history.present new.head new.capacity of.0 told of.2.1))) (run.no_memory is);
   cut = run.cut;
   full = run.full;
-  so = λ _. told_so tells new.history (moment old.history) run.lines run.replies told (run.so told);
+  so = λ _. (let so = run.so told in (so.0, so.1, told_so tells new.history (moment old.history) None run.lines run.replies so.0 so.1 told so.2));
   looks = λ _. run.looks told;
   answered = λ _. run.answered told;
 }

@@ -12,7 +12,7 @@ use Rattle.script_lang.specs.Commands.{Command}
 use Rattle.script_lang.specs.Commands as commands
 use Rattle.script_lang.specs.Replies.{Reply}
 use Rattle.script_lang.specs.Replies as given
-use Rattle.device_cli.specs.Causes.{AreSo, HasDone, HasContent, IsLookedUp, IsOf, LacksMemory, MayReply, OnHeld, OnMounted, WasSo}
+use Rattle.device_cli.specs.Causes.{AreSo, HasDone, HasContent, IsLookedUp, LacksMemory, LineSo, MayReply, OnHeld, OnMounted}
 
 -- ---- replies
 
@@ -71,31 +71,30 @@ told_reply tells image after held next command given.NoDevice told h = (h.0, λ 
 told_reply tells image after held next command given.AlreadyUpgraded told h = (h.0, λ _. h.1 told)
 told_reply tells image after held next command given.Full told h = (h.0, λ _. h.1 told)
 
-told_line : (tells : Type 0) (history : History) (from : ℕ) (line : List ℕ) (reply : Reply) → tells → (IsBad line × (reply ≡ given.Bad)) ⊎ IsOf (λ command. WasSo tells history from command reply) line
-    → (IsBad line × (reply ≡ given.Bad)) ⊎ IsOf (λ command. WasSo (Unit {0}) history from command reply) line
-told_line tells history from line reply told (inl bad) = inl bad
-told_line tells history from line reply told (inr (command, spells, so)) = inr (
+told_line : (tells : Type 0) (history : History) (from : ℕ) (held next : Option Session) (behind : ℕ) (line : List ℕ) (reply : Reply) → tells → LineSo tells history from held next behind line reply → LineSo (Unit {0}) history from held next behind line reply
+told_line tells history from held next behind line reply told (inl bad) = inl bad
+told_line tells history from held next behind line reply told (inr (command, spells, so)) = inr (
   command,
   spells,
   record {
     at = so.at;
     later = so.later;
-    behind = so.behind;
+    still = so.still;
     after = so.after;
     within = so.within;
-    held = so.held;
     in_range = so.in_range;
     mounted = so.mounted;
-    next = so.next;
     mounted_then = so.mounted_then;
-    may = told_reply tells (image_at history so.at) (image_at history so.behind) so.held so.next command reply told so.may;
+    may = told_reply tells (image_at history so.at) (image_at history behind) held next command reply told so.may;
+    leaves = so.leaves;
   },
 )
 
-pub told_so : (tells : Type 0) (history : History) (from : ℕ) (lines : List (List ℕ)) (replies : List Reply) → tells → AreSo tells history from lines replies → AreSo (Unit {0}) history from lines replies
-told_so tells history from lines [] told h = tt
-told_so tells history from [] (reply ∷ replies) told h = absurd h
-told_so tells history from (line ∷ lines) (reply ∷ replies) told (first, rest) = (told_line tells history from line reply told first, told_so tells history from lines replies told rest)
+pub told_so : (tells : Type 0) (history : History) (from : ℕ) (held : Option Session) (lines : List (List ℕ)) (replies : List Reply) (end : ℕ) (last : Option Session) → tells → AreSo tells history from held lines replies end last → AreSo (Unit {0}) history from held lines replies end last
+told_so tells history from held lines [] end last told h = h
+told_so tells history from held [] (reply ∷ replies) end last told h = absurd h
+told_so tells history from held (line ∷ lines) (reply ∷ replies) end last told (behind, next, first, rest) =
+    (behind, next, told_line tells history from held next behind line reply told first, told_so tells history behind next lines replies end last told rest)
 
 -- ---- want of memory
 

@@ -24,7 +24,7 @@ returns-in_default-clause-handled g c text kept =
     let old : World = world_by P g.T.Tape c.args.desk.now.session c.args.platform.now c.args.tape.now in
     Handled-line P.tells old old no_line text Bad c.put_reply.result (written c.args.output.now) (written c.put_reply.new.output)
     (IsLater-refl old (g.met.P.Platform.has_room c.args.platform.now)) (until_line old.drawn old.drawn text Bad [] (inl (c.in_default.ensures.none text kept, refl)) (drew_none old.drawn old.drawn refl))
-    (until_none old.drawn old.drawn (text ∷ []) refl) (so_line P.tells _ _ text Bad (λ told. Extends-refl old.history) (λ told. inl (c.in_default.ensures.none text kept, refl))) (λ updates enough e. absurd cc) (λ updates enough. enough) (looks_bad P.tells old old text _ (c.in_default.ensures.none text kept))
+    (until_none old.drawn old.drawn (text ∷ []) refl) (so_line P.tells old.history old.history old.session old.session text Bad (λ told. Extends-refl old.history) (λ told. inl (c.in_default.ensures.none text kept, refl, refl, refl))) (λ updates enough e. absurd cc) (λ updates enough. enough) (looks_bad P.tells old old text _ (c.in_default.ensures.none text kept))
     (λ told entry updates rep enough. turned_bad old entry updates text (c.in_default.ensures.none text kept) rep) c.put_reply.ensures.put
 
 -- what is said is that no page was free only where that was given
@@ -61,7 +61,7 @@ returns-in-Ok-clause-handled g c text kept =
     let extended : P.tells → Extends old.history new.history = λ told. (c.serve.ensures.keeps.serves told (c.requires.cell told)).extends in
     Handled-line P.tells old new no_line text reply c.put_reply-in-Ok.result (written c.args.output.now) (written c.put_reply-in-Ok.new.output)
     later (until_line old.drawn new.drawn text reply spent.0 (inr (command, c.in-Some.ensures.found text kept, spent.1)) spent.2)
-    (until_cut old.drawn new.drawn text command spent.0 (c.in-Some.ensures.found text kept) (λ none. ap g.T.Tape.drawn (c.in-Ok.ensures.still.undrawn none)) spent.2) (so_line P.tells old.history new.history text reply (λ told. extended told) (so_there P.tells c.args.desk.now.session c.serve.new.self.session _ old.history new.history text command reply (c.in-Some.ensures.found text kept) c.requires.ready c.requires.mounted c.in-Ok.ensures.after.mounted (λ told. extended told) c.in-Ok.ensures.any))
+    (until_cut old.drawn new.drawn text command spent.0 (c.in-Some.ensures.found text kept) (λ none. ap g.T.Tape.drawn (c.in-Ok.ensures.still.undrawn none)) spent.2) (so_line P.tells old.history new.history old.session new.session text reply (λ told. extended told) (so_there P.tells c.args.desk.now.session c.serve.new.self.session _ old.history new.history text command reply (c.in-Some.ensures.found text kept) c.requires.ready c.requires.mounted c.in-Ok.ensures.after.mounted (λ told. extended told) c.in-Ok.ensures.any))
     (tells_short P.tells old.history.present old new text command reply (c.in-Some.ensures.found text kept) later (full_as_said c.in-Ok.reply c.serve.new.self.buffer _ c.in-Ok.ensures.after.full)) c.in-Ok.ensures.enough
     (looks_line P.tells old new text command _ (c.in-Some.ensures.found text kept) (λ told before warm look. let few = c.in-Ok.ensures.looks told before warm look in (few.0, λ done. few.1 refl)))
     (λ told entry updates rep enough. turned_command P.tells old new entry updates text command reply told (c.in-Some.ensures.found text kept) c.requires.ready

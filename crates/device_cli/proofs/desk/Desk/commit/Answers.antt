@@ -24,7 +24,7 @@ pub returns-in_default-clause-keeps : goal.returns-in_default-clause-keeps
 returns-in_default-clause-keeps g c = on_done _ _ _ _ _ c.args.self.now.session _ _ _ _ _ _ (on_start _ _ _ c.args.self.now.session _ (Unit {0})) (λ going. tt) (λ keys h. listed_none _ c.take.new.self _ keys c.take.ensures.after h)
 
 pub returns-in_default-clause-any : goal.returns-in_default-clause-any
-returns-in_default-clause-any g c = sym c.take.ensures.value ∙ c.in_default.is
+returns-in_default-clause-any g c = (sym c.take.ensures.value ∙ c.in_default.is, c.take.ensures.after ∙ sym (sym c.take.ensures.value ∙ c.in_default.is))
 
 -- ---- an answer
 
@@ -83,11 +83,15 @@ returns-in_err-done-clause-drew g c = rw (stopped g c) tt
 pub returns-in-Committed-clause-any : goal.returns-in-Committed-clause-any
 returns-in-Committed-clause-any g c =
     let answers = rw c.in-Committed.is at c.in_ok-done.ensures.answers in (
-      held_has c.args.self.now.session c.in-Some.session (λ (s : Session). c.in-Committed.number ≡ number_behind s) (sym c.take.ensures.value ∙ c.in-Some.is)
-          (number_is c.in-Some.session c.in_ok-done.done.session c.in-Committed.number answers.is_number (λ idle. (answers.idle idle).0) answers.next),
-      λ told. tt,
+      (
+        held_has c.args.self.now.session c.in-Some.session (λ (s : Session). c.in-Committed.number ≡ number_behind s) (sym c.take.ensures.value ∙ c.in-Some.is)
+            (number_is c.in-Some.session c.in_ok-done.done.session c.in-Committed.number answers.is_number (λ idle. (answers.idle idle).0) answers.next),
+        λ told. tt,
+      ),
+      answers.needs,
     )
 
 pub returns-in-Full-clause-any : goal.returns-in-Full-clause-any
 returns-in-Full-clause-any g c =
-    (held_has c.args.self.now.session c.in-Some.session (λ (s : Session). is_touched s ≡ true) (sym c.take.ensures.value ∙ c.in-Some.is) (rw c.in-Full.is at c.in_ok-done.ensures.answers).touched, λ told. tt)
+    let answers = rw c.in-Full.is at c.in_ok-done.ensures.answers in
+    ((held_has c.args.self.now.session c.in-Some.session (λ (s : Session). is_touched s ≡ true) (sym c.take.ensures.value ∙ c.in-Some.is) answers.touched, λ told. tt), ap Some answers.same.0 ∙ sym (sym c.take.ensures.value ∙ c.in-Some.is))

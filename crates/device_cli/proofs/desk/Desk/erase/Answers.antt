@@ -42,7 +42,7 @@ pub returns-in-Ok-clause-enough : goal.returns-in-Ok-clause-enough
 returns-in-Ok-clause-enough g c updates enough = enough_none c.close.new.self.session updates c.close.ensures.session
 
 pub returns-in-Ok-clause-any : goal.returns-in-Ok-clause-any
-returns-in-Ok-clause-any g c = (tt, λ told. (c.in-Ok.ensures.cause.0 told).0)
+returns-in-Ok-clause-any g c = ((tt, λ told. (c.in-Ok.ensures.cause.0 told).0), c.close.ensures.session)
 
 pub returns-in-Err-NoDevice-clause-any : goal.returns-in-Err-NoDevice-clause-any
-returns-in-Err-NoDevice-clause-any g c = (tt, λ told. ((rw c.in-Err-NoDevice.field-0-is at c.in-Err-NoDevice.ensures.cause).0 told).0)
+returns-in-Err-NoDevice-clause-any g c = ((tt, λ told. ((rw c.in-Err-NoDevice.field-0-is at c.in-Err-NoDevice.ensures.cause).0 told).0), refl)

@@ -175,16 +175,16 @@ returns-then-not-is_in_limits-clause-any g c =
     let P = g.P.Platform in
     let past : in_limits c.args.blocks c.args.order ≡ false = grind (arith, common_steps, c.is_in_limits.ensures.limits, c.if-not-is_in_limits.true) in
     refused_any P.tells (world_of P c.args.self.now.session c.args.platform.now) (world_of P c.args.self.now.session c.refuse_format.new.platform) c.args.blocks c.args.order c.refuse_format.result c.args.self.now.buffer
-    c.refuse_format.ensures.either c.refuse_format.ensures.replies c.refuse_format.ensures.cause.0 past
+    c.refuse_format.ensures.either c.refuse_format.ensures.replies c.refuse_format.ensures.cause.0 past refl
 
 pub returns-in-Ok-clause-any : goal.returns-in-Ok-clause-any
-returns-in-Ok-clause-any g c = (grind (arith, common_steps, c.is_in_limits.ensures.limits, c.if-not-is_in_limits.false), c.in-Ok.ensures.cause.0)
+returns-in-Ok-clause-any g c = ((grind (arith, common_steps, c.is_in_limits.ensures.limits, c.if-not-is_in_limits.false), c.in-Ok.ensures.cause.0), refl)
 
 pub returns-in-Err-NotEmpty-clause-any : goal.returns-in-Err-NotEmpty-clause-any
-returns-in-Err-NotEmpty-clause-any g c = (tt, (rw c.in-Err-NotEmpty.field-0-is at c.in-Err-NotEmpty.ensures.cause).0)
+returns-in-Err-NotEmpty-clause-any g c = ((tt, (rw c.in-Err-NotEmpty.field-0-is at c.in-Err-NotEmpty.ensures.cause).0), refl)
 
 pub returns-in-Err-Full-clause-any : goal.returns-in-Err-Full-clause-any
-returns-in-Err-Full-clause-any g c = (grind (arith, common_steps, c.is_in_limits.ensures.limits, c.if-not-is_in_limits.false), (rw c.in-Err-Full.field-0-is at c.in-Err-Full.ensures.cause).0)
+returns-in-Err-Full-clause-any g c = ((grind (arith, common_steps, c.is_in_limits.ensures.limits, c.if-not-is_in_limits.false), (rw c.in-Err-Full.field-0-is at c.in-Err-Full.ensures.cause).0), refl)
 
 pub returns-in-Err-Memory-clause-any : goal.returns-in-Err-Memory-clause-any
 returns-in-Err-Memory-clause-any g c =

@@ -1,4 +1,4 @@
-use Rattle.std.proofs.Common.{◌≡◌, Option, None, Ok, sym, subst, arith}
+use Rattle.std.proofs.Common.{◌≡◌, Option, None, Ok, sym, subst, arith, refl}
 use Rattle.device_session.specs.Sessions.{Session}
 use Rattle.device_cli.specs.Looks.{IsWarmFor}
 use Rattle.device_cli.proofs.LookLaws.{warm_less}
@@ -40,7 +40,7 @@ pub returns-clause-looks : goal.returns-clause-looks
 returns-clause-looks g c told before warm look = (omega arith, λ done. subst (λ (session : Option Session). IsWarmFor session None) (sym c.close.ensures.session) tt)
 
 pub returns-then-is_none-clause-any : goal.returns-then-is_none-clause-any
-returns-then-is_none-clause-any g c = grind (arith, common_steps, c.is_none.ensures, c.if-is_none.true)
+returns-then-is_none-clause-any g c = (grind (arith, common_steps, c.is_none.ensures, c.if-is_none.true), refl)
 
 pub returns-clause-any : goal.returns-clause-any
-returns-clause-any g c = (λ none. grind (arith, common_steps, none, c.is_none.ensures, c.if-is_none.false), λ told. tt)
+returns-clause-any g c = ((λ none. grind (arith, common_steps, none, c.is_none.ensures, c.if-is_none.false), λ told. tt), c.close.ensures.session)

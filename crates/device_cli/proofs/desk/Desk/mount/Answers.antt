@@ -94,15 +94,15 @@ returns-in_err-session-clause-any g c =
     c.in_err-session.ensures.looks.image c.in_err-session.ensures.looks.head c.in_err-session.ensures.stops)
 
 pub returns-then-is_some-clause-any : goal.returns-then-is_some-clause-any
-returns-then-is_some-clause-any g c = (λ none. grind (arith, common_steps, none, c.is_some.ensures, c.if-is_some.true), λ told. tt)
+returns-then-is_some-clause-any g c = ((λ none. grind (arith, common_steps, none, c.is_some.ensures, c.if-is_some.true), λ told. tt), refl)
 
 pub returns-clause-any : goal.returns-clause-any
 returns-clause-any g c =
     let none : c.args.self.now.session ≡ None = grind (arith, common_steps, c.is_some.ensures, c.if-is_some.false) in
     let mounts = (rw c.in-Some.is at c.in_ok-session.ensures.finds).0 in
-    (none, λ told. (root_of c.in-Some.session, mounts.is_open.served.in_range, mounts.found told, c.number-number.ensures))
+    ((none, λ told. (root_of c.in-Some.session, mounts.is_open.served.in_range, mounts.found told, c.number-number.ensures)), needs_none c.in-Some.session _ mounts.is_open mounts.untouched)
 
 pub returns-in_default-clause-any : goal.returns-in_default-clause-any
 returns-in_default-clause-any g c =
     let none : c.args.self.now.session ≡ None = grind (arith, common_steps, c.is_some.ensures, c.if-is_some.false) in
-    (none, rw c.in_default.is at c.in_ok-session.ensures.finds)
+    ((none, rw c.in_default.is at c.in_ok-session.ensures.finds), refl)

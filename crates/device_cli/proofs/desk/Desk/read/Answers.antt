@@ -9,7 +9,7 @@ use Rattle.script_lang.specs.Arrays.{content_reply, trimmed}
 use Rattle.script_lang.specs.Replies.{Reply}
 use Rattle.script_lang.specs.Commands.{Read}
 use Rattle.script_lang.specs.Replies as replies
-use Rattle.device_cli.specs.Causes.{IsLookedUp, MayReply}
+use Rattle.device_cli.specs.Causes.{IsLookedUp, LeavesHeld, MayReply}
 use Rattle.device_cli.specs.Looks.{IsWarmFor}
 use Rattle.device_cli.specs.Pages.{updates_after}
 use Rattle.device_cli.specs.Parts.{added_by}
@@ -35,7 +35,7 @@ pub returns-in_default-clause-keeps : goal.returns-in_default-clause-keeps
 returns-in_default-clause-keeps g c = λ drawn written. on_start _ drawn written c.args.self.now.session _ _
 
 pub returns-in_default-clause-any : goal.returns-in_default-clause-any
-returns-in_default-clause-any g c = grind (arith, common_steps, c.in_default.is)
+returns-in_default-clause-any g c = (grind (arith, common_steps, c.in_default.is), refl)
 
 -- ---- a block past the device's
 
@@ -100,12 +100,14 @@ returns-clause-answered g c told entry rep =
 pub returns-clause-any : goal.returns-clause-any
 returns-clause-any g c =
     let image = (g.P.Platform.history c.args.platform.now).present in
-    subst (λ (r : Reply). MayReply g.P.Platform.tells image (g.P.Platform.history c.read_block.new.platform).present c.args.self.now.session (Some c.read_block.new.session) (Read c.args.block) r) (sym c.reply_with_content.ensures.value)
-    (held_has c.args.self.now.session c.in-Some.session (λ (s : Session). g.P.Platform.tells → IsLookedUp image c.args.block (trimmed c.read_block.new.out) s) c.in-Some.is
-    (λ told. (c.read_block.new.out, c.in_ok-read_block.ensures.any (told, mounted_held _ c.in-Some.session _ c.in-Some.is (c.requires.mounted told)), refl)))
+    subst (λ (r : Reply). MayReply g.P.Platform.tells image (g.P.Platform.history c.read_block.new.platform).present c.args.self.now.session (Some c.read_block.new.session) (Read c.args.block) r × LeavesHeld c.args.self.now.session (Some c.read_block.new.session) r) (sym c.reply_with_content.ensures.value) (
+      held_has c.args.self.now.session c.in-Some.session (λ (s : Session). g.P.Platform.tells → IsLookedUp image c.args.block (trimmed c.read_block.new.out) s) c.in-Some.is
+          (λ told. (c.read_block.new.out, c.in_ok-read_block.ensures.any (told, mounted_held _ c.in-Some.session _ c.in-Some.is (c.requires.mounted told)), refl)),
+      held_has c.args.self.now.session c.in-Some.session (λ (s : Session). c.read_block.new.session.grove ≡ s.grove) c.in-Some.is c.in_ok-read_block.ensures.same.1,
+    )
 
 pub returns-then-block-blocks-clause-any : goal.returns-then-block-blocks-clause-any
-returns-then-block-blocks-clause-any g c = held_has c.args.self.now.session c.in-Some.session (λ (s : Session). blocks_of s ≤ c.args.block) c.in-Some.is (omega (arith, c.if-block-blocks.true, c.blocks-2.ensures))
+returns-then-block-blocks-clause-any g c = (held_has c.args.self.now.session c.in-Some.session (λ (s : Session). blocks_of s ≤ c.args.block) c.in-Some.is (omega (arith, c.if-block-blocks.true, c.blocks-2.ensures)), sym c.in-Some.is)
 
 -- ---- a stop
 

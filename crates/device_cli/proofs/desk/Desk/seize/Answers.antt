@@ -16,7 +16,7 @@ use Rattle.device_cli.proofs.ServingLaws.{serves_seized}
 use Rattle.device_cli.proofs.SeizingLaws.{counted_of, saw_seized}
 use Rattle.device_cli.proofs.SeizeWordLaws.{not_bad}
 use Rattle.device_course.proofs.KeysLaws.{on_look, listed_image}
-use Rattle.device_cli.specs.Causes.{MayReply}
+use Rattle.device_cli.specs.Causes.{LeavesHeld, MayReply}
 use Rattle.device_cli.specs.Replied.{Serves}
 use Rattle.device_cli.specs.World.{AreEnough}
 use Rattle.device_cli.specs.Pages.{updates_after}
@@ -91,8 +91,8 @@ returns-in-Ok-clause-enough g c updates enough =
 pub returns-in-Ok-clause-any : goal.returns-in-Ok-clause-any
 returns-in-Ok-clause-any g c =
     let P = g.P.Platform in
-    subst (λ (r : Given). MayReply P.tells (P.history c.args.platform.now).present (P.history c.seize.new.platform).present c.args.self.now.session c.args.self.now.session commands.Seize (said r c.args.self.now.buffer)) (sym c.reply_with_counts.ensures)
-    (tt, λ told. counted_of (P.history c.args.platform.now).present (P.head c.args.platform.now) c.in-Ok.report (g.met.P.Platform.counts_pages told c.args.platform.now) (c.in-Ok.ensures.report told))
+    subst (λ (r : Given). MayReply P.tells (P.history c.args.platform.now).present (P.history c.seize.new.platform).present c.args.self.now.session c.args.self.now.session commands.Seize (said r c.args.self.now.buffer) × LeavesHeld c.args.self.now.session c.args.self.now.session (said r c.args.self.now.buffer)) (sym c.reply_with_counts.ensures)
+    ((tt, λ told. counted_of (P.history c.args.platform.now).present (P.head c.args.platform.now) c.in-Ok.report (g.met.P.Platform.counts_pages told c.args.platform.now) (c.in-Ok.ensures.report told)), refl)
 
 pub returns-in-Err-Memory-clause-any : goal.returns-in-Err-Memory-clause-any
 returns-in-Err-Memory-clause-any g c told bad =

@@ -1,4 +1,4 @@
-use Rattle.std.proofs.Common.{◌≡◌, ◌∙◌, arith}
+use Rattle.std.proofs.Common.{◌≡◌, ◌∙◌, arith, refl}
 use Rattle.device_cli.proofs.LookLaws.{warm_less}
 use Rattle.device_session.proofs.CountLaws.{mapped_len}
 use Rattle.device_session.specs.Open.{number_of}
@@ -29,8 +29,8 @@ pub returns-in-None-clause-looks : goal.returns-in-None-clause-looks
 returns-in-None-clause-looks g c told before warm look = (omega arith, λ done. warm_less c.args.self.now.session before warm)
 
 pub returns-in-None-clause-any : goal.returns-in-None-clause-any
-returns-in-None-clause-any g c = c.in-None.is
+returns-in-None-clause-any g c = (c.in-None.is, refl)
 
 pub returns-in-Some-clause-any : goal.returns-in-Some-clause-any
 returns-in-Some-clause-any g c =
-    (held_has c.args.self.now.session c.in-Some.session (λ (s : Session). (c.mapped.result ≡ s.mapped) × (c.number.result ≡ number_of s)) c.in-Some.is (c.mapped.ensures, c.number.ensures), λ told. tt)
+    ((held_has c.args.self.now.session c.in-Some.session (λ (s : Session). (c.mapped.result ≡ s.mapped) × (c.number.result ≡ number_of s)) c.in-Some.is (c.mapped.ensures, c.number.ensures), λ told. tt), refl)

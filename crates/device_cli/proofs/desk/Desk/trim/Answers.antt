@@ -1,4 +1,4 @@
-use Rattle.std.proofs.Common.{◌≡◌, ◌<◌, ◌≤◌, ◌⊎◌, false, None, Some, Err, refl, ◌∙◌, ap, rules, arith}
+use Rattle.std.proofs.Common.{◌≡◌, ◌<◌, ◌≤◌, ◌⊎◌, false, None, Some, Err, refl, ◌∙◌, ap, rules, arith, sym}
 use Rattle.std.proofs.lemmas.Result.{err_from_is_err_and}
 use Rattle.std.proofs.lemmas.Grind.{common_steps}
 use Rattle.sdbt_base.specs.Arrays.{unmapped}
@@ -28,7 +28,7 @@ pub returns-in_default-clause-keeps : goal.returns-in_default-clause-keeps
 returns-in_default-clause-keeps g c = λ drawn written. on_start _ drawn written c.args.self.now.session _ _
 
 pub returns-in_default-clause-any : goal.returns-in_default-clause-any
-returns-in_default-clause-any g c = grind (arith, common_steps, c.in_default.is)
+returns-in_default-clause-any g c = (grind (arith, common_steps, c.in_default.is), refl)
 
 -- ---- a block past the device's
 
@@ -84,12 +84,14 @@ pub returns-clause-any : goal.returns-clause-any
 returns-clause-any g c =
     let P = g.P.Platform in
     let pages = (P.history c.args.platform.now).present.readable in
-    let after = (P.history c.trim_block.new.platform).present.readable in
-    held_has c.args.self.now.session c.in-Some.session (λ (s : Session). P.tells → HasTaken pages after s c.trim_block.new.session c.args.block) c.in-Some.is
-    (λ told. c.in_ok-trim_block.ensures.taken told (mounted_held _ c.in-Some.session _ c.in-Some.is (c.requires.mounted told)))
+    let after = (P.history c.trim_block.new.platform).present.readable in (
+      held_has c.args.self.now.session c.in-Some.session (λ (s : Session). P.tells → HasTaken pages after s c.trim_block.new.session c.args.block) c.in-Some.is
+          (λ told. c.in_ok-trim_block.ensures.taken told (mounted_held _ c.in-Some.session _ c.in-Some.is (c.requires.mounted told))),
+      tt,
+    )
 
 pub returns-then-block-blocks-clause-any : goal.returns-then-block-blocks-clause-any
-returns-then-block-blocks-clause-any g c = held_has c.args.self.now.session c.in-Some.session (λ (s : Session). blocks_of s ≤ c.args.block) c.in-Some.is (omega (arith, c.if-block-blocks.true, c.blocks-2.ensures))
+returns-then-block-blocks-clause-any g c = (held_has c.args.self.now.session c.in-Some.session (λ (s : Session). blocks_of s ≤ c.args.block) c.in-Some.is (omega (arith, c.if-block-blocks.true, c.blocks-2.ensures)), sym c.in-Some.is)
 
 -- ---- a stop
 

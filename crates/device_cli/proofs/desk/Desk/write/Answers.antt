@@ -1,4 +1,4 @@
-use Rattle.std.proofs.Common.{◌≡◌, ◌<◌, ◌≤◌, ◌⊎◌, true, List, [], ◌∷◌, ℕ, None, Some, Err, refl, take, ◌∙◌, ap, rules, arith}
+use Rattle.std.proofs.Common.{◌≡◌, ◌<◌, ◌≤◌, ◌⊎◌, true, List, [], ◌∷◌, ℕ, None, Some, Err, refl, take, ◌∙◌, ap, rules, arith, sym}
 use Rattle.std.proofs.lemmas.Grind.{common_steps}
 use Rattle.std.proofs.lemmas.Result.{err_from_is_err_and}
 use Rattle.sdbt_base.specs.Arrays.{padded, written}
@@ -30,7 +30,7 @@ pub returns-in_default-clause-keeps : goal.returns-in_default-clause-keeps
 returns-in_default-clause-keeps g c = λ ledger. on_start _ _ ledger c.args.self.now.session _ _
 
 pub returns-in_default-clause-any : goal.returns-in_default-clause-any
-returns-in_default-clause-any g c = grind (arith, common_steps, c.in_default.is)
+returns-in_default-clause-any g c = (grind (arith, common_steps, c.in_default.is), refl)
 
 -- ---- a block past the device's
 
@@ -105,16 +105,18 @@ returns-clause-any g c =
     let P = g.P.Platform in
     let pages = (P.history c.args.platform.now).present.readable in
     let after = (P.history c.write_block.new.platform).present.readable in
-    let bytes : List ℕ = take c.args.count c.args.self.now.buffer in
-    held_has c.args.self.now.session c.in-Some.session (λ (s : Session). P.tells → HasPut pages after s c.write_block.new.session c.args.block (padded bytes)) c.in-Some.is
-    (λ told. c.in_ok-write_block.ensures.written told (mounted_held _ c.in-Some.session _ c.in-Some.is (c.requires.before.mounted told)))
+    let bytes : List ℕ = take c.args.count c.args.self.now.buffer in (
+      held_has c.args.self.now.session c.in-Some.session (λ (s : Session). P.tells → HasPut pages after s c.write_block.new.session c.args.block (padded bytes)) c.in-Some.is
+          (λ told. c.in_ok-write_block.ensures.written told (mounted_held _ c.in-Some.session _ c.in-Some.is (c.requires.before.mounted told))),
+      tt,
+    )
 
 pub returns-then-block-blocks-clause-any : goal.returns-then-block-blocks-clause-any
-returns-then-block-blocks-clause-any g c = held_has c.args.self.now.session c.in-Some.session (λ (s : Session). blocks_of s ≤ c.args.block) c.in-Some.is (omega (arith, c.if-block-blocks.true, c.blocks-2.ensures))
+returns-then-block-blocks-clause-any g c = (held_has c.args.self.now.session c.in-Some.session (λ (s : Session). blocks_of s ≤ c.args.block) c.in-Some.is (omega (arith, c.if-block-blocks.true, c.blocks-2.ensures)), sym c.in-Some.is)
 
 pub returns-then-head-capacity-clause-any : goal.returns-then-head-capacity-clause-any
 returns-then-head-capacity-clause-any g c =
-    (held_has c.args.self.now.session c.in-Some.session (λ (s : Session). c.args.block < blocks_of s) c.in-Some.is (omega (arith, c.if-block-blocks.false, c.blocks-2.ensures)), λ told. tt)
+    ((held_has c.args.self.now.session c.in-Some.session (λ (s : Session). c.args.block < blocks_of s) c.in-Some.is (omega (arith, c.if-block-blocks.false, c.blocks-2.ensures)), λ told. tt), sym c.in-Some.is)
 
 -- ---- a stop
 
