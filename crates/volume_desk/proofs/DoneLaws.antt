@@ -30,7 +30,7 @@ use Rattle.volume_desk.specs.Turns.{IsBlockAt, NoBlock, commit_reply, destroy_re
 
 -- ---- moments
 
-pub was_mid : (old mid new : History) (session : Session) (Claim : Image → Session → Type 0) → Extends old mid → Extends mid new → IsMounted mid.present session → Claim mid.present session → WasOver (moment old) new Claim
+pub was_mid : (old mid new : History) (session : Session) (Claim : Image → Session → Type 0) → Extends old mid → Extends mid new → IsMounted mid.present session → Claim mid.present session → WasOver (moment old) (moment new) new Claim
 was_mid old mid new session Claim one two mounted is =
     let same : mid.present ≡ image_at new (moment mid) = sym (two.same (moment mid) (omega arith) ∙ image_at-now mid (moment mid) (omega arith)) in
     record {
@@ -42,20 +42,17 @@ was_mid old mid new session Claim one two mounted is =
       is = subst (λ (i : Image). Claim i session) same is;
     }
 
-pub was_now : (old new : History) (session : Session) (Claim : Image → Session → Type 0) → Extends old new → IsMounted new.present session → Claim new.present session → WasOver (moment old) new Claim
+pub was_now : (old new : History) (session : Session) (Claim : Image → Session → Type 0) → Extends old new → IsMounted new.present session → Claim new.present session → WasOver (moment old) (moment new) new Claim
 was_now old new session Claim extends mounted is = was_mid old new new session Claim extends (Extends-refl new) mounted is
 
-pub was_first : (old new : History) (session : Session) (Claim : Image → Session → Type 0) → Extends old new → IsMounted old.present session → Claim old.present session → WasOver (moment old) new Claim
-was_first old new session Claim extends mounted is = was_mid old old new session Claim (Extends-refl old) extends mounted is
-
--- what was so in a part of a run was so in the whole of it
-pub was_within : (old mid new : History) (low : ℕ) (Claim : Image → Session → Type 0) → Extends mid new → low ≤ moment old → WasOver (moment old) mid Claim → WasOver low new Claim
-was_within old mid new low Claim extends below was =
-    let same : image_at mid was.at ≡ image_at new was.at = sym (extends.same was.at was.within) in
+-- what was so is so in the longer history
+pub was_longer : (from to : ℕ) (old new : History) (Claim : Image → Session → Type 0) → Extends old new → to ≤ moment old → WasOver from to old Claim → WasOver from to new Claim
+was_longer from to old new Claim extends below was =
+    let same : image_at old was.at ≡ image_at new was.at = sym (extends.same was.at (omega (arith, was.within, below))) in
     record {
       at = was.at;
-      later = omega (arith, below, was.later);
-      within = omega (arith, was.within, extends.later);
+      later = was.later;
+      within = was.within;
       session = was.session;
       mounted = subst (λ (i : Image). IsMounted i was.session) same was.mounted;
       is = subst (λ (i : Image). Claim i was.session) same was.is;
@@ -81,7 +78,7 @@ answered_along tells old new session now here table table_now it buffer reply ex
     let Known : Type 0 = tells × IsMounted old.present session in (
       any.0,
       does_follows (λ Claim. Known → Claim old.present session) (λ Claim. Known → Claim new.present now) (λ Claim. Known → Claim new.present now) (λ Claim. tells → Claim old.present session) (λ Claim. tells → Claim new.present now)
-          (λ Claim. tells → WasOver (moment old) new Claim) table table_now (said reply buffer) it (λ Claim found told. found (told, mounted told)) (λ Claim left told. left (told, mounted told))
+          (λ Claim. tells → WasOver (moment old) (moment new) new Claim) table table_now (said reply buffer) it (λ Claim found told. found (told, mounted told)) (λ Claim left told. left (told, mounted told))
           (λ Claim left told. was_now old new now Claim (extends told) (goes told) (left (told, mounted told))) any.1,
     )
 
@@ -114,7 +111,7 @@ commit_does Found Left HadLeft table next (commits.Full needed free) answer buff
 pub commit_along : (tells : Type 0) (old new : History) (session now : Session) (here : Sizes) (table : List Volume) (reply : CommitReply) (answer : Given) (buffer : List ℕ) → answer ≡ commit_reply reply
     → AnswersAlong tells old new session (Some now) here table table Commit buffer (Ok answer)
 commit_along tells old new session now here table reply answer buffer is =
-    (commit_turns here table reply answer buffer is, commit_does (λ Claim. tells → Claim old.present session) (λ Claim. tells → Claim new.present now) (λ Claim. tells → WasOver (moment old) new Claim) table table reply answer buffer is)
+    (commit_turns here table reply answer buffer is, commit_does (λ Claim. tells → Claim old.present session) (λ Claim. tells → Claim new.present now) (λ Claim. tells → WasOver (moment old) (moment new) new Claim) table table reply answer buffer is)
 
 -- a destroy left this before its commit, and where too few pages were free for that it is so still
 destroy_does : (Found Left HadLeft : (Image → Session → Type 0) → Type 0) (table next : List Volume) (name : List ℕ) (reply : CommitReply) (answer : Given) (buffer : List ℕ) → answer ≡ destroy_reply reply
@@ -124,11 +121,11 @@ destroy_does Found Left HadLeft table next name (commits.Committed number) answe
 destroy_does Found Left HadLeft table next name (commits.Full needed free) answer buffer is had left = subst (λ (a : Given). DoesAny Found Left HadLeft table (said a buffer) (Destroy name) next) (sym is) (left needed free refl)
 
 pub destroy_along : (tells : Type 0) (old new : History) (session now : Session) (here : Sizes) (table next : List Volume) (name : List ℕ) (reply : CommitReply) (answer : Given) (buffer : List ℕ) → answer ≡ destroy_reply reply
-    → IsAccepted here.blocks table (Destroy name) next → (tells → WasOver (moment old) new (λ image s. IsCleared image s table name next)) → ((needed free : ℕ) → reply ≡ commits.Full needed free → tells → IsCleared new.present now table name next)
+    → IsAccepted here.blocks table (Destroy name) next → (tells → WasOver (moment old) (moment new) new (λ image s. IsCleared image s table name next)) → ((needed free : ℕ) → reply ≡ commits.Full needed free → tells → IsCleared new.present now table name next)
     → AnswersAlong tells old new session (Some now) here table next (Destroy name) buffer (Ok answer)
 destroy_along tells old new session now here table next name reply answer buffer is accepted had left = (
   destroy_turns here table next name reply answer buffer is accepted,
-  destroy_does (λ Claim. tells → Claim old.present session) (λ Claim. tells → Claim new.present now) (λ Claim. tells → WasOver (moment old) new Claim) table next name reply answer buffer is had left,
+  destroy_does (λ Claim. tells → Claim old.present session) (λ Claim. tells → Claim new.present now) (λ Claim. tells → WasOver (moment old) (moment new) new Claim) table next name reply answer buffer is had left,
 )
 
 pub short_still : {S R W : Type 0} (P : PlatformGhosts S) (platform platform_now : S) (tape tape_now : R) (ledger ledger_now : W) (session now : Session) (reply : CommitReply) (needed free : ℕ) (Claim : Image → Session → Type 0) → reply ≡ commits.Full needed free

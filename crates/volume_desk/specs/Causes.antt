@@ -136,7 +136,7 @@ AnswersOver tells before image session now here table table_now it buffer result
 -- those of a line, behind which this session goes on: what it left is so of that one; and what it left before a commit was so at a moment of the line
 abbrev pub AnswersAlong : Type 0 → History → History → Session → Option Session → Sizes → List Volume → List Volume → Line → List ℕ → Result Given DeviceStop → Type 0
 AnswersAlong tells old new session after here table table_now it buffer result =
-    AnswersAny tells (Over old.present session) (OverIf new.present after) (WasOver (moment old) new) new.present here table table_now it buffer result
+    AnswersAny tells (Over old.present session) (OverIf new.present after) (WasOver (moment old) (moment new) new) new.present here table table_now it buffer result
 
 -- the answer of which that speaks
 abbrev pub answer_in : Result Answered DeviceStop → Result Given DeviceStop

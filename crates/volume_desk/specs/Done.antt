@@ -2,7 +2,7 @@
 use Rattle.std.specs.Prelude.{◌≡◌, ◌≤◌, ◌<◌, ◌+◌, ℕ, List, Option, IfSome, false}
 use Rattle.sdbt_base.specs.Arrays.{padded}
 use Rattle.platform.specs.Image.{Image}
-use Rattle.platform.specs.History.{History, image_at, moment}
+use Rattle.platform.specs.History.{History, image_at}
 use Rattle.device_session.specs.Damage.{IsFound}
 use Rattle.device_session.specs.Open.{blocks_of}
 use Rattle.device_session.specs.Reading.{FindsContent, KeepsBlock}
@@ -25,11 +25,11 @@ Over image session Claim = Claim image session
 abbrev pub OverIf : Image → Option Session → (Image → Session → Type 0) → Type 0
 OverIf image after Claim = IfSome after (λ now. Claim image now)
 
--- so it was at a moment, which is not before this one, of a session on the root record in the cell
-pub record WasOver (from : ℕ) (history : History) (Claim : Image → Session → Type 0) : Type 0 where
+-- so it was at a moment, from this one on and up to that one, of a session on the root record in the cell
+pub record WasOver (from to : ℕ) (history : History) (Claim : Image → Session → Type 0) : Type 0 where
   pub at : ℕ
   pub later : from ≤ at
-  pub within : at ≤ moment history
+  pub within : at ≤ to
   pub session : Session
   pub mounted : IsMounted (image_at history at) session
   pub is : Claim (image_at history at) session

@@ -11,6 +11,7 @@ use Rattle.platform.specs.History.{Extends, History, moment}
 use Rattle.platform.proofs.Moments.{Extends-refl, image_at-now}
 use Rattle.device_course.specs.States.{IsLater, Outside}
 use Rattle.device_course.proofs.MadeLaws.{made_again, made_start, made_then, shut}
+use Rattle.device_session.specs.Open.{blocks_of}
 use Rattle.device_session.specs.Sessions.{Session}
 use Rattle.line_run.specs.Puts.{HasPut, IsBehind, no_line}
 use Rattle.line_run.specs.Stops.{Ending, IsOfLine}
@@ -39,7 +40,7 @@ use Rattle.volume_desk.specs.Turns.{HasPages, IsHeld, Served, Shows, Stopped, St
 use Rattle.volume_serving.specs.World.{World, IsOn}
 use Rattle.volume_serving.specs.Handled.{ending_of, goes_on, AreMany, AreShown, EndsOn, Handled, OnLines, Replied}
 use Rattle.volume_serving.specs.Drawing.{DrewUntil, tally_of}
-use Rattle.volume_serving.specs.Tabled.{Did, IfStopped, IsTurnOn, OnTables}
+use Rattle.volume_serving.specs.Tabled.{Did, IfStopped, IsTurnOn, OnTables, Pause, pause}
 use Rattle.volume_serving.proofs.DrawingLaws.{until_bad, until_cut, until_line, until_longer, until_none, until_then}
 use Rattle.volume_serving.proofs.TabledLaws.{did_now, if_stopped_behind, if_stopped_longer, next_behind, next_longer, tables_cut, tables_longer, tables_nothing, tables_then}
 
@@ -68,7 +69,7 @@ pub handled_nothing : (tells : Type 0) (blocks : ℕ) (w : World) (written : Opt
 handled_nothing tells blocks w written fits = record {
   put = [];
   got = Got-nothing written;
-  replied = record { replies = []; part = []; put_is = refl; behind = refl; many = refl; tables = tables_nothing tells blocks w.table w.outside; drew = until_none (tally_of w.outside) []; later = later_none w.outside fits; led = λ told entry on. on_nothing w entry on };
+  replied = record { replies = []; part = []; put_is = refl; behind = refl; many = refl; tables = λ held is. tables_nothing tells blocks held w.session w.table w.outside is; drew = until_none (tally_of w.outside) []; later = later_none w.outside fits; led = λ told entry on. on_nothing w entry on };
 }
 
 -- ---- lines behind others
@@ -189,7 +190,8 @@ replied_then tells blocks old mid new ending lines more put others one two =
       behind = two.behind;
       many = subst (λ (n : ℕ). AreMany n (length (lines ++ more)) ending) (sym (length-append one.replies two.replies))
           (subst (λ (n : ℕ). AreMany (length one.replies + length two.replies) n ending) (sym (length-append lines more)) (many_then (length one.replies) (length two.replies) (length lines) (length more) ending one.many two.many));
-      tables = tables_then tells blocks old.table mid.table new.table old.outside mid.outside new.outside lines more one.replies two.replies ending two.later one.many one.tables two.tables;
+      tables = λ held is. tables_then tells blocks (pause (moment old.outside.history) held old.table) mid.session new.session mid.table new.table old.outside mid.outside new.outside lines more one.replies two.replies ending two.later one.many
+          (one.tables held is) two.tables;
       drew = until_then (tally_of old.outside) (tally_of mid.outside) (tally_of new.outside) lines more one.replies two.replies one.many one.drew two.drew;
       later = later_then old.outside mid.outside new.outside one.later two.later;
       led = λ told entry on. on_then old mid new entry lines more one.replies two.replies two.part ending one.later.capacity one.many
@@ -246,7 +248,7 @@ handled_longer tells blocks old new stop lines more a b line p =
         put_is = r.put_is;
         behind = r.behind;
         many = subst (λ (n : ℕ). AreMany (length r.replies) n (Err stop)) (sym (length-append lines more)) (many_longer (length r.replies) (length lines) (length more) stop line r.many);
-        tables = tables_longer tells blocks old.table new.table old.outside new.outside lines more r.replies stop line r.tables;
+        tables = λ held is. tables_longer tells blocks (pause (moment old.outside.history) held old.table) new.session new.table old.outside new.outside lines more r.replies stop line (r.tables held is);
         drew = until_longer (tally_of old.outside) (tally_of new.outside) lines more r.replies r.drew;
         later = r.later;
         led = λ told entry on. on_longer old new entry lines more r.replies r.part stop line (r.led told entry on);
@@ -303,17 +305,22 @@ shown_one : (old new : History) (reply : Reply) (next : Held) → moment old ≤
 shown_one old new reply next later shows = (moment new, later, omega arith, subst (λ (image : Image). Shows image reply next) (sym (image_at-now new (moment new) (omega arith))) shows, tt)
 
 -- what is said of it and its reply on any pages: it is one over the table, what a content is, and which keys it drew, whether the reply is put or not
-pub record SaysOf (tells : Type 0) (blocks : ℕ) (old : World) (table_now : List Volume) (new : Outside) (text : List ℕ) (reply : Reply) : Type 0 where
+pub record SaysOf (tells : Type 0) (blocks : ℕ) (old : World) (now : Session) (table_now : List Volume) (new : Outside) (text : List ℕ) (reply : Reply) : Type 0 where
   pub extends : tells → Extends old.outside.history new.history
-  pub turn : IsTurnOn (sizes blocks new.head new.capacity) (Did tells new.history (moment old.outside.history)) old.table text reply table_now
+  pub turn : (held : Session) → old.session ≡ Some held
+      → IsTurnOn (sizes blocks new.head new.capacity) (Did tells new.history) (pause (moment old.outside.history) held old.table) text reply (pause (moment new.history) now table_now)
   pub drew : DrewUntil (tally_of old.outside) (text ∷ []) (reply ∷ []) (tally_of new)
   pub cut : DrewUntil (tally_of old.outside) (text ∷ []) [] (tally_of new)
 
+-- the session that is held is one
+same_held : (old : World) (session held : Session) → old.session ≡ Some session → old.session ≡ Some held → session ≡ held
+same_held old session held going is = let e : Some session ≡ Some held = sym going ∙ is in cc
+
 -- a line outside the grammar
-pub bad_says : (tells : Type 0) (blocks : ℕ) (old : World) (text : List ℕ) → IsBad text → SaysOf tells blocks old old.table old.outside text Bad
-bad_says tells blocks old text bad = record {
+pub bad_says : (tells : Type 0) (blocks : ℕ) (old : World) (session : Session) (text : List ℕ) → old.session ≡ Some session → IsBad text → SaysOf tells blocks old session old.table old.outside text Bad
+bad_says tells blocks old session text going bad = record {
   extends = λ told. Extends-refl old.outside.history;
-  turn = inr (bad, refl, refl);
+  turn = λ held is. inr (bad, refl, ap (λ (s : Session). pause (moment old.outside.history) s old.table) (same_held old session held going is));
   drew = until_bad (tally_of old.outside) text bad;
   cut = until_none (tally_of old.outside) (text ∷ []);
 }
@@ -324,20 +331,21 @@ pub still_of : {T : Type 0} (draws : T → Option (List (List ℕ))) (tape tape_
 still_of draws tape tape_now pages pages_now it undrawn unadded none = λ k. tally (draws (undrawn none k)) (unadded none k)
 
 -- one in the grammar, by what the desk says of it
-pub served_says : (tells : Type 0) (blocks : ℕ) (old : World) (session now : Session) (table_now : List Volume) (new : Outside) (text : List ℕ) (it : Line) (reply : Reply) → Spells text it → (tells → Extends old.outside.history new.history)
-    → (tells → IsMounted old.outside.history.present session) → (tells → IsMounted new.history.present now) → TurnsTable (sizes blocks new.head new.capacity) old.table it reply table_now
-    × DoesAny (λ Claim. tells → Claim old.outside.history.present session) (λ Claim. tells → Claim new.history.present now) (λ Claim. tells → WasOver (moment old.outside.history) new.history Claim) old.table reply it table_now
-    → DrewFor (tally_of old.outside) it reply (tally_of new) → ((Draws it → ⊥) → tally_of new ≡ tally_of old.outside) → SaysOf tells blocks old table_now new text reply
-served_says tells blocks old session now table_now new text it reply spelled extends mounted goes any drew still = record {
+pub served_says : (tells : Type 0) (blocks : ℕ) (old : World) (session now : Session) (table_now : List Volume) (new : Outside) (text : List ℕ) (it : Line) (reply : Reply) → old.session ≡ Some session → Spells text it → (tells → Extends old.outside.history new.history)
+    → (tells → IsMounted new.history.present now) → blocks_of now ≡ blocks_of session → TurnsTable (sizes blocks new.head new.capacity) old.table it reply table_now
+    × DoesAny (λ Claim. tells → Claim old.outside.history.present session) (λ Claim. tells → Claim new.history.present now) (λ Claim. tells → WasOver (moment old.outside.history) (moment new.history) new.history Claim) old.table reply it table_now
+    → DrewFor (tally_of old.outside) it reply (tally_of new) → ((Draws it → ⊥) → tally_of new ≡ tally_of old.outside) → SaysOf tells blocks old now table_now new text reply
+served_says tells blocks old session now table_now new text it reply going spelled extends goes blocks_same any drew still = record {
   extends = extends;
-  turn = inl (it, spelled, any.0, did_now tells old.outside.history new.history session now old.table it reply table_now extends mounted goes any.1);
+  turn = λ held is. subst (λ (s : Session). IsTurnOn (sizes blocks new.head new.capacity) (Did tells new.history) (pause (moment old.outside.history) s old.table) text reply (pause (moment new.history) now table_now)) (same_held old session held going is)
+      (inl (it, spelled, any.0, did_now tells old.outside.history new.history session now old.table it reply table_now extends goes blocks_same any.1));
   drew = until_line (tally_of old.outside) (tally_of new) text it reply spelled drew;
   cut = until_cut (tally_of old.outside) (tally_of new) text it drew.0 spelled still drew.2.drew;
 }
 
 -- its reply is put
 pub line_put : (tells : Type 0) (blocks : ℕ) (old new : World) (now : Session) (text : List ℕ) (reply : Reply) (a b : Option (List ℕ)) → new.session ≡ Some now → IsLater old.outside new.outside
-    → SaysOf tells blocks old new.table new.outside text reply
+    → SaysOf tells blocks old now new.table new.outside text reply
     → (tells → (entry : Held) → IsOn old entry → IsTurn old new.outside.history.present new.outside.head now new.table new.outside.history entry text reply) → Got a (line_of reply) b
     → Handled tells blocks old new (Ok tt) (text ∷ []) a b
 line_put tells blocks old new now text reply a b going later says turns got = record {
@@ -349,7 +357,7 @@ line_put tells blocks old new now text reply a b going later says turns got = re
     put_is = sym (append-nil (line_of reply ++ []) ∙ append-nil (line_of reply));
     behind = refl;
     many = refl;
-    tables = record { last = new.table; extends = says.extends; turns = (new.table, says.turn, refl); going = refl; stopped = tt };
+    tables = λ held is. let behind : Pause = pause (moment new.outside.history) now new.table in record { last = behind; extends = says.extends; turns = (behind, says.turn held is, refl); going = (now, going, refl); stopped = tt };
     drew = says.drew;
     later = later;
     led = λ told entry on.
@@ -366,7 +374,7 @@ line_put tells blocks old new now text reply a b going later says turns got = re
 
 -- or only a part of it
 pub line_cut : (tells : Type 0) (blocks : ℕ) (old new : World) (now : Session) (image : Image) (head : ℕ) (table_now : List Volume) (text : List ℕ) (reply : Reply) (a b : Option (List ℕ)) → IsLater old.outside new.outside
-    → SaysOf tells blocks old table_now new.outside text reply
+    → SaysOf tells blocks old now table_now new.outside text reply
     → (tells → (entry : Held) → IsOn old entry → IsTurn old image head now table_now new.outside.history entry text reply) → GotPart a (line_of reply) b
     → Handled tells blocks old new (Err stops.Sink) (text ∷ []) a b
 line_cut tells blocks old new now image head table_now text reply a b later says turns (n, got) = record {
@@ -378,7 +386,7 @@ line_cut tells blocks old new now image head table_now text reply a b later says
     put_is = refl;
     behind = inl (reply, (n, refl));
     many = omega arith;
-    tables = record { last = old.table; extends = says.extends; turns = refl; going = tt; stopped = tt };
+    tables = λ held is. record { last = pause (moment old.outside.history) held old.table; extends = says.extends; turns = refl; going = tt; stopped = tt };
     drew = says.cut;
     later = later;
     led = λ told entry on.
@@ -418,7 +426,7 @@ line_stop tells blocks old new session text it stop a going spelled may later ex
     put_is = refl;
     behind = refl;
     many = omega arith;
-    tables = record { last = old.table; extends = extends; turns = refl; going = tt; stopped = (it, spelled, may) };
+    tables = λ held is. record { last = pause (moment old.outside.history) held old.table; extends = extends; turns = refl; going = tt; stopped = (it, spelled, may) };
     drew = drew;
     later = later;
     led = λ told entry on.
@@ -437,7 +445,7 @@ line_stop tells blocks old new session text it stop a going spelled may later ex
 
 -- a reply that was put, or was not
 pub line_told : (tells : Type 0) (blocks : ℕ) (old : World) (outside : Outside) (now : Session) (table_now : List Volume) (text : List ℕ) (reply : Reply) (result : Result Session Stop) (a b : Option (List ℕ)) → IsLater old.outside outside
-    → SaysOf tells blocks old table_now outside text reply
+    → SaysOf tells blocks old now table_now outside text reply
     → (tells → (entry : Held) → IsOn old entry → IsTurn old outside.history.present outside.head now table_now outside.history entry text reply) → IfOk result (λ s. s ≡ now) → HasPut (line_of reply) (ending_of result) a b
     → Handled tells blocks old (record { session = goes_on result; table = table_now; outside = outside }) (ending_of result) (text ∷ []) a b
 line_told tells blocks old outside now table_now text reply (Ok session) a b later says turns same put =
@@ -459,7 +467,8 @@ on_cut old new entry lines replies part on = (
 
 -- a run that handled its lines, and ended so behind them
 handled_ended : (tells : Type 0) (blocks : ℕ) (old new : World) (ending : Ending) (lines : List (List ℕ)) (a b : Option (List ℕ)) (p : Handled tells blocks old new (Ok tt) lines a b) → IsBehind line_of no_line p.replied.part ending
-    → AreMany (length p.replied.replies) (length lines) ending → OnTables tells blocks old.table new.table old.outside new.outside lines p.replied.replies ending
+    → AreMany (length p.replied.replies) (length lines) ending
+    → ((held : Session) → old.session ≡ Some held → OnTables tells blocks (pause (moment old.outside.history) held old.table) new.session new.table old.outside new.outside lines p.replied.replies ending)
     → ((entry : Held) → OnLines old new entry lines p.replied.replies p.replied.part (Ok tt) → OnLines old new entry lines p.replied.replies p.replied.part ending) → Handled tells blocks old new ending lines a b
 handled_ended tells blocks old new ending lines a b p behind many tables on = let r = p.replied in record {
   put = p.put;
@@ -480,8 +489,8 @@ handled_ended tells blocks old new ending lines a b p behind many tables on = le
 pub handled_cut : (tells : Type 0) (blocks : ℕ) (old new : World) (lines : List (List ℕ)) (a b : Option (List ℕ)) → Handled tells blocks old new (Ok tt) lines a b
     → Handled tells blocks old new (Err stops.Source) lines a b × Handled tells blocks old new (Err stops.Limit) lines a b
 handled_cut tells blocks old new lines a b p = let r = p.replied in (
-  handled_ended tells blocks old new (Err stops.Source) lines a b p r.behind r.many (tables_cut tells blocks old.table new.table old.outside new.outside lines r.replies r.tables).0 (λ entry on. (on_cut old new entry lines r.replies r.part on).0),
-  handled_ended tells blocks old new (Err stops.Limit) lines a b p r.behind r.many (tables_cut tells blocks old.table new.table old.outside new.outside lines r.replies r.tables).1 (λ entry on. (on_cut old new entry lines r.replies r.part on).1),
+  handled_ended tells blocks old new (Err stops.Source) lines a b p r.behind r.many (λ held is. (tables_cut tells blocks (pause (moment old.outside.history) held old.table) new.session new.table old.outside new.outside lines r.replies (r.tables held is)).0) (λ entry on. (on_cut old new entry lines r.replies r.part on).0),
+  handled_ended tells blocks old new (Err stops.Limit) lines a b p r.behind r.many (λ held is. (tables_cut tells blocks (pause (moment old.outside.history) held old.table) new.session new.table old.outside new.outside lines r.replies (r.tables held is)).1) (λ entry on. (on_cut old new entry lines r.replies r.part on).1),
 )
 
 -- ---- how many replies there are

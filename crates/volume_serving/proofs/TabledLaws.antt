@@ -1,9 +1,10 @@
 -- Replies over a table, and stops at a line, behind other lines and before more of them.
-use Rattle.std.proofs.Common.{◌≡◌, ◌≤◌, ℕ, List, [], ◌∷◌, ◌++◌, Ok, Err, inl, inr, length, refl, sym, subst, arith}
+use Rattle.std.proofs.Common.{◌≡◌, ◌≤◌, ◌∙◌, ℕ, List, [], ◌∷◌, ◌++◌, Option, Some, Ok, Err, inl, inr, length, refl, sym, subst, arith}
 use Rattle.platform.specs.Image.{Image}
-use Rattle.platform.specs.History.{Extends, History, moment}
-use Rattle.platform.proofs.Moments.{Extends-refl, Extends-trans}
+use Rattle.platform.specs.History.{Extends, History, image_at, moment}
+use Rattle.platform.proofs.Moments.{Extends-refl, Extends-trans, image_at-now}
 use Rattle.device_course.specs.States.{IsLater, Outside}
+use Rattle.device_session.specs.Open.{blocks_of}
 use Rattle.device_session.specs.Sessions.{Session}
 use Rattle.line_run.specs.Stops.{Ending, IsOfLine}
 use Rattle.line_run.specs.declared.stop.Stop.{Stop}
@@ -15,9 +16,9 @@ use Rattle.volume_lines.specs.Grammar.{Spells}
 use Rattle.volume_lines.specs.Lines.{Line, Create, Read, Write, Trim, Destroy, Commit}
 use Rattle.volume_lines.specs.Replies.{Reply}
 use Rattle.volume_desk.specs.Causes.{LacksPages, Sizes, StopsAny, TurnsTable, sizes}
-use Rattle.volume_desk.specs.Done.{DoesAny, WasOver}
-use Rattle.volume_desk.proofs.DoneLaws.{does_follows, was_first, was_now, was_within}
-use Rattle.volume_serving.specs.Tabled.{AreTurnsOn, Did, IfNext, IfStopped, IsTurnOn, OnTables}
+use Rattle.volume_desk.specs.Done.{DoesAny, Over, WasOver}
+use Rattle.volume_desk.proofs.DoneLaws.{does_follows, was_longer}
+use Rattle.volume_serving.specs.Tabled.{AreTurnsOn, Did, IfNext, IfStopped, IsTurnOn, OnTables, Pause, pause}
 
 -- ---- the line in hand
 
@@ -64,99 +65,112 @@ turn_later blocks pages pages_now capacity table next it reply rises (inr (done,
 turn_later blocks pages pages_now capacity table next it reply rises (inr (done, accepted, inr (lacks, full, same))) =
     inr (done, accepted, inr (lacks_later blocks pages pages_now capacity it rises lacks, full, same))
 
-on_later : (blocks pages pages_now capacity : ℕ) (DidSo Does : List Volume → Line → Reply → List Volume → Type 0) (table next : List Volume) (line : List ℕ) (reply : Reply) → pages ≤ pages_now
-    → ((it : Line) → DidSo table it reply next → Does table it reply next) → IsTurnOn (sizes blocks pages capacity) DidSo table line reply next → IsTurnOn (sizes blocks pages_now capacity) Does table line reply next
-on_later blocks pages pages_now capacity DidSo Does table next line reply rises follows (inl (it, spelled, turn, did)) = inl (it, spelled, turn_later blocks pages pages_now capacity table next it reply rises turn, follows it did)
-on_later blocks pages pages_now capacity DidSo Does table next line reply rises follows (inr bad) = inr bad
+on_later : (blocks pages pages_now capacity : ℕ) (DidSo Does : Pause → Line → Reply → Pause → Type 0) (here next : Pause) (line : List ℕ) (reply : Reply) → pages ≤ pages_now
+    → ((it : Line) → DidSo here it reply next → Does here it reply next) → IsTurnOn (sizes blocks pages capacity) DidSo here line reply next → IsTurnOn (sizes blocks pages_now capacity) Does here line reply next
+on_later blocks pages pages_now capacity DidSo Does here next line reply rises follows (inl (it, spelled, turn, did)) =
+    inl (it, spelled, turn_later blocks pages pages_now capacity here.table next.table it reply rises turn, follows it did)
+on_later blocks pages pages_now capacity DidSo Does here next line reply rises follows (inr bad) = inr bad
 
-turns_later : (blocks pages pages_now capacity : ℕ) (DidSo Does : List Volume → Line → Reply → List Volume → Type 0) (table last : List Volume) (lines : List (List ℕ)) (replies : List Reply) → pages ≤ pages_now
-    → ((table : List Volume) (it : Line) (reply : Reply) (next : List Volume) → DidSo table it reply next → Does table it reply next) → AreTurnsOn (sizes blocks pages capacity) DidSo table lines replies last
-    → AreTurnsOn (sizes blocks pages_now capacity) Does table lines replies last
-turns_later blocks pages pages_now capacity DidSo Does table last lines [] rises follows turns = turns
-turns_later blocks pages pages_now capacity DidSo Does table last [] (reply ∷ replies) rises follows turns = absurd turns
-turns_later blocks pages pages_now capacity DidSo Does table last (line ∷ lines) (reply ∷ replies) rises follows (next, turn, turns) = (
+turns_later : (blocks pages pages_now capacity : ℕ) (DidSo Does : Pause → Line → Reply → Pause → Type 0) (here last : Pause) (lines : List (List ℕ)) (replies : List Reply) → pages ≤ pages_now
+    → ((here : Pause) (it : Line) (reply : Reply) (next : Pause) → DidSo here it reply next → Does here it reply next) → AreTurnsOn (sizes blocks pages capacity) DidSo here lines replies last
+    → AreTurnsOn (sizes blocks pages_now capacity) Does here lines replies last
+turns_later blocks pages pages_now capacity DidSo Does here last lines [] rises follows turns = turns
+turns_later blocks pages pages_now capacity DidSo Does here last [] (reply ∷ replies) rises follows turns = absurd turns
+turns_later blocks pages pages_now capacity DidSo Does here last (line ∷ lines) (reply ∷ replies) rises follows (next, turn, turns) = (
   next,
-  on_later blocks pages pages_now capacity DidSo Does table next line reply rises (λ it did. follows table it reply next did) turn,
+  on_later blocks pages pages_now capacity DidSo Does here next line reply rises (λ it did. follows here it reply next did) turn,
   turns_later blocks pages pages_now capacity DidSo Does next last lines replies rises follows turns,
 )
 
 -- ---- what was found or left
 
--- what was so in a part of a run was so in the whole of it
-pub did_within : (tells : Type 0) (old mid new : History) (low : ℕ) (table : List Volume) (it : Line) (reply : Reply) (next : List Volume) → (tells → Extends mid new) → (tells → low ≤ moment old) → Did tells mid (moment old) table it reply next → Did tells new low table it reply next
-did_within tells old mid new low table it reply next extends below did =
-    let was : (Claim : Image → Session → Type 0) → (tells → WasOver (moment old) mid Claim) → tells → WasOver low new Claim = λ Claim so told. was_within old mid new low Claim (extends told) (below told) (so told) in
-    does_follows _ _ _ _ _ _ table next reply it was was was did
+-- what was so in a part of a run is so in the longer history
+did_longer : (tells : Type 0) (old new : History) (here : Pause) (it : Line) (reply : Reply) (next : Pause) → (tells → Extends old new) → Did tells old here it reply next → Did tells new here it reply next
+did_longer tells old new here it reply next extends did told =
+    let longer = extends told in
+    let was = did told in
+    let led = was.0 in
+    let there : image_at new here.at ≡ image_at old here.at = longer.same here.at (omega (arith, led.later, led.within)) in
+    let behind : image_at new next.at ≡ image_at old next.at = longer.same next.at led.within in (
+      record { later = led.later; within = omega (arith, led.within, longer.later); mounted = subst (λ (i : Image). IsMounted i next.session) (sym behind) led.mounted; blocks = led.blocks },
+      does_follows (Over (image_at old here.at) here.session) (Over (image_at old next.at) next.session) (WasOver here.at next.at old) (Over (image_at new here.at) here.session) (Over (image_at new next.at) next.session) (WasOver here.at next.at new)
+          here.table next.table reply it (λ Claim found. subst (λ (i : Image). Claim i here.session) (sym there) found) (λ Claim left. subst (λ (i : Image). Claim i next.session) (sym behind) left)
+          (λ Claim had. was_longer here.at next.at old new Claim longer led.within had) was.1,
+    )
 
--- what a line found was so before it, and what it left behind it
-pub did_now : (tells : Type 0) (old new : History) (session now : Session) (table : List Volume) (it : Line) (reply : Reply) (next : List Volume) → (tells → Extends old new) → (tells → IsMounted old.present session) → (tells → IsMounted new.present now)
-    → DoesAny (λ Claim. tells → Claim old.present session) (λ Claim. tells → Claim new.present now) (λ Claim. tells → WasOver (moment old) new Claim) table reply it next → Did tells new (moment old) table it reply next
-did_now tells old new session now table it reply next extends mounted goes does =
-    let Was : (Image → Session → Type 0) → Type 0 = λ Claim. tells → WasOver (moment old) new Claim in
-    does_follows (λ Claim. tells → Claim old.present session) (λ Claim. tells → Claim new.present now) Was Was Was Was table next reply it (λ Claim found told. was_first old new session Claim (extends told) (mounted told) (found told)) (λ Claim left told. was_now old new now Claim (extends told) (goes told) (left told)) (λ Claim had. had) does
+-- what a line found was so before it, and what it left is so behind it
+pub did_now : (tells : Type 0) (old new : History) (session now : Session) (table : List Volume) (it : Line) (reply : Reply) (next : List Volume) → (tells → Extends old new) → (tells → IsMounted new.present now) → blocks_of now ≡ blocks_of session
+    → DoesAny (λ Claim. tells → Claim old.present session) (λ Claim. tells → Claim new.present now) (λ Claim. tells → WasOver (moment old) (moment new) new Claim) table reply it next
+    → Did tells new (pause (moment old) session table) it reply (pause (moment new) now next)
+did_now tells old new session now table it reply next extends goes blocks does told =
+    let longer = extends told in
+    let there : image_at new (moment old) ≡ old.present = longer.same (moment old) (omega arith) ∙ image_at-now old (moment old) (omega arith) in
+    let behind : image_at new (moment new) ≡ new.present = image_at-now new (moment new) (omega arith) in (
+      record { later = longer.later; within = omega arith; mounted = subst (λ (i : Image). IsMounted i now) (sym behind) (goes told); blocks = blocks },
+      does_follows (λ Claim. tells → Claim old.present session) (λ Claim. tells → Claim new.present now) (λ Claim. tells → WasOver (moment old) (moment new) new Claim) (Over (image_at new (moment old)) session)
+          (Over (image_at new (moment new)) now) (WasOver (moment old) (moment new) new) table next reply it (λ Claim found. subst (λ (i : Image). Claim i session) (sym there) (found told))
+          (λ Claim left. subst (λ (i : Image). Claim i now) (sym behind) (left told)) (λ Claim had. had told) does,
+    )
 
 -- ---- lines behind others, and more of them
 
-turns_then : (here : Sizes) (DidSo : List Volume → Line → Reply → List Volume → Type 0) (table mid last : List Volume) (lines more : List (List ℕ)) (replies others : List Reply) → length replies ≡ length lines → AreTurnsOn here DidSo table lines replies mid
-    → AreTurnsOn here DidSo mid more others last → AreTurnsOn here DidSo table (lines ++ more) (replies ++ others) last
-turns_then here DidSo table mid last [] more [] others same one two = subst (λ (t : List Volume). AreTurnsOn here DidSo t more others last) one two
-turns_then here DidSo table mid last [] more (reply ∷ replies) others same one two = absurd one
-turns_then here DidSo table mid last (line ∷ lines) more [] others same one two = absurd (omega (arith, same))
-turns_then here DidSo table mid last (line ∷ lines) more (reply ∷ replies) others same (next, turn, one) two = (next, turn, turns_then here DidSo next mid last lines more replies others (omega (arith, same)) one two)
+turns_then : (here : Sizes) (DidSo : Pause → Line → Reply → Pause → Type 0) (start mid last : Pause) (lines more : List (List ℕ)) (replies others : List Reply) → length replies ≡ length lines → AreTurnsOn here DidSo start lines replies mid
+    → AreTurnsOn here DidSo mid more others last → AreTurnsOn here DidSo start (lines ++ more) (replies ++ others) last
+turns_then here DidSo start mid last [] more [] others same one two = subst (λ (p : Pause). AreTurnsOn here DidSo p more others last) one two
+turns_then here DidSo start mid last [] more (reply ∷ replies) others same one two = absurd one
+turns_then here DidSo start mid last (line ∷ lines) more [] others same one two = absurd (omega (arith, same))
+turns_then here DidSo start mid last (line ∷ lines) more (reply ∷ replies) others same (next, turn, one) two = (next, turn, turns_then here DidSo next mid last lines more replies others (omega (arith, same)) one two)
 
-turns_longer : (here : Sizes) (DidSo : List Volume → Line → Reply → List Volume → Type 0) (table last : List Volume) (lines more : List (List ℕ)) (replies : List Reply) → AreTurnsOn here DidSo table lines replies last → AreTurnsOn here DidSo table (lines ++ more) replies last
-turns_longer here DidSo table last lines more [] turns = turns
-turns_longer here DidSo table last [] more (reply ∷ replies) turns = absurd turns
-turns_longer here DidSo table last (line ∷ lines) more (reply ∷ replies) (next, turn, turns) = (next, turn, turns_longer here DidSo next last lines more replies turns)
+turns_longer : (here : Sizes) (DidSo : Pause → Line → Reply → Pause → Type 0) (start last : Pause) (lines more : List (List ℕ)) (replies : List Reply) → AreTurnsOn here DidSo start lines replies last → AreTurnsOn here DidSo start (lines ++ more) replies last
+turns_longer here DidSo start last lines more [] turns = turns
+turns_longer here DidSo start last [] more (reply ∷ replies) turns = absurd turns
+turns_longer here DidSo start last (line ∷ lines) more (reply ∷ replies) (next, turn, turns) = (next, turn, turns_longer here DidSo next last lines more replies turns)
 
-pub tables_nothing : (tells : Type 0) (blocks : ℕ) (table : List Volume) (here : Outside) → OnTables tells blocks table table here here [] [] (Ok tt)
-tables_nothing tells blocks table here = record { last = table; extends = λ told. Extends-refl here.history; turns = refl; going = refl; stopped = tt }
+pub tables_nothing : (tells : Type 0) (blocks : ℕ) (held : Session) (after : Option Session) (table : List Volume) (here : Outside) → after ≡ Some held → OnTables tells blocks (pause (moment here.history) held table) after table here here [] [] (Ok tt)
+tables_nothing tells blocks held after table here is = record { last = pause (moment here.history) held table; extends = λ told. Extends-refl here.history; turns = refl; going = (held, is, refl); stopped = tt }
 
-pub tables_then : (tells : Type 0) (blocks : ℕ) (table between last : List Volume) (old mid new : Outside) (lines more : List (List ℕ)) (replies others : List Reply) (ending : Ending) → IsLater mid new → length replies ≡ length lines
-    → OnTables tells blocks table between old mid lines replies (Ok tt) → OnTables tells blocks between last mid new more others ending → OnTables tells blocks table last old new (lines ++ more) (replies ++ others) ending
-tables_then tells blocks table between last old mid new lines more replies others ending later same one two =
+pub tables_then : (tells : Type 0) (blocks : ℕ) (start : Pause) (between after : Option Session) (table_mid table_now : List Volume) (old mid new : Outside) (lines more : List (List ℕ)) (replies others : List Reply) (ending : Ending) → IsLater mid new → length replies ≡ length lines
+    → OnTables tells blocks start between table_mid old mid lines replies (Ok tt) → ((held : Session) → between ≡ Some held → OnTables tells blocks (pause (moment mid.history) held table_mid) after table_now mid new more others ending)
+    → OnTables tells blocks start after table_now old new (lines ++ more) (replies ++ others) ending
+tables_then tells blocks start between after table_mid table_now old mid new lines more replies others ending later same one more_of =
     let here : Sizes = sizes blocks new.head new.capacity in
-    let DidSo : List Volume → Line → Reply → List Volume → Type 0 = Did tells new.history (moment old.history) in
-    let grown : AreTurnsOn (sizes blocks new.head mid.capacity) DidSo table lines replies one.last =
-    turns_later blocks mid.head new.head mid.capacity (Did tells mid.history (moment old.history)) DidSo table one.last lines replies later.rises
-    (λ t it reply next did. did_within tells old.history mid.history new.history (moment old.history) t it reply next two.extends (λ told. omega arith) did) one.turns in
-    let first : AreTurnsOn here DidSo table lines replies one.last = subst (λ (n : ℕ). AreTurnsOn (sizes blocks new.head n) DidSo table lines replies one.last) (sym later.capacity) grown in
-    let second : AreTurnsOn here DidSo between more others two.last =
-    turns_later blocks new.head new.head new.capacity (Did tells new.history (moment mid.history)) DidSo between two.last more others (omega arith)
-    (λ t it reply next did. did_within tells mid.history new.history new.history (moment old.history) t it reply next (λ told. Extends-refl new.history) (λ told. (one.extends told).later) did) two.turns in
+    let DidSo : Pause → Line → Reply → Pause → Type 0 = Did tells new.history in
+    let held : Session = one.going.0 in
+    let two = more_of held one.going.1 in
+    let grown : AreTurnsOn (sizes blocks new.head mid.capacity) DidSo start lines replies one.last =
+    turns_later blocks mid.head new.head mid.capacity (Did tells mid.history) DidSo start one.last lines replies later.rises (λ p it reply next did. did_longer tells mid.history new.history p it reply next two.extends did) one.turns in
+    let first : AreTurnsOn here DidSo start lines replies one.last = subst (λ (n : ℕ). AreTurnsOn (sizes blocks new.head n) DidSo start lines replies one.last) (sym later.capacity) grown in
     record {
       last = two.last;
       extends = λ told. Extends-trans old.history mid.history new.history (one.extends told) (two.extends told);
-      turns = turns_then here DidSo table one.last two.last lines more replies others same first (subst (λ (t : List Volume). AreTurnsOn here DidSo t more others two.last) (sym one.going) second);
+      turns = turns_then here DidSo start one.last two.last lines more replies others same first (subst (λ (p : Pause). AreTurnsOn here DidSo p more others two.last) (sym one.going.2) two.turns);
       going = two.going;
-      stopped = if_stopped_behind (λ (stop : DeviceStop) (it : Line). StopsAny tells new.history.present blocks two.last it stop) lines more replies others ending same two.stopped;
+      stopped = if_stopped_behind (λ (stop : DeviceStop) (it : Line). StopsAny tells new.history.present blocks two.last.table it stop) lines more replies others ending same two.stopped;
     }
 
-pub tables_longer : (tells : Type 0) (blocks : ℕ) (table last : List Volume) (old new : Outside) (lines more : List (List ℕ)) (replies : List Reply) (stop : Stop) → IsOfLine stop → OnTables tells blocks table last old new lines replies (Err stop)
-    → OnTables tells blocks table last old new (lines ++ more) replies (Err stop)
-tables_longer tells blocks table last old new lines more replies stop line on = record {
+pub tables_longer : (tells : Type 0) (blocks : ℕ) (start : Pause) (after : Option Session) (table_now : List Volume) (old new : Outside) (lines more : List (List ℕ)) (replies : List Reply) (stop : Stop) → IsOfLine stop → OnTables tells blocks start after table_now old new lines replies (Err stop)
+    → OnTables tells blocks start after table_now old new (lines ++ more) replies (Err stop)
+tables_longer tells blocks start after table_now old new lines more replies stop line on = record {
   last = on.last;
   extends = on.extends;
-  turns = turns_longer (sizes blocks new.head new.capacity) (Did tells new.history (moment old.history)) table on.last lines more replies on.turns;
+  turns = turns_longer (sizes blocks new.head new.capacity) (Did tells new.history) start on.last lines more replies on.turns;
   going = tt;
-  stopped = if_stopped_longer (λ (stop : DeviceStop) (it : Line). StopsAny tells new.history.present blocks on.last it stop) lines more replies stop line on.stopped;
+  stopped = if_stopped_longer (λ (stop : DeviceStop) (it : Line). StopsAny tells new.history.present blocks on.last.table it stop) lines more replies stop line on.stopped;
 }
 
 -- from an earlier moment on
-pub tables_since : (tells : Type 0) (blocks : ℕ) (table last : List Volume) (first second third : Outside) (lines : List (List ℕ)) (replies : List Reply) (ending : Ending) → (tells → Extends first.history second.history)
-    → OnTables tells blocks table last second third lines replies ending → OnTables tells blocks table last first third lines replies ending
-tables_since tells blocks table last first second third lines replies ending extends on = record {
+pub tables_since : (tells : Type 0) (blocks : ℕ) (start : Pause) (after : Option Session) (table_now : List Volume) (first second third : Outside) (lines : List (List ℕ)) (replies : List Reply) (ending : Ending) → (tells → Extends first.history second.history)
+    → OnTables tells blocks start after table_now second third lines replies ending → OnTables tells blocks start after table_now first third lines replies ending
+tables_since tells blocks start after table_now first second third lines replies ending extends on = record {
   last = on.last;
   extends = λ told. Extends-trans first.history second.history third.history (extends told) (on.extends told);
-  turns = turns_later blocks third.head third.head third.capacity (Did tells third.history (moment second.history)) (Did tells third.history (moment first.history))
-      table on.last lines replies (omega arith)
-      (λ t it reply next did. did_within tells second.history third.history third.history (moment first.history) t it reply next (λ told. Extends-refl third.history) (λ told. (extends told).later) did) on.turns;
+  turns = on.turns;
   going = on.going;
   stopped = on.stopped;
 }
 
 -- an input that failed behind lines, or its limit
-pub tables_cut : (tells : Type 0) (blocks : ℕ) (table last : List Volume) (old new : Outside) (lines : List (List ℕ)) (replies : List Reply) → OnTables tells blocks table last old new lines replies (Ok tt)
-    → OnTables tells blocks table last old new lines replies (Err stops.Source) × OnTables tells blocks table last old new lines replies (Err stops.Limit)
-tables_cut tells blocks table last old new lines replies on =
+pub tables_cut : (tells : Type 0) (blocks : ℕ) (start : Pause) (after : Option Session) (table_now : List Volume) (old new : Outside) (lines : List (List ℕ)) (replies : List Reply) → OnTables tells blocks start after table_now old new lines replies (Ok tt)
+    → OnTables tells blocks start after table_now old new lines replies (Err stops.Source) × OnTables tells blocks start after table_now old new lines replies (Err stops.Limit)
+tables_cut tells blocks start after table_now old new lines replies on =
     (record { last = on.last; extends = on.extends; turns = on.turns; going = tt; stopped = tt }, record { last = on.last; extends = on.extends; turns = on.turns; going = tt; stopped = tt })

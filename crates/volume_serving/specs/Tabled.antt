@@ -1,16 +1,19 @@
--- Which replies lines have over the table in memory, what a line that is done found or left, and at which line the device may stop a run, on any pages.
-use Rattle.std.specs.Prelude.{◌≡◌, ◌⊎◌, ℕ, List, [], ◌∷◌, Ok, Err, OnOk}
-use Rattle.platform.specs.History.{Extends, History, moment}
+-- Which replies lines have over the table in memory, what a line that is done found or left with the session that it began with or left, and at which line the device may stop a run, on any pages.
+use Rattle.std.specs.Prelude.{◌≡◌, ◌≤◌, ◌⊎◌, ℕ, List, [], ◌∷◌, Option, Some, Ok, Err, OnOk}
+use Rattle.platform.specs.History.{Extends, History, image_at, moment}
 use Rattle.device_course.specs.States.{Outside}
+use Rattle.device_session.specs.Open.{blocks_of}
+use Rattle.device_session.specs.Sessions.{Session}
 use Rattle.line_run.specs.Stops.{Ending}
 use Rattle.line_run.specs.declared.stop.Stop.TheVariants as stops
+use Rattle.session_calls.specs.Damage.{IsMounted}
 use Rattle.session_calls.specs.declared.stops.DeviceStop.{DeviceStop}
 use Rattle.volume_table.specs.declared.volume.Volume.{Volume}
 use Rattle.volume_lines.specs.Grammar.{IsBad, Spells}
 use Rattle.volume_lines.specs.Lines.{Line}
 use Rattle.volume_lines.specs.Replies.{Reply, Bad}
 use Rattle.volume_desk.specs.Causes.{Sizes, StopsAny, TurnsTable, sizes}
-use Rattle.volume_desk.specs.Done.{DoesAny, WasOver}
+use Rattle.volume_desk.specs.Done.{DoesAny, Over, WasOver}
 
 -- of the line behind those that have replies
 abbrev pub IfNext : List Reply → List (List ℕ) → (List ℕ → Type 0) → Type 0
@@ -27,26 +30,47 @@ IfStopped Claim lines replies (Err stops.Source) = Unit {0}
 IfStopped Claim lines replies (Err stops.Limit) = Unit {0}
 IfStopped Claim lines replies (Err stops.Sink) = Unit {0}
 
--- a reply that a line is done, over this table, and the table behind it: what it found or left was so at a moment, which is not before this one, of a session on the root record in the cell
-abbrev pub Did : Type 0 → History → ℕ → List Volume → Line → Reply → List Volume → Type 0
-Did tells history from table it reply next =
-    DoesAny (λ Claim. tells → WasOver from history Claim) (λ Claim. tells → WasOver from history Claim) (λ Claim. tells → WasOver from history Claim) table reply it next
+-- where a run is between two lines: the moment, the session, and the table in memory
+pub record Pause : Type 0 where
+  pub at : ℕ
+  pub session : Session
+  pub table : List Volume
 
--- a reply to a line over this table, and the table behind it, of which this is so
-abbrev pub IsTurnOn : Sizes → (List Volume → Line → Reply → List Volume → Type 0) → List Volume → List ℕ → Reply → List Volume → Type 0
-IsTurnOn here DidSo table line reply next = ((it : Line) × Spells line it × TurnsTable here table it reply next × DidSo table it reply next) ⊎ (IsBad line × (reply ≡ Bad) × (next ≡ table))
+abbrev pub pause : ℕ → Session → List Volume → Pause
+pause at session table = record { at = at; session = session; table = table }
 
--- these replies belong to the first of these lines, in their order, and lead from one table to another
-abbrev pub AreTurnsOn : Sizes → (List Volume → Line → Reply → List Volume → Type 0) → List Volume → List (List ℕ) → List Reply → List Volume → Type 0
-AreTurnsOn here DidSo table lines [] last = last ≡ table
-AreTurnsOn here DidSo table [] (reply ∷ replies) last = ⊥
-AreTurnsOn here DidSo table (line ∷ lines) (reply ∷ replies) last = (next : List Volume) × IsTurnOn here DidSo table line reply next × AreTurnsOn here DidSo next lines replies last
+-- a line led from the one to the other: no earlier, and to a session that is on the root record in the cell then, of as many blocks
+pub record LedTo (history : History) (here next : Pause) : Type 0 where
+  pub later : here.at ≤ next.at
+  pub within : next.at ≤ moment history
+  pub mounted : IsMounted (image_at history next.at) next.session
+  pub blocks : blocks_of next.session ≡ blocks_of here.session
 
--- over a device of so many blocks, from this table on, each reply is one that its line may have over the table behind those before it; where pages lacked, they lack at the end; what a line
--- found or left that is done was so since the start; and the line at which the device stopped the run is one that is not refused, and that may stop so
-pub record OnTables (tells : Type 0) (blocks : ℕ) (table table_now : List Volume) (old new : Outside) (lines : List (List ℕ)) (replies : List Reply) (ending : Ending) : Type 0 where
-  pub last : List Volume
+-- a reply that a line is done, and where the line began and ended: what it found was so of the session that it began with, at the moment at which it began, and what it left is so of the session and the moment
+-- that it ended with. What a destroy had left before its commit was so at a moment between the two
+abbrev pub Did : Type 0 → History → Pause → Line → Reply → Pause → Type 0
+Did tells history here it reply next = tells → LedTo history here next
+    × DoesAny (Over (image_at history here.at) here.session) (Over (image_at history next.at) next.session) (WasOver here.at next.at history) here.table reply it next.table
+
+-- a reply to a line that began here, and where it ended, of which this is so; a line outside the grammar ends where it began
+abbrev pub IsTurnOn : Sizes → (Pause → Line → Reply → Pause → Type 0) → Pause → List ℕ → Reply → Pause → Type 0
+IsTurnOn within DidSo here line reply next = ((it : Line) × Spells line it × TurnsTable within here.table it reply next.table × DidSo here it reply next) ⊎ (IsBad line × (reply ≡ Bad) × (next ≡ here))
+
+-- these replies belong to the first of these lines, in their order, and each line began where the one before it ended: with its session, at its moment, over its table
+abbrev pub AreTurnsOn : Sizes → (Pause → Line → Reply → Pause → Type 0) → Pause → List (List ℕ) → List Reply → Pause → Type 0
+AreTurnsOn within DidSo here lines [] last = last ≡ here
+AreTurnsOn within DidSo here [] (reply ∷ replies) last = ⊥
+AreTurnsOn within DidSo here (line ∷ lines) (reply ∷ replies) last = (next : Pause) × IsTurnOn within DidSo here line reply next × AreTurnsOn within DidSo next lines replies last
+
+-- where lines ended is where the run is now: it goes on with this session and this table
+abbrev pub IsNow : ℕ → Option Session → List Volume → Pause → Type 0
+IsNow now after table last = (session : Session) × (after ≡ Some session) × (last ≡ pause now session table)
+
+-- over a device of so many blocks, from here on, each reply is one that its line may have over the table behind those before it; where pages lacked, they lack at the end; what a line that is
+-- done found or left was so where it began or ended; and the line at which the device stopped the run is one that is not refused, and that may stop so
+pub record OnTables (tells : Type 0) (blocks : ℕ) (start : Pause) (after : Option Session) (table_now : List Volume) (old new : Outside) (lines : List (List ℕ)) (replies : List Reply) (ending : Ending) : Type 0 where
+  pub last : Pause
   pub extends : tells → Extends old.history new.history
-  pub turns : AreTurnsOn (sizes blocks new.head new.capacity) (Did tells new.history (moment old.history)) table lines replies last
-  pub going : OnOk ending (last ≡ table_now)
-  pub stopped : IfStopped (λ stop it. StopsAny tells new.history.present blocks last it stop) lines replies ending
+  pub turns : AreTurnsOn (sizes blocks new.head new.capacity) (Did tells new.history) start lines replies last
+  pub going : OnOk ending (IsNow (moment new.history) after table_now last)
+  pub stopped : IfStopped (λ stop it. StopsAny tells new.history.present blocks last.table it stop) lines replies ending

@@ -179,7 +179,7 @@ no_table_due tells old new Idle left left_now written written_now ended h entry 
       due_early h.halted ended halt entry h.written_then written_now same h.told (silent.stayed entry start).1
   | inr (ending, is, answers) ↦
       let there = answers.led entry start in
-      absurd (none answers.first there.tabled)
+      absurd (none answers.start.table there.tabled)
 ]
 
 -- none is served
@@ -188,7 +188,7 @@ done_tabled tells old new left left_now written written_now d entry start none =
   | inl (halt, is, silent) ↦ (let e : Ok tt ≡ Err halt = is in cc)
   | inr (ending, is, answers) ↦
       let there = answers.led entry start in
-      none answers.first there.tabled
+      none answers.start.table there.tabled
 ]
 
 -- ---- a run that completes

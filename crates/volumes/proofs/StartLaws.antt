@@ -5,12 +5,13 @@ use Rattle.sdbt_base.specs.Arrays.{Device, Session as OpenSession, State, closed
 use Rattle.sdbt_base.specs.Told.{Got}
 use Rattle.platform.specs.Calls.{Looks}
 use Rattle.platform.specs.Image.{Image}
-use Rattle.platform.specs.History.{CellStays, History, moment}
+use Rattle.platform.specs.History.{CellStays, Extends, History, moment}
 use Rattle.platform.specs.declared.platforms.Platform.{Ghosts as PlatformGhosts}
 use Rattle.root_codec.specs.RootRecord.{root_bytes}
 use Rattle.page_store.specs.Roots.{IsRootWithin}
 use Rattle.page_store.specs.Stands.{Stands}
 use Rattle.device_terms.specs.Served.{IsServedCell, IsServedImage}
+use Rattle.platform.proofs.Moments.{image_at-now}
 use Rattle.device_terms.proofs.MomentLaws.{stays_then}
 use Rattle.device_course.specs.States.{IsAt, Outside}
 use Rattle.device_course.proofs.MadeLaws.{made_kept, made_since, shut}
@@ -40,10 +41,10 @@ use Rattle.volume_serving.specs.Handled.{AreShown, EndsOn}
 use Rattle.volume_serving.specs.Ran.{Ran as RanLines}
 use Rattle.volume_desk.specs.Drawing.{Tally, tally}
 use Rattle.volume_serving.specs.Drawing.{DrewUntil, tally_of}
-use Rattle.volume_serving.specs.Tabled.{IfStopped, OnTables}
+use Rattle.volume_serving.specs.Tabled.{IfStopped, OnTables, Pause, pause}
 use Rattle.volume_serving.proofs.TabledLaws.{tables_since}
 use Rattle.volume_serving.proofs.HandledLaws.{shown_from}
-use Rattle.volumes.specs.Running.{Answers, IsEarly, IsIdle, IsSilent, OnVolumes, Serves}
+use Rattle.volumes.specs.Running.{Answers, Begins, IsEarly, IsIdle, IsSilent, OnVolumes, Serves}
 use Rattle.volumes.specs.Starting.{EndsEarly, FindsFirst, FindsTable, IsFrom, IsOfTable, IsRefusal, IsSpelled, IsStart, SpellsNone}
 use Rattle.volumes.specs.declared.halts.Halt.{Halt}
 use Rattle.volumes.specs.declared.halts.Halt.TheVariants as halts
@@ -115,6 +116,10 @@ volumes_since first second third session table table_now entry lines replies par
           (ahead_of (record { session = session; table = table_now; outside = third }) first.capacity (last_of entry states) lines replies part there.on.ahead ending on.ends) on.shown;
     }
 
+begins_since : (tells : Type 0) (blocks : ℕ) (first second third : History) (start : Pause) → (tells → Extends first second) → Begins tells blocks second third start → Begins tells blocks first third start
+begins_since tells blocks first second third start extends b =
+    record { later = λ told. omega (arith, (extends told).later, b.later told); within = b.within; mounted = b.mounted; fresh = b.fresh; many = b.many }
+
 answers_since : (tells : Type 0) (Earlier From : Held → Type 0) (first second third : Outside) (ending : Ending) (left left_now written written_now : Option (List ℕ)) → second.capacity ≡ first.capacity → tally_of second ≡ tally_of first → (tells → CellStays first.history second.history)
     → (tells → second.history.present ≡ first.history.present) → Since Earlier From first second
     → Answers tells From second third ending left left_now written written_now → Answers tells Earlier first third ending left left_now written written_now
@@ -132,14 +137,15 @@ answers_since tells Earlier From first second third ending left left_now written
   prompt = answers.prompt;
   session = answers.session;
   blocks = answers.blocks;
-  first = answers.first;
+  start = answers.start;
   table = answers.table;
-  spelled = (answers.spelled.0, λ told. subst (λ (i : Image). IsSpelled i answers.blocks answers.first) (image told) (answers.spelled.1 told));
-  tables = tables_since tells answers.blocks answers.first answers.table first second third answers.lines answers.replies ending (λ told. (stays told).extends) answers.tables;
+  spelled = (answers.spelled.0, λ told. subst (λ (i : Image). IsSpelled i answers.blocks answers.start.table) (image told) (answers.spelled.1 told));
+  begins = begins_since tells answers.blocks first.history second.history third.history answers.start (λ told. (stays told).extends) answers.begins;
+  tables = tables_since tells answers.blocks answers.start answers.session answers.table first second third answers.lines answers.replies ending (λ told. (stays told).extends) answers.tables;
   drew = subst (λ (t : Tally). DrewUntil t answers.lines answers.replies (tally_of third)) counted answers.drew;
   led = λ entry early.
       let s = since entry early in
-      volumes_since first second third answers.session answers.first answers.table entry answers.lines answers.replies answers.part ending same s.1 (answers.led entry s.0);
+      volumes_since first second third answers.session answers.start.table answers.table entry answers.lines answers.replies answers.part ending same s.1 (answers.led entry s.0);
 }
 
 pub serves_since : (tells : Type 0) (Earlier From : Held → Type 0) (first second third : Outside) (result : Result (Unit {0}) Halt) (left left_now written written_now : Option (List ℕ)) → second.capacity ≡ first.capacity → tally_of second ≡ tally_of first → (tells → CellStays first.history second.history)
@@ -151,6 +157,12 @@ serves_since tells Earlier From first second third result left left_now written 
     inr (ending, is, answers_since tells Earlier From first second third ending left left_now written written_now same counted stays image since answers)
 
 -- ---- a mount
+
+-- that found a session found one without a change of its own
+pub found_fresh : {S : Type 0} (P : PlatformGhosts S) (platform platform_now : S) (session : Session) (result : Result (Option Session) DeviceStop) → result ≡ Ok (Some session) → IfOk result (IsFound P 256 platform platform_now) → needed_by session ≡ 0
+found_fresh P platform platform_now session result is finds =
+    let found : IsFound P 256 platform platform_now (Some session) = subst (λ (r : Result (Option Session) DeviceStop). IfOk r (IsFound P 256 platform platform_now)) is finds in
+    needs_none session (P.head platform_now) found.0.is_open found.0.untouched
 
 -- that found a session found a cell that can be served
 pub found_served : {S : Type 0} (P : PlatformGhosts S) (platform platform_now : S) (session : Session) (result : Result (Option Session) DeviceStop) → result ≡ Ok (Some session) → P.tells → length (P.history platform).present.recorded ≡ P.head platform → Looks P platform platform_now
@@ -260,27 +272,27 @@ ends_table image now entry (halts.Stopped (stops.Device device.Memory)) none = a
 ends_table image now entry (halts.Stopped (stops.Device device.BadRoot)) none = absurd none
 
 -- which has none, on any pages
-spells_none : (image : Image) (session : Session) (halt : Halt) → halt ≡ halts.BadDirectory → IsMounted image session → FindsFirst image session (Err halt) → SpellsNone image
-spells_none image session halt bad mounted finds =
+spells_none : (image : Image) (session : Session) (halt : Halt) → halt ≡ halts.BadDirectory → needed_by session ≡ 0 → IsMounted image session → FindsFirst image session (Err halt) → SpellsNone image
+spells_none image session halt bad fresh mounted finds =
     let found = subst (λ (h : Halt). FindsFirst image session (Err h)) bad finds in
-    (blocks_of session, found.0, record { session = session; mounted = mounted; many = refl; found = found.1 }, found.2)
+    (blocks_of session, found.0, record { session = session; mounted = mounted; fresh = fresh; many = refl; found = found.1 }, found.2)
 
-pub silent_table : (tells : Type 0) (old new : Outside) (first now : Session) (halt : Halt) (left written : Option (List ℕ)) → IsOfTable halt → (tells → CellStays old.history new.history)
+pub silent_table : (tells : Type 0) (old new : Outside) (first now : Session) (halt : Halt) (left written : Option (List ℕ)) → IsOfTable halt → needed_by first ≡ 0 → (tells → CellStays old.history new.history)
     → (tells → (there : Device) (array : OpenSession) → IsAt old.history.present (Some first) (mounted there array) → FindsTable new.history.present now there array (Err halt))
     → (tells → IsMounted old.history.present first) → (tells → FindsFirst old.history.present first (Err halt)) → IsSilent tells (IsFrom tells old first) old new halt left left written written
-silent_table tells old new first now halt left written of stays finds mounted found = record {
+silent_table tells old new first now halt left written of fresh stays finds mounted found = record {
   untaken = refl;
   unput = refl;
   early = early_table halt of;
-  unspelled = λ told bad. spells_none old.history.present first halt bad (mounted told) (found told);
+  unspelled = λ told bad. spells_none old.history.present first halt bad fresh (mounted told) (found told);
   stayed = λ entry from. (
     made_kept old.history new.history entry.device from.at.there.device from.at.served (stays from.told),
     ends_table new.history.present now entry halt (finds from.told entry.device entry.session from.at),
   );
 }
 
-pub spelled_of : (image : Image) (session : Session) (table : List Volume) → IsMounted image session → FindsContent image.readable session.grove 0 (table_bytes table) → IsSpelled image (blocks_of session) table
-spelled_of image session table mounted found = record { session = session; mounted = mounted; many = refl; found = found }
+pub spelled_of : (image : Image) (session : Session) (table : List Volume) → needed_by session ≡ 0 → IsMounted image session → FindsContent image.readable session.grove 0 (table_bytes table) → IsSpelled image (blocks_of session) table
+spelled_of image session table fresh mounted found = record { session = session; mounted = mounted; fresh = fresh; many = refl; found = found }
 
 -- what a read of block 0 comes to, on any pages
 pub first_table : (Known : Type 0) (image after : Image) (session : Session) (bytes : List ℕ) (table : List Volume) → ReadsAny Known image after session 0 bytes (Ok tt) → bytes ≡ table_bytes table → Known → FindsFirst image session (Ok table)
@@ -292,12 +304,14 @@ first_none Known image after session bytes blocks any same none known = (bytes, 
 
 -- lines that were served behind it
 pub answers_behind : (tells : Type 0) (old mid new : Outside) (first now : Session) (after : Option Session) (table table_now : List Volume) (ending : Ending) (left left_now written written_now : Option (List ℕ)) → mid.head ≡ old.head → mid.drawn ≡ old.drawn → mid.capacity ≡ old.capacity
-    → needed_by now ≤ needed_by first → (tells → CellStays old.history mid.history) → IsTable (blocks_of first) table
+    → needed_by now ≤ needed_by first → needed_by first ≡ 0 → (tells → IsMounted mid.history.present now) → (tells → CellStays old.history mid.history) → IsTable (blocks_of first) table
     → (tells → (there : Device) (array : OpenSession) → IsAt old.history.present (Some first) (mounted there array) → FindsTable mid.history.present now there array (Ok table)) → (tells → IsSpelled old.history.present (blocks_of first) table)
     → blocks_of now ≡ blocks_of first → RanLines tells (blocks_of now) (record { session = Some now; table = table; outside = mid }) (record { session = after; table = table_now; outside = new }) ending left left_now written written_now
     → Answers tells (IsFrom tells old first) old new ending left left_now written written_now
-answers_behind tells old mid new first now after table table_now ending left left_now written written_now head drawn capacity needs stays whole finds spelled many ran =
+answers_behind tells old mid new first now after table table_now ending left left_now written written_now head drawn capacity needs fresh mounted stays whole finds spelled many ran =
     let replied = ran.handled.replied in
+    let start : Pause = pause (moment mid.history) now table in
+    let on_tables = replied.tables now refl in
     let same_tally : tally_of mid ≡ tally_of old = λ k. tally (drawn k) (head k) in
     record {
       taken = ran.taken;
@@ -313,10 +327,18 @@ answers_behind tells old mid new first now after table table_now ending left lef
       prompt = ran.prompt;
       session = after;
       blocks = blocks_of first;
-      first = table;
+      start = start;
       table = table_now;
       spelled = (whole, spelled);
-      tables = tables_since tells (blocks_of first) table table_now old mid new ran.lines replied.replies ending (λ told. (stays told).extends) (subst (λ (n : ℕ). OnTables tells n table table_now mid new ran.lines replied.replies ending) many replied.tables);
+      begins = record {
+        later = λ told. (stays told).extends.later;
+        within = λ told. (on_tables.extends told).later;
+        mounted = λ told. subst (λ (i : Image). IsMounted i now) (sym ((on_tables.extends told).same (moment mid.history) (omega arith) ∙ image_at-now mid.history (moment mid.history) (omega arith))) (mounted told);
+        fresh = omega (arith, needs, fresh);
+        many = many;
+      };
+      tables = tables_since tells (blocks_of first) start after table_now old mid new ran.lines replied.replies ending (λ told. (stays told).extends)
+          (subst (λ (n : ℕ). OnTables tells n start after table_now mid new ran.lines replied.replies ending) many on_tables);
       drew = subst (λ (t : Tally). DrewUntil t ran.lines replied.replies (tally_of new)) same_tally replied.drew;
       led = λ entry from.
           let found = finds from.told entry.device entry.session from.at in

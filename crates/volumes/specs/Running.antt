@@ -1,16 +1,18 @@
 -- A run, from the mount on.
-use Rattle.std.specs.Prelude.{◌≡◌, ◌⊎◌, ℕ, List, [], ◌++◌, Option, None, Result, Ok, Err, IfErr, flat_map, length}
+use Rattle.std.specs.Prelude.{◌≡◌, ◌≤◌, ◌⊎◌, ℕ, List, [], ◌++◌, Option, None, Result, Ok, Err, IfErr, flat_map, length}
 use Rattle.sdbt_base.specs.Told.{Gave, Got}
 use Rattle.platform.specs.Image.{Image}
-use Rattle.platform.specs.History.{CellStays, History}
+use Rattle.platform.specs.History.{CellStays, History, image_at, moment}
 use Rattle.device_terms.specs.Served.{IsServedImage}
 use Rattle.device_course.specs.States.{Outside}
+use Rattle.device_session.specs.Open.{blocks_of, needed_by}
 use Rattle.device_session.specs.Sessions.{Session}
 use Rattle.line_run.specs.Puts.{AreLines, IsBehind, IsPrompt, no_line}
 use Rattle.line_run.specs.Stops.{Ending, TookUntil}
 use Rattle.line_run.specs.declared.stop.Stop.TheVariants as stops
 use Rattle.device_course.specs.Held.{Held}
 use Rattle.device_course.specs.Leading.{last_of}
+use Rattle.session_calls.specs.Damage.{IsMounted}
 use Rattle.session_calls.specs.declared.stops.DeviceStop.TheVariants as device
 use Rattle.volume_table.specs.Tables.{IsTable}
 use Rattle.volume_table.specs.declared.volume.Volume.{Volume}
@@ -20,7 +22,7 @@ use Rattle.volume_terms.specs.Volumes.{IsTabled}
 use Rattle.device_course.specs.Course.{MadeBetween}
 use Rattle.volume_serving.specs.Handled.{AreMany, OnLines}
 use Rattle.volume_serving.specs.Drawing.{DrewUntil, tally_of}
-use Rattle.volume_serving.specs.Tabled.{OnTables}
+use Rattle.volume_serving.specs.Tabled.{OnTables, Pause}
 use Rattle.volumes.specs.Destroyed.{AreDestroyed}
 use Rattle.volumes.specs.Halts.{EndsAs}
 use Rattle.volumes.specs.Starting.{EndsEarly, HaltsAtDamage, IsRefusal, IsSpelled, IsStart, SpellsNone}
@@ -68,8 +70,16 @@ pub record OnVolumes (old new : Outside) (session : Option Session) (table table
   pub own : (name : List ℕ) → HasOwn entry (last_of entry on.led.states) name lines replies
   pub destroyed : AreDestroyed old.history new.history entry lines replies on.led.states on.ahead
 
+-- lines begin with a session without a change of its own, which is on the root record in the cell then, of a device with so many blocks
+pub record Begins (tells : Type 0) (blocks : ℕ) (old new : History) (start : Pause) : Type 0 where
+  pub later : tells → moment old ≤ start.at
+  pub within : tells → start.at ≤ moment new
+  pub mounted : tells → IsMounted (image_at new start.at) start.session
+  pub fresh : needed_by start.session ≡ 0
+  pub many : blocks_of start.session ≡ blocks
+
 -- a run that served lines, and ended so: what it took, the lines of that, its replies to them, and a part of one more where the output failed. On any pages the replies are such as their lines may have over the table that
--- block 0 spelled, and what those before them made of it; a content that they give is what a look-up came to; they drew keys where they say so, one for each page that was added; and a line at which the device stopped the run
+-- block 0 spelled, and what those before them made of it; what a line that is done found or left is so of the session that it began with, or left, of which the first has no change of its own; they drew keys where they say so, one for each page that was added; and a line at which the device stopped the run
 -- is one that may stop so
 pub record Answers (tells : Type 0) (From : Held → Type 0) (old new : Outside) (ending : Ending) (left left_now written written_now : Option (List ℕ)) : Type 0 where
   pub taken : List ℕ
@@ -85,12 +95,13 @@ pub record Answers (tells : Type 0) (From : Held → Type 0) (old new : Outside)
   pub prompt : IsPrompt taken (length replies)
   pub session : Option Session
   pub blocks : ℕ
-  pub first : List Volume
+  pub start : Pause
   pub table : List Volume
-  pub spelled : IsTable blocks first × (tells → IsSpelled old.history.present blocks first)
-  pub tables : OnTables tells blocks first table old new lines replies ending
+  pub spelled : IsTable blocks start.table × (tells → IsSpelled old.history.present blocks start.table)
+  pub begins : Begins tells blocks old.history new.history start
+  pub tables : OnTables tells blocks start session table old new lines replies ending
   pub drew : DrewUntil (tally_of old) lines replies (tally_of new)
-  pub led : (entry : Held) → From entry → OnVolumes old new session first table entry lines replies part ending
+  pub led : (entry : Held) → From entry → OnVolumes old new session start.table table entry lines replies part ending
 
 -- how a run halts whose lines end so
 abbrev pub halting : Ending → Result (Unit {0}) Halt

@@ -46,10 +46,11 @@ FindsTable image now there array (Err halts.BadDirectory) = (table : List Volume
 FindsTable image now there array (Err (halts.Stopped (stops.Device device.Platform))) = Unit {0}
 FindsTable image now there array (Err _) = ⊥
 
--- on any pages: a session on the root record in the cell, of a device with so many blocks, finds these bytes in block 0
+-- on any pages: a session without a change of its own, on the root record in the cell, of a device with so many blocks, finds these bytes in block 0
 pub record HasFirst (image : Image) (blocks : ℕ) (bytes : List ℕ) : Type 0 where
   pub session : Session
   pub mounted : IsMounted image session
+  pub fresh : needed_by session ≡ 0
   pub many : blocks_of session ≡ blocks
   pub found : FindsContent image.readable session.grove 0 bytes
 

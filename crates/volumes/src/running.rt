@@ -92,7 +92,8 @@ fn serve_volumes<P: Platform, T: Tape, I: Source, O: Sink, L: Sink>(
     output: &mut O,
     ledger: &mut L,
 ) -> Result<(), Halt>
-    requires { IsReady P.tells (around P.Platform T.Tape L.Sink platform.old tape.old ledger.old) first }
+    requires ready { IsReady P.tells (around P.Platform T.Tape L.Sink platform.old tape.old ledger.old) first }
+    requires fresh { needed_by first ≡ 0 }
     ensures carries { Carries P.tells (around P.Platform T.Tape L.Sink platform.old tape.old ledger.old)
         (around P.Platform T.Tape L.Sink platform.new tape.new ledger.new) first None (IsOk result) }
     ensures blame { Blames (counts (P.faults platform.old) (T.faults tape.old) (I.faults input.old) (O.faults output.old) (L.faults ledger.old))

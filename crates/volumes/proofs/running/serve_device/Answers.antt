@@ -1,7 +1,7 @@
 use Rattle.std.proofs.Common.{ℕ, inl, refl, ◌∙◌, ap, Ok}
 use Rattle.volume_desk.specs.Drawing.{tally}
 use Rattle.session_calls.proofs.SpanLaws.{spans_look, spans_mounted}
-use Rattle.volumes.proofs.StartLaws.{found_full, found_none, found_served, idle_since, serves_since, silent_none, silent_stop, since_mount}
+use Rattle.volumes.proofs.StartLaws.{found_fresh, found_full, found_none, found_served, idle_since, serves_since, silent_none, silent_stop, since_mount}
 use Rattle.volumes.proofs.EndLaws.{damage_behind, looked_behind, looked_none, looked_stop}
 use Rattle.volumes.proofs.running.serve_device.Goals as goal
 
@@ -54,3 +54,6 @@ pub returns-in-Ok-Some-clause-idle : goal.returns-in-Ok-Some-clause-idle
 returns-in-Ok-Some-clause-idle g c told =
     let looks = c.mount_session.ensures.looks in
     idle_since _ _ _ _ _ _ _ _ _ _ _ _ _ _ c.serve_volumes.result looks.head looks.time (c.serve_volumes.ensures.idle told)
+
+pub serve_volumes-requires-clause-fresh : goal.serve_volumes-requires-clause-fresh
+serve_volumes-requires-clause-fresh g c = found_fresh g.P.Platform c.args.platform.now c.mount_session.new.platform c.in-Ok-Some.session c.mount_session.result (c.in-Ok-Some.is ∙ ap Ok c.in-Ok-Some.field-0-is) c.mount_session.ensures.finds
