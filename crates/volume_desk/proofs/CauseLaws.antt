@@ -166,7 +166,7 @@ pub takes_some_any : (tells : Type 0) (before image : Image) (session now : Sess
 takes_some_any tells before image session now here table left name buffer refused reply is takes = subst (λ (r : Option Given). TakesOver tells before image session now here table left name buffer (Ok r)) is takes
 
 pub takes_none_any : (tells : Type 0) (before image : Image) (session now : Session) (here : Sizes) (table left : List Volume) (name buffer : List ℕ) (refused : Option Given) → refused ≡ None
-    → TakesOver tells before image session now here table left name buffer (Ok refused) → IsAccepted here.blocks table (Destroy name) left × (tells × IsMounted before session → IsCleared image now table name left)
+    → TakesOver tells before image session now here table left name buffer (Ok refused) → IsAccepted here.blocks table (Destroy name) left × (tells × IsMounted before session → IsCleared before session image now table name left)
 takes_none_any tells before image session now here table left name buffer refused is takes = subst (λ (r : Option Given). TakesOver tells before image session now here table left name buffer (Ok r)) is takes
 
 -- ---- a line that is this one is answered as this one

@@ -12,7 +12,7 @@ use Rattle.volume_lines.specs.Lines.{Line, Create, Read, Write, Trim, Destroy, C
 use Rattle.volume_lines.specs.Replies.{Reply, Created, Exists, NoRoom, Unknown, Content, Done, Range, Full, Destroyed, Uncommitted, Committed, said}
 use Rattle.volume_lines.specs.declared.replies.Reply.{Reply as Given}
 use Rattle.volume_terms.specs.Volumes.{HasNoRoom, IsCount, IsNamed, IsNew, IsTaken}
-use Rattle.volume_desk.specs.Done.{DoesAny, IsCleared, Over, OverIf, WasOver}
+use Rattle.volume_desk.specs.Done.{Across, AcrossIf, DoesAny, IsCleared, WasOver}
 use Rattle.volume_desk.specs.declared.serving.Answered.{Answered}
 
 -- how many blocks the device has, how many pages there are, and how many there can be
@@ -122,21 +122,21 @@ StopsAny Known image blocks table it stop = MayStop Known image it stop × ((nex
 
 -- ---- answers
 
--- the one table of a line's answers on any pages: which replies it may have, and what it found or left where it is done and this is known; or which stops, behind which there is this image
-abbrev pub AnswersAny : Type 0 → ((Image → Session → Type 0) → Type 0) → ((Image → Session → Type 0) → Type 0) → ((Image → Session → Type 0) → Type 0) → Image → Sizes → List Volume → List Volume → Line → List ℕ → Result Given DeviceStop → Type 0
-AnswersAny Known Found Left HadLeft image here table table_now it buffer (Ok reply) =
-    TurnsTable here table it (said reply buffer) table_now × DoesAny (λ Claim. Known → Found Claim) (λ Claim. Known → Left Claim) (λ Claim. Known → HadLeft Claim) table (said reply buffer) it table_now
-AnswersAny Known Found Left HadLeft image here table table_now it buffer (Err stop) = StopsAny Known image here.blocks table it stop
+-- the one table of a line's answers on any pages: which replies it may have, and what it did where this is known; or which stops, behind which there is this image
+abbrev pub AnswersAny : Type 0 → ((Image → Session → Image → Session → Type 0) → Type 0) → ((Image → Session → Image → Session → Type 0) → Type 0) → Image → Sizes → List Volume → List Volume → Line → List ℕ → Result Given DeviceStop → Type 0
+AnswersAny Known Did HadLeft image here table table_now it buffer (Ok reply) =
+    TurnsTable here table it (said reply buffer) table_now × DoesAny (λ Claim. Known → Did Claim) (λ Claim. Known → HadLeft Claim) table (said reply buffer) it table_now
+AnswersAny Known Did HadLeft image here table table_now it buffer (Err stop) = StopsAny Known image here.blocks table it stop
 
--- those of calls for blocks: what it found is so of the session and the image from before, and what it left of those behind
+-- those of calls for blocks: what it did is so of the session and the image from before, and of those behind
 abbrev pub AnswersOver : Type 0 → Image → Image → Session → Session → Sizes → List Volume → List Volume → Line → List ℕ → Result Given DeviceStop → Type 0
 AnswersOver tells before image session now here table table_now it buffer result =
-    AnswersAny (tells × IsMounted before session) (Over before session) (Over image now) (Over image now) image here table table_now it buffer result
+    AnswersAny (tells × IsMounted before session) (Across before session image now) (Across before session image now) image here table table_now it buffer result
 
--- those of a line, behind which this session goes on: what it left is so of that one; and what it left before a commit was so at a moment of the line
+-- those of a line, behind which this session goes on: what it did is so of that one; and what it left before a commit was so at a moment of the line
 abbrev pub AnswersAlong : Type 0 → History → History → Session → Option Session → Sizes → List Volume → List Volume → Line → List ℕ → Result Given DeviceStop → Type 0
 AnswersAlong tells old new session after here table table_now it buffer result =
-    AnswersAny tells (Over old.present session) (OverIf new.present after) (WasOver (moment old) (moment new) new) new.present here table table_now it buffer result
+    AnswersAny tells (AcrossIf old.present session new.present after) (λ Claim. WasOver (moment old) (moment new) new (Claim old.present session)) new.present here table table_now it buffer result
 
 -- the answer of which that speaks
 abbrev pub answer_in : Result Answered DeviceStop → Result Given DeviceStop
@@ -145,6 +145,6 @@ answer_in (Err stop) = Err stop
 
 -- a volume that is taken out, of which no block is left; or the line is answered
 abbrev pub TakesOver : Type 0 → Image → Image → Session → Session → Sizes → List Volume → List Volume → List ℕ → List ℕ → Result (Option Given) DeviceStop → Type 0
-TakesOver tells before image session now here table table_now name buffer (Ok None) = IsAccepted here.blocks table (Destroy name) table_now × (tells × IsMounted before session → IsCleared image now table name table_now)
+TakesOver tells before image session now here table table_now name buffer (Ok None) = IsAccepted here.blocks table (Destroy name) table_now × (tells × IsMounted before session → IsCleared before session image now table name table_now)
 TakesOver tells before image session now here table table_now name buffer (Ok (Some reply)) = AnswersOver tells before image session now here table table_now (Destroy name) buffer (Ok reply)
 TakesOver tells before image session now here table table_now name buffer (Err stop) = AnswersOver tells before image session now here table table_now (Destroy name) buffer (Err stop)

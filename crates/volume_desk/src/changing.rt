@@ -37,7 +37,7 @@ pub(crate) fn change<P: Platform, T: Tape>(
         → ChangesTo (P.history platform.new).present session.new device (trim_all (written array 0 (table_bytes table.now)) (blocks_from volume.now.start volume.now.count)) result }
     ensures damage { P.tells → IsMounted (P.history platform.old).present session.old → IfErr result (MeetsDamage (P.history platform.new).present) }
     // On any pages: none of the blocks is left, and block 0 has the table.
-    ensures left { P.tells → IsMounted (P.history platform.old).present session.old → OnOk result (HasCleared (P.history platform.new).present session.new volume.now table.now) }
+    ensures left { P.tells → IsMounted (P.history platform.old).present session.old → OnOk result (HasCleared (P.history platform.old).present session.old (P.history platform.new).present session.new volume.now table.now) }
 {
     let mut block = [0; BLOCK];
     encode(table, &mut block);

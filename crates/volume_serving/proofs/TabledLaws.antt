@@ -16,7 +16,7 @@ use Rattle.volume_lines.specs.Grammar.{Spells}
 use Rattle.volume_lines.specs.Lines.{Line, Create, Read, Write, Trim, Destroy, Commit}
 use Rattle.volume_lines.specs.Replies.{Reply}
 use Rattle.volume_desk.specs.Causes.{LacksPages, Sizes, StopsAny, TurnsTable, sizes}
-use Rattle.volume_desk.specs.Done.{DoesAny, Over, WasOver}
+use Rattle.volume_desk.specs.Done.{Across, DoesAny, WasOver}
 use Rattle.volume_desk.proofs.DoneLaws.{does_follows, was_longer}
 use Rattle.volume_serving.specs.Tabled.{AreTurnsOn, Did, IfNext, IfStopped, IsTurnOn, OnTables, Pause, pause}
 
@@ -93,23 +93,25 @@ did_longer tells old new here it reply next extends did told =
     let there : image_at new here.at ≡ image_at old here.at = longer.same here.at (omega (arith, led.later, led.within)) in
     let behind : image_at new next.at ≡ image_at old next.at = longer.same next.at led.within in (
       record { later = led.later; within = omega (arith, led.within, longer.later); mounted = subst (λ (i : Image). IsMounted i next.session) (sym behind) led.mounted; blocks = led.blocks },
-      does_follows (Over (image_at old here.at) here.session) (Over (image_at old next.at) next.session) (WasOver here.at next.at old) (Over (image_at new here.at) here.session) (Over (image_at new next.at) next.session) (WasOver here.at next.at new)
-          here.table next.table reply it (λ Claim found. subst (λ (i : Image). Claim i here.session) (sym there) found) (λ Claim left. subst (λ (i : Image). Claim i next.session) (sym behind) left)
-          (λ Claim had. was_longer here.at next.at old new Claim longer led.within had) was.1,
+      does_follows (Across (image_at old here.at) here.session (image_at old next.at) next.session) (λ Claim. WasOver here.at next.at old (Claim (image_at old here.at) here.session))
+          (Across (image_at new here.at) here.session (image_at new next.at) next.session) (λ Claim. WasOver here.at next.at new (Claim (image_at new here.at) here.session)) here.table next.table reply it
+          (λ Claim does. subst (λ (i : Image). Claim i here.session (image_at new next.at) next.session) (sym there) (subst (λ (i : Image). Claim (image_at old here.at) here.session i next.session) (sym behind) does))
+          (λ Claim had. was_longer here.at next.at old new (Claim (image_at new here.at) here.session) longer led.within (subst (λ (i : Image). WasOver here.at next.at old (Claim i here.session)) (sym there) had)) was.1,
     )
 
--- what a line found was so before it, and what it left is so behind it
+-- what a line did is so of where it began and ended
 pub did_now : (tells : Type 0) (old new : History) (session now : Session) (table : List Volume) (it : Line) (reply : Reply) (next : List Volume) → (tells → Extends old new) → (tells → IsMounted new.present now) → blocks_of now ≡ blocks_of session
-    → DoesAny (λ Claim. tells → Claim old.present session) (λ Claim. tells → Claim new.present now) (λ Claim. tells → WasOver (moment old) (moment new) new Claim) table reply it next
+    → DoesAny (λ Claim. tells → Claim old.present session new.present now) (λ Claim. tells → WasOver (moment old) (moment new) new (Claim old.present session)) table reply it next
     → Did tells new (pause (moment old) session table) it reply (pause (moment new) now next)
 did_now tells old new session now table it reply next extends goes blocks does told =
     let longer = extends told in
     let there : image_at new (moment old) ≡ old.present = longer.same (moment old) (omega arith) ∙ image_at-now old (moment old) (omega arith) in
     let behind : image_at new (moment new) ≡ new.present = image_at-now new (moment new) (omega arith) in (
       record { later = longer.later; within = omega arith; mounted = subst (λ (i : Image). IsMounted i now) (sym behind) (goes told); blocks = blocks },
-      does_follows (λ Claim. tells → Claim old.present session) (λ Claim. tells → Claim new.present now) (λ Claim. tells → WasOver (moment old) (moment new) new Claim) (Over (image_at new (moment old)) session)
-          (Over (image_at new (moment new)) now) (WasOver (moment old) (moment new) new) table next reply it (λ Claim found. subst (λ (i : Image). Claim i session) (sym there) (found told))
-          (λ Claim left. subst (λ (i : Image). Claim i now) (sym behind) (left told)) (λ Claim had. had told) does,
+      does_follows (λ Claim. tells → Claim old.present session new.present now) (λ Claim. tells → WasOver (moment old) (moment new) new (Claim old.present session)) (Across (image_at new (moment old)) session (image_at new (moment new)) now)
+          (λ Claim. WasOver (moment old) (moment new) new (Claim (image_at new (moment old)) session)) table next reply it
+          (λ Claim does. subst (λ (i : Image). Claim i session (image_at new (moment new)) now) (sym there) (subst (λ (i : Image). Claim old.present session i now) (sym behind) (does told)))
+          (λ Claim had. subst (λ (i : Image). WasOver (moment old) (moment new) new (Claim i session)) (sym there) (had told)) does,
     )
 
 -- ---- lines behind others, and more of them

@@ -1,4 +1,4 @@
--- Which replies lines have over the table in memory, what a line that is done found or left with the session that it began with or left, and at which line the device may stop a run, on any pages.
+-- Which replies lines have over the table in memory, what a line found, left and kept with the sessions that it began and ended with, and at which line the device may stop a run, on any pages.
 use Rattle.std.specs.Prelude.{◌≡◌, ◌≤◌, ◌⊎◌, ℕ, List, [], ◌∷◌, Option, Some, Ok, Err, OnOk}
 use Rattle.platform.specs.History.{Extends, History, image_at, moment}
 use Rattle.device_course.specs.States.{Outside}
@@ -13,7 +13,7 @@ use Rattle.volume_lines.specs.Grammar.{IsBad, Spells}
 use Rattle.volume_lines.specs.Lines.{Line}
 use Rattle.volume_lines.specs.Replies.{Reply, Bad}
 use Rattle.volume_desk.specs.Causes.{Sizes, StopsAny, TurnsTable, sizes}
-use Rattle.volume_desk.specs.Done.{DoesAny, Over, WasOver}
+use Rattle.volume_desk.specs.Done.{Across, DoesAny, WasOver}
 
 -- of the line behind those that have replies
 abbrev pub IfNext : List Reply → List (List ℕ) → (List ℕ → Type 0) → Type 0
@@ -46,11 +46,11 @@ pub record LedTo (history : History) (here next : Pause) : Type 0 where
   pub mounted : IsMounted (image_at history next.at) next.session
   pub blocks : blocks_of next.session ≡ blocks_of here.session
 
--- a reply that a line is done, and where the line began and ended: what it found was so of the session that it began with, at the moment at which it began, and what it left is so of the session and the moment
--- that it ended with. What a destroy had left before its commit was so at a moment between the two
+-- what a line did, by its reply, where it began and ended: what it found was so of the session that it began with, at the moment at which it began, and what it left, and kept, is so of that and of the session and
+-- the moment that it ended with. What a destroy had left before its commit was so at a moment between the two
 abbrev pub Did : Type 0 → History → Pause → Line → Reply → Pause → Type 0
 Did tells history here it reply next = tells → LedTo history here next
-    × DoesAny (Over (image_at history here.at) here.session) (Over (image_at history next.at) next.session) (WasOver here.at next.at history) here.table reply it next.table
+    × DoesAny (Across (image_at history here.at) here.session (image_at history next.at) next.session) (λ Claim. WasOver here.at next.at history (Claim (image_at history here.at) here.session)) here.table reply it next.table
 
 -- a reply to a line that began here, and where it ended, of which this is so; a line outside the grammar ends where it began
 abbrev pub IsTurnOn : Sizes → (Pause → Line → Reply → Pause → Type 0) → Pause → List ℕ → Reply → Pause → Type 0
@@ -66,8 +66,8 @@ AreTurnsOn within DidSo here (line ∷ lines) (reply ∷ replies) last = (next :
 abbrev pub IsNow : ℕ → Option Session → List Volume → Pause → Type 0
 IsNow now after table last = (session : Session) × (after ≡ Some session) × (last ≡ pause now session table)
 
--- over a device of so many blocks, from here on, each reply is one that its line may have over the table behind those before it; where pages lacked, they lack at the end; what a line that is
--- done found or left was so where it began or ended; and the line at which the device stopped the run is one that is not refused, and that may stop so
+-- over a device of so many blocks, from here on, each reply is one that its line may have over the table behind those before it; where pages lacked, they lack at the end; what a line found,
+-- left and kept is so of where it began and ended; and the line at which the device stopped the run is one that is not refused, and that may stop so
 pub record OnTables (tells : Type 0) (blocks : ℕ) (start : Pause) (after : Option Session) (table_now : List Volume) (old new : Outside) (lines : List (List ℕ)) (replies : List Reply) (ending : Ending) : Type 0 where
   pub last : Pause
   pub extends : tells → Extends old.history new.history

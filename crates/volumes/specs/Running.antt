@@ -79,7 +79,7 @@ pub record Begins (tells : Type 0) (blocks : ℕ) (old new : History) (start : P
   pub many : blocks_of start.session ≡ blocks
 
 -- a run that served lines, and ended so: what it took, the lines of that, its replies to them, and a part of one more where the output failed. On any pages the replies are such as their lines may have over the table that
--- block 0 spelled, and what those before them made of it; what a line that is done found or left is so of the session that it began with, or left, of which the first has no change of its own; they drew keys where they say so, one for each page that was added; and a line at which the device stopped the run
+-- block 0 spelled, and what those before them made of it; what a line found, left and kept is so of the sessions that it began and ended with, of which the first has no change of its own; they drew keys where they say so, one for each page that was added; and a line at which the device stopped the run
 -- is one that may stop so
 pub record Answers (tells : Type 0) (From : Held → Type 0) (old new : Outside) (ending : Ending) (left left_now written written_now : Option (List ℕ)) : Type 0 where
   pub taken : List ℕ

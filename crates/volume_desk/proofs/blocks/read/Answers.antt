@@ -8,7 +8,7 @@ use Rattle.volume_terms.specs.Turn.{OnBlock, Reads}
 use Rattle.session_calls.proofs.CallLaws.{calls_done, calls_none, calls_of, calls_stopped, no_draw}
 use Rattle.volume_desk.specs.Causes.{sizes}
 use Rattle.volume_desk.proofs.CauseLaws.{has_block, read_may, read_refused}
-use Rattle.volume_desk.proofs.DoneLaws.{read_over, refused_over}
+use Rattle.volume_desk.proofs.DoneLaws.{keeps_still, read_over, refused_over}
 use Rattle.volume_desk.proofs.DeskLaws.{changed_none, no_block, read_sound}
 use Rattle.volume_desk.proofs.TurnLaws.{held_still}
 use Rattle.volume_desk.proofs.blocks.read.Goals as goal
@@ -48,13 +48,15 @@ returns-in-Err-read_block-clause-turns g c told entry held =
 pub returns-in-Err-clause-any : goal.returns-in-Err-clause-any
 returns-in-Err-clause-any g c =
     let here = (sizes (blocks_of c.args.session.now) (g.P.Platform.head c.args.platform.now) (g.P.Platform.capacity c.args.platform.now)) in
-    refused_over g.P.Platform.tells (g.P.Platform.history c.args.platform.now).present (g.P.Platform.history c.args.platform.now).present c.args.session.now c.args.session.now here c.args.table.now (Read c.args.name.now c.args.block) c.args.name.now c.args.block c.in-Err.reply c.args.buffer.now c.in-Err.ensures.none
+    refused_over g.P.Platform.tells (g.P.Platform.history c.args.platform.now).present c.args.session.now here c.args.table.now (Read c.args.name.now c.args.block) c.args.name.now c.args.block c.in-Err.reply c.args.buffer.now c.in-Err.ensures.none
     (read_refused here c.args.table.now c.args.name.now c.args.block c.in-Err.reply c.args.buffer.now c.in-Err.ensures.none)
 
 pub returns-in-Ok-read_block-clause-any : goal.returns-in-Ok-read_block-clause-any
 returns-in-Ok-read_block-clause-any g c =
     read_over g.P.Platform.tells (g.P.Platform.history c.args.platform.now).present (g.P.Platform.history c.read_block.new.platform).present c.args.session.now c.read_block.new.session
-    (sizes (blocks_of c.args.session.now) (g.P.Platform.head c.read_block.new.platform) (g.P.Platform.capacity c.read_block.new.platform)) c.args.table.now c.args.name.now c.args.block c.in-Ok.at c.reply_with_content.result c.read_block.new.out _ c.reply_with_content.ensures.value
+    (sizes (blocks_of c.args.session.now) (g.P.Platform.head c.read_block.new.platform) (g.P.Platform.capacity c.read_block.new.platform)) c.args.table.now c.args.name.now c.args.block c.in-Ok.at c.reply_with_content.result c.read_block.new.out _
+    (λ told. keeps_still (g.P.Platform.history c.args.platform.now) (g.P.Platform.history c.read_block.new.platform) (g.P.Platform.head c.args.platform.now) (g.P.Platform.head c.read_block.new.platform) c.args.session.now c.read_block.new.session (((c.in-Ok-read_block.ensures.goes no_draw).along.cell told).extends) (g.met.P.Platform.counts_pages told c.args.platform.now) (g.met.P.Platform.counts_pages told c.read_block.new.platform) (let along = (c.in-Ok-read_block.ensures.goes no_draw).along in omega (arith, along.rises, along.adds)) c.in-Ok-read_block.ensures.same.1)
+    c.reply_with_content.ensures.value
     c.in-Ok.ensures.found c.in-Ok-read_block.ensures.any
 
 pub returns-in-Err-read_block-clause-any : goal.returns-in-Err-read_block-clause-any

@@ -44,13 +44,13 @@ returns-in-Err-trim_block-clause-turns g c told entry buffer held =
 pub returns-in-Err-clause-any : goal.returns-in-Err-clause-any
 returns-in-Err-clause-any g c buffer =
     let here = (sizes (blocks_of c.args.session.now) (g.P.Platform.head c.args.platform.now) (g.P.Platform.capacity c.args.platform.now)) in
-    refused_over g.P.Platform.tells (g.P.Platform.history c.args.platform.now).present (g.P.Platform.history c.args.platform.now).present c.args.session.now c.args.session.now here c.args.table.now (Trim c.args.name.now c.args.block) c.args.name.now c.args.block c.in-Err.reply buffer c.in-Err.ensures.none
+    refused_over g.P.Platform.tells (g.P.Platform.history c.args.platform.now).present c.args.session.now here c.args.table.now (Trim c.args.name.now c.args.block) c.args.name.now c.args.block c.in-Err.reply buffer c.in-Err.ensures.none
     (trim_refused here c.args.table.now c.args.name.now c.args.block c.in-Err.reply buffer c.in-Err.ensures.none)
 
 pub returns-in-Ok-trim_block-clause-any : goal.returns-in-Ok-trim_block-clause-any
 returns-in-Ok-trim_block-clause-any g c buffer = (
   inr (c.args.table.now, (has_block c.args.table.now c.args.name.now c.args.block c.in-Ok.at c.in-Ok.ensures.found, refl), inl (tt, refl)),
-  λ known. unmapped_at _ (g.P.Platform.history c.trim_block.new.platform).present c.args.session.now c.trim_block.new.session c.args.table.now c.args.name.now c.args.block c.in-Ok.at c.in-Ok.ensures.found (c.in-Ok-trim_block.ensures.taken known.0 known.1),
+  λ known. unmapped_at (g.P.Platform.history c.args.platform.now).present (g.P.Platform.history c.trim_block.new.platform).present c.args.session.now c.trim_block.new.session c.args.table.now c.args.name.now c.args.block c.in-Ok.at c.in-Ok.ensures.found (c.in-Ok-trim_block.ensures.taken known.0 known.1),
 )
 
 pub returns-in-Err-trim_block-clause-any : goal.returns-in-Err-trim_block-clause-any

@@ -9,7 +9,7 @@ use Rattle.volume_desk.specs.Causes.{sizes}
 use Rattle.volume_desk.proofs.CauseLaws.{has_block, write_may, write_refused}
 use Rattle.volume_desk.specs.Drawing.{tally}
 use Rattle.volume_desk.proofs.DrawingLaws.{refused_drew, seals_none, seals_one}
-use Rattle.volume_desk.proofs.DoneLaws.{refused_over, written_at}
+use Rattle.volume_desk.proofs.DoneLaws.{keeps_all, refused_over, written_at}
 use Rattle.volume_desk.proofs.DeskLaws.{changed_none, held_wrote, no_block, write_sound}
 use Rattle.volume_desk.proofs.blocks.write.Goals as goal
 
@@ -59,18 +59,18 @@ returns-in-Err-write_block-clause-turns g c told entry buffer held = (
 pub returns-in-Err-clause-any : goal.returns-in-Err-clause-any
 returns-in-Err-clause-any g c buffer =
     let here = (sizes (blocks_of c.args.session.now) (g.P.Platform.head c.args.platform.now) (g.P.Platform.capacity c.args.platform.now)) in
-    refused_over g.P.Platform.tells (g.P.Platform.history c.args.platform.now).present (g.P.Platform.history c.args.platform.now).present c.args.session.now c.args.session.now here c.args.table.now (Write c.args.name.now c.args.block c.args.content.now) c.args.name.now c.args.block c.in-Err.reply buffer c.in-Err.ensures.none
+    refused_over g.P.Platform.tells (g.P.Platform.history c.args.platform.now).present c.args.session.now here c.args.table.now (Write c.args.name.now c.args.block c.args.content.now) c.args.name.now c.args.block c.in-Err.reply buffer c.in-Err.ensures.none
     (write_refused here c.args.table.now c.args.name.now c.args.block c.args.content.now c.in-Err.reply buffer c.in-Err.ensures.none)
 
 pub returns-then-head-capacity-clause-any : goal.returns-then-head-capacity-clause-any
 returns-then-head-capacity-clause-any g c buffer =
     let full : g.P.Platform.capacity c.args.platform.now ≤ g.P.Platform.head c.args.platform.now = omega (arith, c.if-head-capacity.true, c.head.ensures, c.capacity.ensures) in
-    (inr (c.args.table.now, (has_block c.args.table.now c.args.name.now c.args.block c.in-Ok.at c.in-Ok.ensures.found, refl), inr (full, refl, refl)), tt)
+    (inr (c.args.table.now, (has_block c.args.table.now c.args.name.now c.args.block c.in-Ok.at c.in-Ok.ensures.found, refl), inr (full, refl, refl)), λ known. keeps_all (g.P.Platform.history c.args.platform.now).present c.args.session.now)
 
 pub returns-in-Ok-write_block-clause-any : goal.returns-in-Ok-write_block-clause-any
 returns-in-Ok-write_block-clause-any g c buffer = (
   inr (c.args.table.now, (has_block c.args.table.now c.args.name.now c.args.block c.in-Ok.at c.in-Ok.ensures.found, refl), inl (tt, refl)),
-  λ known. written_at _ (g.P.Platform.history c.write_block.new.platform).present c.args.session.now c.write_block.new.session c.args.table.now c.args.name.now c.args.block c.in-Ok.at c.args.content.now c.in-Ok.ensures.found (c.in-Ok-write_block.ensures.written known.0 known.1),
+  λ known. written_at (g.P.Platform.history c.args.platform.now).present (g.P.Platform.history c.write_block.new.platform).present c.args.session.now c.write_block.new.session c.args.table.now c.args.name.now c.args.block c.in-Ok.at c.args.content.now c.in-Ok.ensures.found (c.in-Ok-write_block.ensures.written known.0 known.1),
 )
 
 pub returns-in-Err-write_block-clause-any : goal.returns-in-Err-write_block-clause-any

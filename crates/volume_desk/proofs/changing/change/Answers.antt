@@ -51,6 +51,6 @@ returns-in-Ok-clause-left g c told mounted =
     let one = c.in-Ok.ensures.goes.along in
     let size : length c.encode.new.out ≡ 4096 = omega arith in
     ok_follows c.trim_range.result _ _
-    (λ trims. cleared _ _ (g.P.Platform.history c.trim_range.new.platform).present c.args.session.now c.write_block.new.session c.trim_range.new.session c.args.volume.now c.args.table.now c.encode.new.out c.encode.ensures size
+    (λ trims. cleared (g.P.Platform.history c.args.platform.now).present _ (g.P.Platform.history c.trim_range.new.platform).present c.args.session.now c.write_block.new.session c.trim_range.new.session c.args.volume.now c.args.table.now c.encode.new.out c.encode.ensures size one.blocks
     (subst (λ (n : ℕ). IsInside n c.args.volume.now) (sym one.blocks) c.requires.inside) (c.in-Ok.ensures.written told mounted) trims)
     (c.trim_range.ensures.gone told (one.mounted told mounted))

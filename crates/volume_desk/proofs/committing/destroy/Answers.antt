@@ -10,7 +10,7 @@ use Rattle.session_calls.proofs.CarryLaws.{carries_along, carries_committed, car
 use Rattle.device_course.proofs.MadeLaws.{made_kept}
 use Rattle.volume_desk.specs.Causes.{sizes}
 use Rattle.volume_desk.proofs.CauseLaws.{commit_may, stops_known, takes_none_any, takes_some_any}
-use Rattle.volume_desk.proofs.DoneLaws.{answered_along, destroy_along, short_still, was_mid}
+use Rattle.volume_desk.proofs.DoneLaws.{answered_along, destroy_along, needs_behind, short_still, was_mid}
 use Rattle.volume_desk.specs.Done.{IsCleared}
 use Rattle.volume_desk.specs.Drawing.{tally}
 use Rattle.volume_desk.proofs.DrawingLaws.{destroy_drew, short_head, takes_none_drew, takes_some_drew}
@@ -84,14 +84,16 @@ returns-in-Ok-commit_session-clause-any g c buffer =
     let along = c.take_out.ensures.calls.along in
     let taken = takes_none_any g.P.Platform.tells (history c.args.platform.now).present (history c.take_out.new.platform).present c.args.first c.take_out.new.session
     (sizes (blocks_of c.args.first) (g.P.Platform.head c.take_out.new.platform) (g.P.Platform.capacity c.take_out.new.platform)) c.args.table.now left c.args.name.now buffer c.in-Ok.refused c.in_default.is (c.in-Ok.ensures.any buffer) in
-    let cleared : g.P.Platform.tells → IsCleared (history c.take_out.new.platform).present c.take_out.new.session c.args.table.now c.args.name.now left = λ told. taken.1 (told, c.requires.ready.mounted told) in
+    let cleared : g.P.Platform.tells → IsCleared (history c.args.platform.now).present c.args.first (history c.take_out.new.platform).present c.take_out.new.session c.args.table.now c.args.name.now left = λ told. taken.1 (told, c.requires.ready.mounted told) in
     destroy_along g.P.Platform.tells (history c.args.platform.now) (history c.commit_session.new.platform) c.args.first c.in-Ok-commit_session.done.session
     (sizes (blocks_of c.args.first) (g.P.Platform.head c.commit_session.new.platform) (g.P.Platform.capacity c.commit_session.new.platform)) c.args.table.now left c.args.name.now c.in-Ok-commit_session.done.reply c.reply_to_destroy.result buffer
     c.reply_to_destroy.ensures taken.0
-    (λ told. was_mid (history c.args.platform.now) (history c.take_out.new.platform) (history c.commit_session.new.platform) c.take_out.new.session (λ image session. IsCleared image session c.args.table.now c.args.name.now left) (along.cell told).extends
+    (λ told. was_mid (history c.args.platform.now) (history c.take_out.new.platform) (history c.commit_session.new.platform) c.take_out.new.session (λ image session. IsCleared (history c.args.platform.now).present c.args.first image session c.args.table.now c.args.name.now left) (along.cell told).extends
     (c.in-Ok-commit_session.ensures.goes.keeps.keys.extends told) (along.mounted told (c.requires.ready.mounted told)) (cleared told))
+    (λ number is. needs_behind g.P.Platform c.take_out.new.platform c.commit_session.new.platform c.take_out.new.tape c.commit_session.new.tape c.args.ledger.now c.commit_session.new.ledger c.take_out.new.session c.in-Ok-commit_session.done.session
+    c.in-Ok-commit_session.done.reply number is c.in-Ok-commit_session.ensures.answers)
     (λ needed free is told. short_still g.P.Platform c.take_out.new.platform c.commit_session.new.platform c.take_out.new.tape c.commit_session.new.tape c.args.ledger.now c.commit_session.new.ledger c.take_out.new.session c.in-Ok-commit_session.done.session
-    c.in-Ok-commit_session.done.reply needed free (λ image session. IsCleared image session c.args.table.now c.args.name.now left) is c.in-Ok-commit_session.ensures.answers (cleared told))
+    c.in-Ok-commit_session.done.reply needed free (λ image session. IsCleared (history c.args.platform.now).present c.args.first image session c.args.table.now c.args.name.now left) is c.in-Ok-commit_session.ensures.answers (cleared told))
 
 pub returns-in-Err-commit_session-clause-any : goal.returns-in-Err-commit_session-clause-any
 returns-in-Err-commit_session-clause-any g c buffer =

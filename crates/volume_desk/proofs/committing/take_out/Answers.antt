@@ -5,6 +5,7 @@ use Rattle.device_session.specs.Open.{blocks_of}
 use Rattle.session_calls.specs.Along.{drawn_by}
 use Rattle.session_calls.specs.Damage.{IsMounted}
 use Rattle.volume_lines.specs.Lines.{Destroy}
+use Rattle.volume_desk.proofs.DoneLaws.{keeps_all}
 use Rattle.volume_desk.proofs.CauseLaws.{call_may}
 use Rattle.volume_terms.proofs.TableLaws.{inside_of}
 use Rattle.session_calls.proofs.CallLaws.{calls_done, calls_none, calls_stopped}
@@ -74,13 +75,13 @@ returns-in-Err-clause-turns g c told entry buffer held = (
 )
 
 pub returns-in_default-clause-any : goal.returns-in_default-clause-any
-returns-in_default-clause-any g c buffer = (inl (c.in_default.ensures.none, refl), tt)
+returns-in_default-clause-any g c buffer = (inl (c.in_default.ensures.none, refl), λ known. keeps_all (g.P.Platform.history c.args.platform.now).present c.args.session.now)
 
 pub returns-then-head-capacity-clause-any : goal.returns-then-head-capacity-clause-any
 returns-then-head-capacity-clause-any g c buffer =
     let found = c.in-Some.ensures.found in
     let full : g.P.Platform.capacity c.args.platform.now ≤ g.P.Platform.head c.args.platform.now = omega (arith, c.if-head-capacity.true, c.head.ensures, c.capacity.ensures) in
-    (inr (remove c.args.table.now c.in-Some.at, (c.in-Some.volume, found.1, (c.in-Some.at, found.0, refl)), inr (full, refl, refl)), tt)
+    (inr (remove c.args.table.now c.in-Some.at, (c.in-Some.volume, found.1, (c.in-Some.at, found.0, refl)), inr (full, refl, refl)), λ known. keeps_all (g.P.Platform.history c.args.platform.now).present c.args.session.now)
 
 pub returns-in-Ok-clause-any : goal.returns-in-Ok-clause-any
 returns-in-Ok-clause-any g c buffer =

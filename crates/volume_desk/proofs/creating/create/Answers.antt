@@ -7,6 +7,7 @@ use Rattle.volume_lines.specs.Lines.{Create}
 use Rattle.volume_terms.specs.Volumes.{IsCount, changed}
 use Rattle.volume_terms.proofs.TableLaws.{placed_has}
 use Rattle.session_calls.proofs.CallLaws.{calls_none}
+use Rattle.volume_desk.proofs.DoneLaws.{keeps_all}
 use Rattle.volume_desk.proofs.CauseLaws.{call_may}
 use Rattle.volume_desk.proofs.DeskLaws.{changed_none, held_changed, is_new, no_room, out_of_range}
 use Rattle.volume_desk.proofs.DrawingLaws.{seals_none}
@@ -78,18 +79,18 @@ returns-in-Err-clause-turns g c told entry buffer held = (
 )
 
 pub returns-then-has_volume-clause-any : goal.returns-then-has_volume-clause-any
-returns-then-has_volume-clause-any g c buffer = (inl (c.has_volume.ensures.there c.if-has_volume.true, refl), tt)
+returns-then-has_volume-clause-any g c buffer = (inl (c.has_volume.ensures.there c.if-has_volume.true, refl), λ known. keeps_all (g.P.Platform.history c.args.platform.now).present c.args.session.now)
 
 pub returns-then-not-is_count-clause-any : goal.returns-then-not-is_count-clause-any
 returns-then-not-is_count-clause-any g c buffer =
     let out = out_of_range (blocks_of c.args.session.now) c.args.count (λ fits. absurd (false≢true (c.if-not-is_count.ensures.1 (subst (λ (b : ℕ). IsCount b c.args.count) (sym c.blocks-2.ensures) fits)))) in
-    (inl ((c.if-has_volume.ensures.lacks refl, out), refl), tt)
+    (inl ((c.if-has_volume.ensures.lacks refl, out), refl), λ known. keeps_all (g.P.Platform.history c.args.platform.now).present c.args.session.now)
 
 pub returns-in_default-clause-any : goal.returns-in_default-clause-any
 returns-in_default-clause-any g c buffer =
     let fits = subst (λ (b : ℕ). IsCount b c.args.count) c.blocks-2.ensures (c.if-not-is_count.ensures.0 refl) in
     let none = no_room (blocks_of c.args.session.now) c.blocks-3.result c.args.count c.args.table.now c.duplicate-next.result c.blocks-3.ensures c.duplicate-next.ensures c.in_default.ensures.none in
-    (inl ((c.if-has_volume.ensures.lacks refl, fits, none), refl), tt)
+    (inl ((c.if-has_volume.ensures.lacks refl, fits, none), refl), λ known. keeps_all (g.P.Platform.history c.args.platform.now).present c.args.session.now)
 
 pub returns-then-head-capacity-clause-any : goal.returns-then-head-capacity-clause-any
 returns-then-head-capacity-clause-any g c buffer =
@@ -98,7 +99,7 @@ returns-then-head-capacity-clause-any g c buffer =
     let new = is_new (blocks_of c.args.session.now) c.blocks-3.result c.args.count c.args.table.now c.duplicate-next.result c.put.new.self c.args.name.now c.in-Some.volume c.blocks-3.ensures c.duplicate-next.ensures placed.0 placed.1 placed.2
     c.in-Some.ensures.inserted c.in-Some.ensures.table in
     let full : g.P.Platform.capacity c.args.platform.now ≤ g.P.Platform.head c.args.platform.now = omega (arith, c.if-head-capacity.true, c.head.ensures, c.capacity.ensures) in
-    (inr (c.put.new.self, (c.if-has_volume.ensures.lacks refl, fits, c.in-Some.volume, new), inr (full, refl, refl)), tt)
+    (inr (c.put.new.self, (c.if-has_volume.ensures.lacks refl, fits, c.in-Some.volume, new), inr (full, refl, refl)), λ known. keeps_all (g.P.Platform.history c.args.platform.now).present c.args.session.now)
 
 pub returns-in-Ok-clause-any : goal.returns-in-Ok-clause-any
 returns-in-Ok-clause-any g c buffer =
