@@ -1,7 +1,8 @@
 -- What the end of an order gives: what is forgotten, and what the words `check` and `seize` say.
-use Rattle.std.proofs.Common.{◌≡◌, ◌≤◌, ◌⊎◌, ℕ, List, Option, None, Result, inl, inr, sym, ◌∙◌, ap, subst}
+use Rattle.std.proofs.Common.{◌≡◌, ◌≤◌, ◌⊎◌, ◌+◌, ℕ, List, Option, None, Result, inl, inr, sym, ◌∙◌, ap, subst}
 use Rattle.std.specs.Prelude.{◌≢◌, IfErr}
 use Rattle.sdbt_base.specs.Arrays.{Device, closed}
+use Rattle.sdbt_base.specs.Faults.{Rose}
 use Rattle.platform.specs.History.{History, Steps}
 use Rattle.page_store.specs.Stands.{Stands}
 use Rattle.cert_checker.specs.Chain.{Accepted, chain_of}
@@ -24,7 +25,7 @@ use Rattle.device_cli.specs.Ran.{Ran, AnswersScript, IsComplete}
 use Rattle.line_run.specs.Stops.{Ending, exit_of, HasCause}
 use Rattle.line_run.specs.Puts.{damage_line}
 use Rattle.device_cli.specs.Seizing.{Seizing, Seizes, ReadsFewFor}
-use Rattle.device_cli.specs.World.{World, drew_by, world}
+use Rattle.device_cli.specs.World.{World, drew_by, first_by, world}
 use Rattle.device_cli.specs.declared.checking.Finding.{Finding}
 use Rattle.line_run.specs.declared.stop.Stop.{Stop}
 use Rattle.device_cli.proofs.CheckLaws.{accepted_at, complete_check, cut_at, empty_at, image_stays, refused_at, silent_at, unserved_at}
@@ -43,7 +44,7 @@ forgets tells old new Going e =
 -- one that serves a script
 pub ended_run : (tells Before : Type 0) (old new : Outside) (Going : Type 0) (was : World) (drawn drawn_now : Option (List (List ℕ))) (session : Option Session) (reads : ℕ) (ending : Ending) (left left_now written written_now : Option (List ℕ))
     → was.session ≡ None → was.history ≡ old.history → was.head ≡ old.head → was.capacity ≡ old.capacity
-    → Ran tells Before (drew_by drawn was) (drew_by drawn_now (world session new.history new.head new.capacity reads)) damage_line ending left left_now written written_now
+    → Ran tells Before (first_by drawn was) (drew_by drawn_now (world session new.history new.head new.capacity reads)) damage_line ending left left_now written written_now
     → KeepsOn tells old.drawn new.drawn old.written new.written None old.history new.history Going (λ keys. Unit {0}) → Ended tells old new Going
 ended_run tells Before old new Going was drawn drawn_now session reads ending left left_now written written_now alone history head capacity ran keeps =
     let later = ran.handled.replied.later in
@@ -64,7 +65,7 @@ where_lacked tells old new status left left_now written written_now Whole script
 where_lacked tells old new status left left_now written written_now Whole script (inr whole) = inr whole
 
 pub serves_at : {S R I O L : Type 0} (tells : Type 0) (status : ℕ) (old new : Handed S R I O L) (session : Option Session) (ending : Ending) → old.world.session ≡ None → new.world.session ≡ None → new.world.drawn ≡ None → status ≡ exit_of ending
-    → Ran tells (new.input ≡ old.input) (drew_by old.drawn old.world) (drew_by new.drawn (record new.world { session = session })) damage_line ending old.left new.left old.written new.written → IfErr ending (HasCause old.counts new.counts) → ServesScript tells status old new
+    → Ran tells (new.input ≡ old.input) (first_by old.drawn old.world) (drew_by new.drawn (record new.world { session = session })) damage_line ending old.left new.left old.written new.written → IfErr ending (HasCause old.counts new.counts) → ServesScript tells status old new
 serves_at tells status old new session ending alone then_alone untold is ran cause =
     let now = new.world in
     let Serves : World → ℕ → Type 0 = λ there n. (script : AnswersScript tells old.world there n old.left new.left old.written new.written) × DrewUntil old.drawn script.lines script.replies new.drawn
@@ -107,9 +108,10 @@ checked_at tells status old new ending undrawn unput pages steps same is checks 
 
 pub seizing_at : {S R I O L : Type 0} (tells : Type 0) (records : List (List ℕ)) (status : ℕ) (old new : Handed S R I O L) (ending : Ending) → new.tape ≡ old.tape → new.input ≡ old.input → new.ledger ≡ old.ledger
     → new.world.head ≡ old.world.head → (tells → Steps old.world.history new.world.history) → (tells → new.world.history.present ≡ old.world.history.present) → status ≡ exit_of ending
-    → Seizes tells old.world.head old.world.history.present records old.written new.written ending → (tells → ReadsFewFor old.world.head old.world.history.present records old.world.reads new.world.reads)
+    → Seizes tells old.world.head old.world.history.present records old.written new.written ending
+    → (tells → (Rose old.counts.platform new.counts.platform → ⊥) → old.world.reads + 1 ≤ new.world.reads) → (tells → ReadsFewFor old.world.head old.world.history.present records old.world.reads new.world.reads)
     → IfErr ending (HasCause old.counts new.counts) → Seizing tells records status old new
-seizing_at tells records status old new ending undrawn untaken unput pages steps same is seizes reads cause = record {
+seizing_at tells records status old new ending undrawn untaken unput pages steps same is seizes looked reads cause = record {
   undrawn = undrawn;
   untaken = untaken;
   unput = unput;
@@ -118,6 +120,7 @@ seizing_at tells records status old new ending undrawn untaken unput pages steps
   ending = ending;
   status_is = is;
   seizes = seizes;
+  looked = looked;
   reads = reads;
   bad_root = λ told bad. subst (λ (n : ℕ). (n ≡ 8) ⊎ (n ≡ 4) ⊎ (n ≡ 5)) (sym is) (bad_status tells old.world.head old.world.history.present records old.written new.written ending seizes told bad);
   complete = λ told good quiet. subst (λ (n : ℕ). (n ≡ 0) ⊎ (n ≡ 11)) (sym is)

@@ -36,12 +36,12 @@ parted before after (line ∷ lines) more most (command, spells, look, others, r
     }
 
 -- no line
-pub looks_idle : (tells : Type 0) (old new : World) (Done : Type 0) → new.session ≡ old.session → (tells → new.reads ≡ old.reads) → LooksOn tells old new [] Done
+pub looks_idle : (tells : Type 0) (old new : World) (Done : Type 0) → new.session ≡ old.session → (tells → new.reads ≤ old.reads) → LooksOn tells old new [] Done
 looks_idle tells old new Done held same told before after most warm (none, is) =
     (omega (arith, same told, none), λ done. subst (λ (block : Option ℕ). IsWarmFor new.session block) (sym is) (subst (λ (session : Option Session). IsWarmFor session before) (sym held) warm))
 
 -- no line, before a stop
-pub looks_none : (tells : Type 0) (old new : World) (Done : Type 0) → (Done → ⊥) → (tells → new.reads ≡ old.reads) → LooksOn tells old new [] Done
+pub looks_none : (tells : Type 0) (old new : World) (Done : Type 0) → (Done → ⊥) → (tells → new.reads ≤ old.reads) → LooksOn tells old new [] Done
 looks_none tells old new Done never same told before after most warm (none, is) = (omega (arith, same told, none), λ done. absurd (never done))
 
 -- lines, and then others

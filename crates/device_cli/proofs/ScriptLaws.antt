@@ -16,7 +16,7 @@ use Rattle.std.proofs.lemmas.Grind.{common_steps}
 use Rattle.device_terms.specs.Served.{IsServedImage}
 use Rattle.device_session.specs.Sessions.{Session}
 use Rattle.platform.specs.History.{History}
-use Rattle.device_cli.specs.World.{World, drew_by, world, AreEnough}
+use Rattle.device_cli.specs.World.{World, drew_by, first_by, world, AreEnough}
 use Rattle.device_cli.specs.Looks.{IsWarmFor}
 use Rattle.device_course.specs.States.{IsSessionOf}
 use Rattle.device_cli.specs.Represents.{StandsFor, Represents}
@@ -462,7 +462,7 @@ answers_from old new ending entry lines replies part held f =
 
 -- what is said of a run's end says nothing of its session, and of its tape
 forget : (old : World) (drawn drawn_now : Option (List (List ℕ))) (session : Option Session) (history : History) (head capacity reads : ℕ) (status : ℕ) (entry : State) (lines : List (List ℕ)) (replies : List Reply) (part : List ℕ)
-    → AnswersFrom (drew_by drawn old) (drew_by drawn_now (world session history head capacity reads)) status entry lines replies part → AnswersFrom old (world None history head capacity reads) status entry lines replies part
+    → AnswersFrom (first_by drawn old) (drew_by drawn_now (world session history head capacity reads)) status entry lines replies part → AnswersFrom old (world None history head capacity reads) status entry lines replies part
 forget old drawn drawn_now session history head capacity reads status entry lines replies part f = record {
   now = f.now;
   pages = f.pages;
@@ -491,7 +491,7 @@ enough_alone held alone = subst (λ (session : Option Session). AreEnough sessio
 
 -- a run answers the script, whatever session it ends with
 pub answers_script : (tells Before : Type 0) (old : World) (drawn drawn_now : Option (List (List ℕ))) (session : Option Session) (history : History) (head capacity reads : ℕ) (ending : Ending) (left left_now written written_now : Option (List ℕ))
-    → old.session ≡ None → Ran tells Before (drew_by drawn old) (drew_by drawn_now (world session history head capacity reads)) damage_line ending left left_now written written_now
+    → old.session ≡ None → Ran tells Before (first_by drawn old) (drew_by drawn_now (world session history head capacity reads)) damage_line ending left left_now written written_now
     → AnswersScript tells old (world None history head capacity reads) (exit_of ending) left left_now written written_now
 answers_script tells Before old drawn drawn_now session history head capacity reads ending left left_now written written_now alone r = let p = r.handled.replied in record {
   taken = r.taken;
@@ -514,16 +514,16 @@ answers_script tells Before old drawn drawn_now session history head capacity re
   cut = cut ending p.part p.behind;
   full = p.full 0 (enough_alone old.session alone);
   so = λ told. (let so = p.so told in (so.1, so.2, subst (λ (held : Option Session). AreSo tells history (moment old.history) held r.lines p.replies so.1 so.2) alone so.3));
-  looks = λ told most last h. (p.looks told None last most (subst (λ (held : Option Session). IsWarmFor held None) (sym alone) tt) h).0;
+  looks = λ told most last h. omega (arith, (p.looks told None last most (subst (λ (held : Option Session). IsWarmFor held None) (sym alone) tt) h).0);
   answered = λ told there stands served.
       forget old drawn drawn_now session history head capacity reads (exit_of ending) (closed there) r.lines p.replies p.part
-      (answers_from (drew_by drawn old) (drew_by drawn_now (world session history head capacity reads)) ending (closed there) r.lines p.replies p.part (within_closed old.history.present there stands)
+      (answers_from (first_by drawn old) (drew_by drawn_now (world session history head capacity reads)) ending (closed there) r.lines p.replies p.part (within_closed old.history.present there stands)
       (p.answered told (closed there) 0 (record { there = alone_on old there alone stands; served = served }) (enough_alone old.session alone)));
 }
 
 -- and with its replies, the keys that its lines drew, and where the platform failed
 pub answers_with : (tells Before : Type 0) (old : World) (drawn drawn_now : Option (List (List ℕ))) (session : Option Session) (history : History) (head capacity reads : ℕ) (ending : Ending) (left left_now written written_now : Option (List ℕ))
-    → old.session ≡ None → (r : Ran tells Before (drew_by drawn old) (drew_by drawn_now (world session history head capacity reads)) damage_line ending left left_now written written_now)
+    → old.session ≡ None → (r : Ran tells Before (first_by drawn old) (drew_by drawn_now (world session history head capacity reads)) damage_line ending left left_now written written_now)
     → (script : AnswersScript tells old (world None history head capacity reads) (exit_of ending) left left_now written written_now) × (script.replies ≡ r.handled.replied.replies) × DrewUntil drawn script.lines script.replies drawn_now
     × (exit_of ending ≡ 5 → Before ⊎ IfNext script.replies script.lines (IsOf (HasCalled tells history.present)))
 unfolding answers_script
@@ -532,7 +532,7 @@ answers_with tells Before old drawn drawn_now session history head capacity read
 
 -- which devices a run made, whatever session it ends with
 pub made_by : (tells Before : Type 0) (old : World) (drawn drawn_now : Option (List (List ℕ))) (session : Option Session) (history : History) (head capacity reads : ℕ) (ending : Ending) (left left_now written written_now : Option (List ℕ))
-    → old.session ≡ None → Ran tells Before (drew_by drawn old) (drew_by drawn_now (world session history head capacity reads)) damage_line ending left left_now written written_now
+    → old.session ≡ None → Ran tells Before (first_by drawn old) (drew_by drawn_now (world session history head capacity reads)) damage_line ending left left_now written written_now
     → tells → (there : Option Device) → StandsFor old.history.present there → IsServedImage old.history.present
     → (marks : List (Option Device)) × Made old.history history None (closed there) marks (closed (last_mark there marks))
 made_by tells Before old drawn drawn_now session history head capacity reads ending left left_now written written_now alone r told there stands served =

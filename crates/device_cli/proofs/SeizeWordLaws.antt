@@ -1,5 +1,5 @@
 -- What follows of the word `seize`, by its exit status.
-use Rattle.std.proofs.Common.{◌≡◌, ℕ, zero, suc, ◌<◌, List, [], ◌∷◌, ◌++◌, Option, None, Some, Ok, Err, ◌⊎◌, inl, inr, length, take, drop, get_or, refl, sym, ◌∙◌, subst, ap, arith, append_assoc, append-nil}
+use Rattle.std.proofs.Common.{◌≡◌, ℕ, zero, suc, ◌<◌, ◌+◌, List, [], ◌∷◌, ◌++◌, Option, None, Some, Ok, Err, ◌⊎◌, inl, inr, length, take, drop, get_or, refl, sym, ◌∙◌, subst, ap, arith, append_assoc, append-nil}
 use Rattle.std.specs.Prelude.{IfErr, flat_map}
 use Rattle.sdbt_base.specs.Told.{Got, GotPart}
 use Rattle.sdbt_base.proofs.ToldLaws.{Got-then, GotPart-then}
@@ -183,8 +183,8 @@ stopped_part tells head image records written now (device.BadRecord addr) bad wh
 pub not_refused : (head : ℕ) (image : Image) (records keys : List (List ℕ)) → (IsBadCell head image.cell → ⊥) → AreGiven head records keys → IsRefused head image records → ⊥
 not_refused head image records keys good given refused = elim refused [ inl cell ↦ good cell | inr word ↦ given_not_bad head records keys given word ]
 
--- how often pages were read, over the same image
-pub few_for : (head head_then : ℕ) (image image_then : Image) (records keys keys_then : List (List ℕ)) (reads mid now : ℕ) → head_then ≡ head → image_then ≡ image → keys_then ≡ keys → mid ≡ reads
+-- how often pages were read behind the first look at the cell, over the same image
+pub few_for : (head head_then : ℕ) (image image_then : Image) (records keys keys_then : List (List ℕ)) (reads mid now : ℕ) → head_then ≡ head → image_then ≡ image → keys_then ≡ keys → mid ≡ reads + 1
     → (IsRefused head image records → ⊥) → AreGiven head records keys → ReadsFew head_then image_then.cell keys_then image_then.readable mid now → ReadsFewFor head image records reads now
 few_for head head_then image image_then records keys keys_then reads mid now there same these before good given few =
     let at_head = subst (λ (h : ℕ). ReadsFew h image_then.cell keys_then image_then.readable mid now) there few in

@@ -20,7 +20,7 @@ use Rattle.text_lines.specs.Lines.{lines_of}
 use Rattle.script_lang.specs.Commands.{Command, Format, Mount, Read, Write, Trim, Commit, Drop, Erase, Upgrade, Seize}
 use Rattle.script_lang.specs.Commands as commands
 use Rattle.device_terms.specs.Served.{IsServedImage}
-use Rattle.device_cli.specs.World.{World, drew_by, world}
+use Rattle.device_cli.specs.World.{World, drew_by, first_by, world}
 use Rattle.device_cli.specs.Represents.{StandsFor}
 use Rattle.device_cli.specs.Ran.{Ran, AnswersScript, IsAmple}
 use Rattle.device_cli.specs.Causes.{HasCalled, IsOf}
@@ -79,7 +79,7 @@ idle w written = record { memory = refl; world = refl; unput = refl }
 -- what a run gives, or what is as it was
 pub ended_work : (tells : Type 0) (old new : Outside) (Going : Type 0) (seed count : ℕ) (was : World) (drawn drawn_now : Option (List (List ℕ))) (session : Option Session) (reads : ℕ) (written written_now : Option (List ℕ)) (ending : Ending)
     → was.session ≡ None → was.history ≡ old.history → was.head ≡ old.head → was.capacity ≡ old.capacity → new.head ≤ new.capacity
-    → IsIdle was (world session new.history new.head new.capacity reads) written written_now ending ⊎ Worked tells seed count (drew_by drawn was) (drew_by drawn_now (world session new.history new.head new.capacity reads)) written written_now ending
+    → IsIdle was (world session new.history new.head new.capacity reads) written written_now ending ⊎ Worked tells seed count (first_by drawn was) (drew_by drawn_now (world session new.history new.head new.capacity reads)) written written_now ending
     → KeepsOn tells old.drawn new.drawn old.written new.written None old.history new.history Going (λ keys. Unit {0}) → Ended tells old new Going
 ended_work tells old new Going seed count was drawn drawn_now session reads written written_now ending alone history head capacity room (inl not) keeps =
     let same : new.history ≡ old.history = ap (λ (w : World). w.history) not.world ∙ history in record {
@@ -187,7 +187,7 @@ work_complete tells old new seed count serving ending before now left told writt
 
 -- whatever session the serving ends with
 pub serves_work : {S R I O L : Type 0} (tells : Type 0) (seed count : ℕ) (old new : Handed S R I O L) (session : Option Session) (ending : Ending) → old.world.session ≡ None → new.world.session ≡ None → new.world.drawn ≡ None
-    → Worked tells seed count (drew_by old.drawn old.world) (drew_by new.drawn (record new.world { session = session })) old.written new.written ending → ServesWork tells seed count old.world new.world old.drawn new.drawn old.written new.written ending
+    → Worked tells seed count (first_by old.drawn old.world) (drew_by new.drawn (record new.world { session = session })) old.written new.written ending → ServesWork tells seed count old.world new.world old.drawn new.drawn old.written new.written ending
 serves_work tells seed count old new session ending alone then_alone untold w =
     let text : Option (List ℕ) = Some (script_of seed count) in
     let now = new.world in
@@ -221,7 +221,7 @@ idle_still old new session ending alone then_alone i =
 pub working_of : {S R I O L : Type 0} (tells : Type 0) (seed count status : ℕ) (old new : Handed S R I O L) (session : Option Session) (ending : Ending)
     → old.world.session ≡ None → new.world.session ≡ None → new.world.drawn ≡ None → new.input ≡ old.input → count ≤ 5000 → status ≡ exit_of ending → IfErr ending (HasCause old.counts new.counts)
     → (tells → (IsServedImage old.world.history.present → ⊥) → (exit_of ending ≡ 8) ⊎ (exit_of ending ≡ 4) ⊎ (exit_of ending ≡ 5) ⊎ (exit_of ending ≡ 11))
-    → IsIdle old.world (record new.world { session = session }) old.written new.written ending ⊎ Worked tells seed count (drew_by old.drawn old.world) (drew_by new.drawn (record new.world { session = session })) old.written new.written ending
+    → IsIdle old.world (record new.world { session = session }) old.written new.written ending ⊎ Worked tells seed count (first_by old.drawn old.world) (drew_by new.drawn (record new.world { session = session })) old.written new.written ending
     → Working tells seed count status old new
 working_of tells seed count status old new session ending alone then_alone untold untaken few is cause refused course = record {
   untaken = untaken;

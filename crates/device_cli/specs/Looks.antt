@@ -1,15 +1,17 @@
--- How many pages a run reads at lines that only look.
+-- How often a run reads a page or looks at the cell, at lines that change no block.
 use Rattle.std.specs.Prelude.{◌≡◌, ℕ, ◌+◌, ◌<◌, ◌≤◌, ◌==◌, if◌then◌else◌, List, [], ◌∷◌, Option, None, Some}
 use Rattle.script_lang.specs.Commands.{Command}
-use Rattle.script_lang.specs.Commands.{Mount, Read, Drop, Stat}
+use Rattle.script_lang.specs.Commands.{Erase, Format, Mount, Read, Drop, Stat}
 use Rattle.script_lang.specs.Grammar.{Spells}
 use Rattle.device_session.specs.Open.{blocks_of}
 use Rattle.device_session.specs.Reading.{KeepsWayTo, room_of}
 use Rattle.device_session.specs.Sessions.{Session}
 use Rattle.device_cli.specs.World.{World}
 
--- the command mounts a device, reads a block, or tells of the session, or gives it up
+-- the command makes, mounts or erases a device, reads a block, or tells of the session, or gives it up
 abbrev pub IsLook : Command → Type 0
+IsLook (Format blocks order) = Unit {0}
+IsLook Erase = Unit {0}
 IsLook Mount = Unit {0}
 IsLook (Read block) = Unit {0}
 IsLook Stat = Unit {0}
@@ -26,12 +28,16 @@ abbrev pub most_for : Option ℕ → ℕ → ℕ
 most_for None block = 21
 most_for (Some before) block = if before == block then 1 else 21
 
--- the same of any command behind one that read this block: none where it isn't a read
+-- so many pages are read at most, and looks at the cell made, for any of these commands behind one that read this block: one look to make, mount or erase a device, and
+-- none for what only tells of the session
 abbrev pub most_reads : Option ℕ → Command → ℕ
+most_reads before (Format blocks order) = 1
+most_reads before Mount = 1
+most_reads before Erase = 1
 most_reads before (Read block) = most_for before block
 most_reads before _ = 0
 
--- the lines spell such commands, behind one that read this block; so many pages are read for them at most, and the last of them reads this block
+-- the lines spell such commands, behind one that read this block; so much is read for them at most, and the last of them reads this block
 abbrev pub AreLooks : Option ℕ → List (List ℕ) → ℕ → Option ℕ → Type 0
 AreLooks before [] most after = (most ≡ 0) × (after ≡ before)
 AreLooks before (line ∷ lines) most after =
@@ -43,7 +49,7 @@ IsWarmFor None block = Unit {0}
 IsWarmFor (Some session) None = 20 ≤ room_of session
 IsWarmFor (Some session) (Some block) = (20 ≤ room_of session) × (block < blocks_of session → KeepsWayTo session block)
 
--- where the lines only look, no more pages are read than these; and where all are done, the cache is ready for the next one
+-- where the lines are such, no more is read than this; and where all are done, the cache is ready for the next one
 abbrev pub LooksOn : Type 0 → World → World → List (List ℕ) → Type 0 → Type 0
 LooksOn tells old new lines Done =
     tells → (before after : Option ℕ) (most : ℕ) → IsWarmFor old.session before → AreLooks before lines most after

@@ -1,7 +1,8 @@
 -- What the word `seize` tells and leaves.
-use Rattle.std.specs.Prelude.{◌≡◌, ◌⊎◌, ◌==◌, if◌then◌else◌, ℕ, List, [], ◌∷◌, ◌++◌, Option, Ok, Err, codes, flat_map}
+use Rattle.std.specs.Prelude.{◌≡◌, ◌⊎◌, ◌==◌, ◌+◌, ◌≤◌, if◌then◌else◌, ℕ, List, [], ◌∷◌, ◌++◌, Option, Ok, Err, codes, flat_map}
 use Rattle.std.specs.Fmt.{decimal}
 use Rattle.sdbt_base.specs.Told.{Got, GotPart}
+use Rattle.platform.specs.Counts.{MayRiseByOne}
 use Rattle.platform.specs.Image.{Image}
 use Rattle.platform.specs.History.{During}
 use Rattle.page_store.specs.Roots.{IsBadCell}
@@ -14,6 +15,7 @@ use Rattle.line_run.specs.Stops.{Ending, exit_of}
 use Rattle.line_run.specs.Puts.{damage_line}
 use Rattle.device_cli.specs.Handed.{Handed}
 use Rattle.sdbt_base.specs.Counts.{NoneRose}
+use Rattle.sdbt_base.specs.Faults.{Rose}
 use Rattle.session_calls.specs.declared.stops.DeviceStop.TheVariants as device
 use Rattle.line_run.specs.declared.stop.Stop.TheVariants as stops
 
@@ -52,12 +54,12 @@ IsReportOf tells head image records seized =
 abbrev pub IsRefused : ℕ → Image → List (List ℕ) → Type 0
 IsRefused head image records = IsBadCell head image.cell ⊎ HasBadRecord head records
 
--- no page was read; or the seizure isn't refused, and each page was read once at most, and once more for each key by which a chain ends at it, from the
--- key of the root record in the cell and those of the root records that these words are
+-- the cell was looked at, once at most, and no page read; or the seizure isn't refused, and behind that look the cell was looked at once more, and each page read once at most, and
+-- once more for each key by which a chain ends at it, from the key of the root record in the cell and those of the root records that these words are
 abbrev pub ReadsFewFor : ℕ → Image → List (List ℕ) → ℕ → ℕ → Type 0
 ReadsFewFor head image records reads reads_now =
-    (reads_now ≡ reads) ⊎ ((IsRefused head image records → ⊥) × (keys : List (List ℕ)) × AreGiven head records keys
-    × ReadsFew head image.cell keys image.readable reads reads_now)
+    MayRiseByOne reads reads_now ⊎ ((IsRefused head image records → ⊥) × (keys : List (List ℕ)) × AreGiven head records keys
+    × ReadsFew head image.cell keys image.readable (reads + 1) reads_now)
 
 -- the text of the report was put; or the seizure is refused, and the line that says so was put; or, where the output failed, a first part of
 -- the one or the other; or nothing was, and without memory only where it isn't refused
@@ -87,5 +89,7 @@ pub record Seizing {S R I O L : Type 0} (tells : Type 0) (records : List (List �
   pub status_is : status ≡ exit_of ending
   pub seizes : Seizes tells old.world.head old.world.history.present records old.written new.written ending
   pub bad_root : tells → IsRefused old.world.head old.world.history.present records → (status ≡ 8) ⊎ (status ≡ 4) ⊎ (status ≡ 5)
+  -- the cell is looked at, whatever the words are, unless the platform failed
+  pub looked : tells → (Rose old.counts.platform new.counts.platform → ⊥) → old.world.reads + 1 ≤ new.world.reads
   pub reads : tells → ReadsFewFor old.world.head old.world.history.present records old.world.reads new.world.reads
   pub complete : tells → (IsRefused old.world.head old.world.history.present records → ⊥) → NoneRose old.counts new.counts → (status ≡ 0) ⊎ (status ≡ 11)

@@ -1,5 +1,5 @@
 -- What a run works on.
-use Rattle.std.specs.Prelude.{◌≡◌, ℕ, ◌-◌, ◌*◌, ◌≤◌, Bool, nat_lt, List, Option, None, Some}
+use Rattle.std.specs.Prelude.{◌≡◌, ℕ, ◌+◌, ◌-◌, ◌*◌, ◌≤◌, Bool, nat_lt, List, Option, None, Some}
 use Rattle.sdbt_base.specs.Arrays.{State}
 use Rattle.sdbt_base.specs.declared.tapes.Tape.{Ghosts as TapeGhosts}
 use Rattle.platform.specs.History.{History}
@@ -9,7 +9,7 @@ use Rattle.device_session.specs.Sessions.{Session}
 use Rattle.script_lang.specs.Commands.{Command}
 use Rattle.device_cli.specs.Pages.{needed_for, upgrade_of}
 
--- the session, if one is open; the moments of the platform; how many pages it has, and how many it can have; how many page reads were made; and the keys that the tape drew
+-- the session, if one is open; the moments of the platform; how many pages it has, and how many it can have; how many reads were made, of pages and of the cell; and the keys that the tape drew
 pub record World : Type 0 where
   pub session : Option Session
   pub history : History
@@ -31,6 +31,14 @@ drew_by drawn w = record w { drawn = drawn }
 
 abbrev pub world_by : {S R : Type 0} → Ghosts S → TapeGhosts R → Option Session → S → R → World
 world_by P T session platform tape = drew_by (T.drawn tape) (world_of P session platform)
+
+-- the same where the look at the cell before the first line is counted
+abbrev pub first_by : Option (List (List ℕ)) → World → World
+first_by drawn w = record w { reads = w.reads + 1; drawn = drawn }
+
+-- where a run begins, which looks at the cell before its first line
+abbrev pub start_by : {S R : Type 0} → Ghosts S → TapeGhosts R → S → R → World
+start_by P T platform tape = first_by (T.drawn tape) (world_of P None platform)
 
 -- how many pages a commit of the session's changes needs
 abbrev pub needed_of : Option Session → ℕ

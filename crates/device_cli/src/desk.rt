@@ -6,6 +6,7 @@ ghost use Rattle.script_lang.specs.Commands.{FitsBlock as FitsCommand, asked};
 ghost use Rattle.script_lang.specs.Replies.{CanWrite, FitsBlock, said};
 ghost use Rattle.sdbt_base.specs.Counts.{counts};
 ghost use Rattle.session_calls.specs.Blame.{IsBlamed};
+ghost use Rattle.platform.specs.Counts.{MayRiseByOne};
 ghost use Rattle.platform.specs.History.{During};
 ghost use Rattle.seizure.specs.Opened.{count_of_kind, count_of_nodes};
 ghost use Rattle.device_cli.specs.Causes.{AnswersAny};
@@ -115,6 +116,7 @@ impl Desk {
         ensures enough { StaysEnough self.old self.new result }
         ensures keeps { Keeps P.Platform T.Tape L.Sink self.old self.new platform.old platform.new tape.old tape.new ledger.old ledger.new result }
         ensures answered { P.tells → ServesAny P.Platform self.old self.new platform.old platform.new (commands.Format blocks order) result }
+        ensures looks { P.tells → LooksFew P.Platform self.old self.new platform.old platform.new (commands.Format blocks order) result }
     {
         if !is_in_limits(blocks, order) {
             return refuse_format(platform);
@@ -283,6 +285,7 @@ impl Desk {
         ensures enough { StaysEnough self.old self.new result }
         ensures keeps { KeepsStill P.Platform self.old self.new platform.old platform.new result }
         ensures answered { P.tells → ServesAny P.Platform self.old self.new platform.old platform.new commands.Erase result }
+        ensures looks { P.tells → LooksFew P.Platform self.old self.new platform.old platform.new commands.Erase result }
     {
         match device_core::erase(platform) {
             Ok(()) => {
@@ -397,8 +400,8 @@ fn refuse_format<P: Platform>(platform: &mut P) -> Result<Reply, DeviceStop>
     ensures image { P.tells → (P.history platform.new).present ≡ (P.history platform.old).present }
     ensures time { P.tells
         → During (P.history platform.old) (P.history platform.new) (λ image. image.cell ≡ (P.history platform.old).present.cell) }
-    ensures head { P.head platform.new ≡ P.head platform.old }
-    ensures capacity { P.capacity platform.new ≡ P.capacity platform.old }
+    ensures pages { (P.head platform.new ≡ P.head platform.old) × (P.capacity platform.new ≡ P.capacity platform.old) }
+    ensures reads { P.tells → MayRiseByOne (P.reads platform.old) (P.reads platform.new) }
     ensures reply { IfOk result (λ reply. (buffer : List ℕ) → CanWrite (said reply buffer)) }
     ensures short { IfOk result FitsBlock }
     ensures count { P.faults platform.old ≤ P.faults platform.new }

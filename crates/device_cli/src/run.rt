@@ -8,7 +8,7 @@ ghost use Rattle.script_lang.specs.Replies.{CanWrite, FitsBlock, line_of, said};
 ghost use Rattle.device_terms.specs.Served.{IsServedImage};
 ghost use Rattle.device_session.specs.Sessions.{Session};
 ghost use Rattle.device_cli.specs.Desk.{Before, AfterLine};
-ghost use Rattle.device_cli.specs.World.{world_by};
+ghost use Rattle.device_cli.specs.World.{start_by, world_by};
 ghost use Rattle.device_cli.specs.Run.{IsRefusal};
 ghost use Rattle.line_run.specs.Stops.{IsBlamedOn, status_of, IsSound};
 ghost use Rattle.sdbt_base.specs.Counts.{counts};
@@ -53,7 +53,7 @@ pub(crate) fn run<P: Platform, T: Tape, I: Source, O: Sink, L: Sink>(
         (counts (P.faults platform.old) (T.faults tape.old) (I.faults input.old) (O.faults output.old) (L.faults ledger.old))
         (counts (P.faults platform.new) (T.faults tape.new) (I.faults input.new) (O.faults output.new) (L.faults ledger.new)) result }
     ensures ran { (session : Option Session)
-        × Ran P.tells (input.new ≡ input.old) (world_by P.Platform T.Tape None platform.old tape.old) (world_by P.Platform T.Tape session platform.new tape.new)
+        × Ran P.tells (input.new ≡ input.old) (start_by P.Platform T.Tape platform.old tape.old) (world_by P.Platform T.Tape session platform.new tape.new)
         damage_line result (I.left input.old) (I.left input.new) (O.written output.old) (O.written output.new) }
 {
     match check_cell(platform) {

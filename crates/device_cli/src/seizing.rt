@@ -1,6 +1,7 @@
 //! The word `seize`: tells what an adversary would open now.
-ghost use Rattle.std.specs.Prelude.{◌≡◌, ◌≤◌, ◌⊎◌, IfErr, IfOk, OnOk, IsErrOf, flat_map, length, map, string_bytes};
-ghost use Rattle.sdbt_base.specs.Faults.{TellsOf};
+ghost use Rattle.std.specs.Prelude.{◌≡◌, ◌≤◌, ◌⊎◌, ◌+◌, IfErr, IfOk, OnOk, IsErrOf, flat_map, length, map, string_bytes};
+ghost use Rattle.sdbt_base.specs.Faults.{Rose, TellsOf};
+ghost use Rattle.platform.specs.Counts.{MayRiseByOne};
 ghost use Rattle.platform.specs.History.{Steps};
 ghost use Rattle.page_store.specs.Roots.{IsBadCell};
 ghost use Rattle.seizure.specs.Looks.{Looks};
@@ -41,6 +42,7 @@ pub(crate) fn seize_word<P: Platform, O: Sink>(
     ensures time { P.tells → Steps (P.history platform.old) (P.history platform.new) }
     ensures head { P.head platform.new ≡ P.head platform.old }
     ensures capacity { P.capacity platform.new ≡ P.capacity platform.old }
+    ensures looked { P.tells → (Rose (P.faults platform.old) (P.faults platform.new) → ⊥) → P.reads platform.old + 1 ≤ P.reads platform.new }
     ensures reads { P.tells → ReadsFewFor (P.head platform.old) (P.history platform.old).present (map string_bytes records.now)
         (P.reads platform.old) (P.reads platform.new) }
 {
@@ -66,6 +68,7 @@ fn find<P: Platform>(
     ensures stops { IfErr result (λ stop. (stop ≡ DeviceStop.BadRoot) ⊎ (stop ≡ DeviceStop.Memory) ⊎ (stop ≡ DeviceStop.Platform)) }
     ensures cause { TellsOf DeviceStop.Platform result (P.faults platform.old) (P.faults platform.new) }
     ensures looks { Looks P.Platform platform.old platform.new }
+    ensures looked { P.tells → (IsErrOf result DeviceStop.Platform → ⊥) → P.reads platform.old + 1 ≤ P.reads platform.new }
     ensures reads { P.tells → ReadsFewFor (P.head platform.old) (P.history platform.old).present (map string_bytes records.now)
         (P.reads platform.old) (P.reads platform.new) }
 {
@@ -121,7 +124,8 @@ fn check_root<P: Platform>(platform: &mut P) -> Result<(), DeviceStop>
     ensures stops { IfErr result (λ stop. (stop ≡ DeviceStop.BadRoot) ⊎ (stop ≡ DeviceStop.Platform)) }
     ensures cause { TellsOf DeviceStop.Platform result (P.faults platform.old) (P.faults platform.new) }
     ensures looks { Looks P.Platform platform.old platform.new }
-    ensures unread { P.tells → P.reads platform.new ≡ P.reads platform.old }
+    ensures reads { P.tells → MayRiseByOne (P.reads platform.old) (P.reads platform.new) }
+    ensures looked { P.tells → (IsErrOf result DeviceStop.Platform → ⊥) → P.reads platform.new ≡ P.reads platform.old + 1 }
 {
     match current(platform) {
         Ok(_) => Ok(()),

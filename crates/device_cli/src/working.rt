@@ -11,7 +11,7 @@ ghost use Rattle.line_run.specs.Stops.{exit_of, IsBlamedOn, status_of};
 ghost use Rattle.sdbt_base.specs.Counts.{counts};
 ghost use Rattle.session_calls.specs.Cells.{IsUntouched};
 ghost use Rattle.device_cli.specs.Working.{IsIdle, Worked};
-ghost use Rattle.device_cli.specs.World.{world_by, world_of};
+ghost use Rattle.device_cli.specs.World.{start_by, world_by, world_of};
 
 use crate::run::run;
 use arrayvec::ArrayVec;
@@ -94,7 +94,7 @@ pub(crate) fn work<P: Platform, T: Tape, O: Sink, L: Sink>(
         (counts (P.faults platform.new) (T.faults tape.new) 0 (O.faults output.new) (L.faults ledger.new)) result }
     ensures worked { (session : Option Session)
         × (IsIdle (world_of P.Platform None platform.old) (world_of P.Platform session platform.new) (O.written output.old) (O.written output.new) result
-        ⊎ Worked P.tells seed count (world_by P.Platform T.Tape None platform.old tape.old) (world_by P.Platform T.Tape session platform.new tape.new) (O.written output.old) (O.written output.new) result) }
+        ⊎ Worked P.tells seed count (start_by P.Platform T.Tape platform.old tape.old) (world_by P.Platform T.Tape session platform.new tape.new) (O.written output.old) (O.written output.new) result) }
 {
     let Ok(text) = script(alloc, seed, count) else {
         return Err(Stop::Device(DeviceStop::Memory));

@@ -6,6 +6,7 @@ use Rattle.sdbt_base.specs.Counts.{Counts, PlatformRose, TapeRose, LedgerRose}
 use Rattle.sdbt_base.specs.Keys.{IsKeyOf}
 use Rattle.sdbt_base.specs.declared.tapes.Tape.{Ghosts as TapeGhosts}
 use Rattle.platform.specs.declared.platforms.Platform.{Ghosts as PlatformGhosts}
+use Rattle.platform.specs.Counts.{MayRiseByOne}
 use Rattle.platform.specs.Image.{Image}
 use Rattle.platform.specs.History.{History, CellStays}
 use Rattle.root_codec.specs.declared.root.Root.{Root}
@@ -76,13 +77,13 @@ pub record IsPartly {S : Type 0} (P : PlatformGhosts S) (platform platform_now :
   pub most : P.head platform_now ≤ P.head platform + needed_of_root root
   pub still : P.tells → CellStays (P.history platform) (P.history platform_now)
 
--- an upgrade of the root record in the cell drew no more keys than it adds pages, and read each node of the tree before it twice and each data record once, at
--- most
+-- an upgrade of the root record in the cell drew no more keys than it adds pages, and looked at the cell once, and read each node of the tree before it twice and
+-- each data record once, at most
 pub record SpendsOn {S R : Type 0} (P : PlatformGhosts S) (T : TapeGhosts R) (platform platform_now : S) (tape tape_now : R) : Type 0 where
   pub root : Root
   pub begins : Begins P.tells (P.history platform).present (P.head platform) (P.capacity platform) root
   pub draws : DrewFew (needed_of_root root) (T.drawn tape) (T.drawn tape_now)
-  pub reads : P.tells → (nodes : List Node) × NodesOf (P.history platform).present.readable root nodes × (P.reads platform_now ≤ P.reads platform + (2 * length nodes + root.mapped))
+  pub reads : P.tells → (nodes : List Node) × NodesOf (P.history platform).present.readable root nodes × (P.reads platform_now ≤ P.reads platform + (1 + 2 * length nodes + root.mapped))
 
 -- of the tree of a root record nothing was read; or a walk over its nodes was cut short, and read none twice; or each node was read, and, only where they list as many entries as the
 -- root record says, each once more at most, or by a second walk that was cut short
@@ -93,12 +94,12 @@ ReadsCut pages root reads reads_now =
     × ((reads_now ≡ reads + length nodes)
     ⊎ ((length (listed nodes) ≡ root.mapped) × ((reads_now ≤ reads + 2 * length nodes) ⊎ CutShort pages (root_want root) root.key (reads + length nodes) reads_now))))
 
--- no page was read, or an upgrade of the root record in the cell began, and read so of its tree
+-- the cell was looked at, once at most, and no page read; or behind one look at it an upgrade of its root record began, and read so of its tree
 abbrev pub ReadsFew : {S : Type 0} → PlatformGhosts S → S → S → Type 0
 ReadsFew P platform platform_now =
-    (P.tells → P.reads platform_now ≡ P.reads platform)
+    (P.tells → MayRiseByOne (P.reads platform) (P.reads platform_now))
     ⊎ ((root : Root) × Begins P.tells (P.history platform).present (P.head platform) (P.capacity platform) root
-    × (P.tells → ReadsCut (P.history platform).present.readable root (P.reads platform) (P.reads platform_now)))
+    × (P.tells → ReadsCut (P.history platform).present.readable root (P.reads platform + 1) (P.reads platform_now)))
 
 -- so it is; or no key was drawn, there is no upgrade, and each node was read twice at most, and no data record
 abbrev pub SpendsUpgrade : {S R : Type 0} → PlatformGhosts S → TapeGhosts R → S → S → R → R → Type 0 → Type 0

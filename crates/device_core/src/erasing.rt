@@ -1,4 +1,5 @@
 ghost use Rattle.std.specs.Prelude.{◌≡◌, ◌≤◌, ℕ, List, Option, None};
+ghost use Rattle.platform.specs.Counts.{MayRiseByOne};
 ghost use Rattle.platform.specs.Image.{IsEither, LeavesOnly, with_cell};
 ghost use Rattle.platform.specs.History.{During, Steps, Turns};
 ghost use Rattle.sdbt_base.specs.Arrays.{Device};
@@ -36,7 +37,8 @@ pub fn erase<P: Platform>(platform: &mut P) -> Result<(), EraseRefusal>
 
     ensures pages { (P.head platform.new ≡ P.head platform.old) × (P.capacity platform.new ≡ P.capacity platform.old)
         × (P.faults platform.old ≤ P.faults platform.new) }
-    ensures reads { P.tells → P.reads platform.new ≡ P.reads platform.old }
+    // The cell is looked at once at most, and no page is read.
+    ensures reads { P.tells → MayRiseByOne (P.reads platform.old) (P.reads platform.new) }
 {
     let mut cell = [0; ROOT];
     match platform.load_root(&mut cell) {

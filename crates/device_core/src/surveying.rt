@@ -1,5 +1,5 @@
 //! What an upgrade reads of a device before it draws a key.
-ghost use Rattle.std.specs.Prelude.{◌≡◌, ◌↔◌, ◌<◌, All, IfOk, OnErr, IsTrue, map};
+ghost use Rattle.std.specs.Prelude.{◌≡◌, ◌↔◌, ◌<◌, ◌+◌, All, IfOk, OnErr, OnOk, IsTrue, map};
 ghost use Rattle.std.specs.List.Sorted.{IsStrictlyIncreasing};
 ghost use Rattle.root_codec.specs.RootRecord.{FitsRoot};
 ghost use Rattle.page_store.specs.Reading.{ReadsCell};
@@ -34,6 +34,7 @@ pub(crate) struct Survey {
 pub(crate) fn begin<P: Platform>(platform: &mut P) -> Result<Root, UpgradeRefusal>
     ensures cause { IsBeginCause P.Platform platform.old platform.new result }
     ensures reads_cell { ReadsCell P.Platform platform.old platform.new }
+    ensures once { P.tells → OnOk result (P.reads platform.new ≡ P.reads platform.old + 1) }
 {
     let Some(root) = current(platform)? else {
         return Err(UpgradeRefusal::NoDevice);

@@ -49,8 +49,8 @@ pub fn upgrade<P: Platform, T: Tape, L: Sink>(
     ensures certifies { CertifiesUpgrade P.tells (L.written ledger.old) (L.written ledger.new) (P.history platform.old) (P.history platform.new) (IsOk result) }
     // All pages that it needs are added, and outlast a loss of power, before the ledger gets the entry.
     ensures synced { PutsUpgrade P.Platform platform.old platform.new ledger.old ledger.new }
-    // It draws a key for each page that it adds and no other one, and reads the nodes of the tree twice and the data records once. Where it is refused before the
-    // first key, too, it has read no node more than twice, and none twice where the first walk was cut short.
+    // It draws a key for each page that it adds and no other one, and looks at the cell once, and reads the nodes of the tree twice and the data records once. Where it
+    // is refused before the first key, too, it has read no node more than twice, and none twice where the first walk was cut short.
     ensures spends { SpendsUpgrade P.Platform T.Tape platform.old platform.new tape.old tape.new (IsOk result) }
     ensures grows { (P.head platform.old ≤ P.head platform.new) × (P.capacity platform.new ≡ P.capacity platform.old)
         × (P.faults platform.old ≤ P.faults platform.new) × (T.faults tape.old ≤ T.faults tape.new) × (L.faults ledger.old ≤ L.faults ledger.new) }

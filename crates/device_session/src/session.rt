@@ -1,6 +1,7 @@
-ghost use Rattle.std.specs.Prelude.{◌≡◌, ◌≤◌, [], IfOk, IfErr};
+ghost use Rattle.std.specs.Prelude.{◌≡◌, ◌≤◌, ◌+◌, [], IfOk, IfErr, IsErrOf};
 ghost use Rattle.sdbt_base.specs.Faults.{TellsOf};
 ghost use Rattle.platform.specs.Calls.{Looks};
+ghost use Rattle.platform.specs.Counts.{MayRiseByOne};
 ghost use Rattle.btree_walk.specs.Readers.{IsWiped};
 ghost use Rattle.btree_twigs.specs.Wiped.{blank};
 ghost use Rattle.device_session.specs.Causes.{IsMountCause};
@@ -55,7 +56,7 @@ impl Session {
     ghost use Rattle.device_session.specs.Open.{blocks_of, number_of, root_of};
     ghost use Rattle.device_session.specs.Mounting.{Mounts};
 
-    /// Opens a session on the device. It reads no page.
+    /// Opens a session on the device. It looks at the cell once, and reads no page.
     ///
     /// `cache` is how many nodes are cached, at most 4,096. `NoDevice` comes exactly where the cell is empty, `BadRoot` exactly
     /// where it is full and holds no root record, or one that speaks of more pages than there are.
@@ -69,7 +70,8 @@ impl Session {
         ensures mounts { IfOk result (Mounts P.Platform cache platform.old platform.new) }
         ensures refused { P.tells → IfErr result (λ refusal. IsMountCause (P.history platform.old).present.cell (P.head platform.old) refusal) }
         ensures looks { Looks P.Platform platform.old platform.new }
-        ensures reads { P.tells → P.reads platform.new ≡ P.reads platform.old }
+        ensures reads { P.tells → MayRiseByOne (P.reads platform.old) (P.reads platform.new) }
+        ensures looked { P.tells → (IsErrOf result MountRefusal.PlatformFault → ⊥) → P.reads platform.new ≡ P.reads platform.old + 1 }
         ensures cause { TellsOf MountRefusal.PlatformFault result (P.faults platform.old) (P.faults platform.new) }
     {
         let Some(root) = current(platform)? else {

@@ -205,12 +205,12 @@ kept_read files files' events events' addr page same is told =
     kept-to files files' events events' (page_read addr page ∷ events) (now_of files events) (reads_of events + 1) same is (record { told = told_read files events addr page told; readable = refl; recorded = refl; shows = refl; count = refl; settled = λ s. record { named = s.named; alone = s.alone; synced = s.synced; no_new = s.no_new } })
 
 pub kept_load : (files files' : Files) (events events' : List Event) (held : Option (List ℕ)) → files' ≡ files → events' ≡ root_read held ∷ events → IsTold files events
-    → Kept files files' events events' (now_of files events) (reads_of events)
+    → Kept files files' events events' (now_of files events) (reads_of events + 1)
 kept_load files files' events events' None same is told =
-    kept-to files files' events events' (root_read None ∷ events) (now_of files events) (reads_of events) same is
+    kept-to files files' events events' (root_read None ∷ events) (now_of files events) (reads_of events + 1) same is
     (record { told = told_same files (root_read None) events refl told refl; readable = refl; recorded = refl; shows = refl; count = refl; settled = λ s. record { named = s.named; alone = s.alone; synced = s.synced; no_new = s.no_new } })
 kept_load files files' events events' (Some bytes) same is told =
-    kept-to files files' events events' (root_read (Some bytes) ∷ events) (now_of files events) (reads_of events) same is
+    kept-to files files' events events' (root_read (Some bytes) ∷ events) (now_of files events) (reads_of events + 1) same is
     (record { told = told_same files (root_read (Some bytes)) events refl told refl; readable = refl; recorded = refl; shows = refl; count = refl; settled = λ s. record { named = s.named; alone = s.alone; synced = s.synced; no_new = s.no_new } })
 
 -- nothing was asked
@@ -239,9 +239,13 @@ synced_done events events' ok is done was = ap all_done is ∙ rw done was
 
 -- one look at `root`, or none
 pub kept_look : {E : Type 0} (files files' : Files) (events events' : List Event) (result : Result Bool E) (into : List ℕ) → files' ≡ files → NotesCell result into events events' → IsTold files events
-    → Kept files files' events events' (now_of files events) (reads_of events)
-kept_look files files' events events' (Ok full) into same notes told = kept_load files files' events events' notes.0 same notes.1 told
-kept_look files files' events events' (Err error) into same notes told = kept_none files files' events events' same notes told
+    → Kept files files' events events' (now_of files events) (reads_of events')
+kept_look files files' events events' (Ok full) into same notes told =
+    let all = kept_load files files' events events' notes.0 same notes.1 told in
+    record { told = all.told; readable = all.readable; recorded = all.recorded; shows = all.shows; count = refl; settled = all.settled }
+kept_look files files' events events' (Err error) into same notes told =
+    let all = kept_none files files' events events' same notes told in
+    record { told = all.told; readable = all.readable; recorded = all.recorded; shows = all.shows; count = refl; settled = all.settled }
 
 pub steps_none : (files files' : Files) (events events' : List Event) (told : IsTold files events) (told' : IsTold files' events') → files' ≡ files → events' ≡ events → Steps (told_by files events told) (told_by files' events' told')
 steps_none files files' events events' told told' same is =

@@ -7,7 +7,7 @@ use Rattle.folder_platform.specs.Files.{Files}
 use Rattle.folder_platform.specs.Events.{Event}
 use Rattle.folder_platform.specs.Model.{NamedFile, Model, replay, durable}
 use Rattle.folder_platform.specs.declared.file_call.FileCall.{FileCall}
-use Rattle.folder_platform.specs.declared.file_call.FileCall.TheVariants.{CountPages, ReadPage}
+use Rattle.folder_platform.specs.declared.file_call.FileCall.TheVariants.{CountPages, ReadPage, ReadRoot}
 
 -- a root record's length of zeros, which are none
 unfoldable pub zero_root : List ℕ
@@ -58,13 +58,14 @@ IsTold files events = AreOrderly (past_of files events) (now_of files events)
 abbrev pub told_by : (files : Files) (events : List Event) → IsTold files events → History
 told_by files events told = record { past = past_of files events; present = now_of files events; whole = told.whole; ascends = told.ascends }
 
--- one more where a page was read
+-- one more where a page was read, or the cell looked at
 abbrev reads_after : FileCall → ℕ → ℕ
 reads_after CountPages reads = 0
 reads_after ReadPage reads = reads + 1
+reads_after ReadRoot reads = reads + 1
 reads_after other reads = reads
 
--- so many reads of pages were answered
+-- so many reads of pages and looks at the cell were answered
 abbrev pub reads_of : List Event → ℕ
 reads_of [] = 0
 reads_of (e ∷ earlier) = reads_after e.0 (reads_of earlier)

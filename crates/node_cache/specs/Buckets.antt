@@ -1,5 +1,5 @@
 -- The buckets of a cache: which slots may have a node of an address.
-use Rattle.std.specs.Prelude.{◌≡◌, ◌%◌, ◌*◌, ℕ, List, Option, None, Some, length, max, slice_get}
+use Rattle.std.specs.Prelude.{◌≡◌, ◌≢◌, ◌%◌, ◌*◌, ℕ, List, Option, None, Some, length, max, slice_get}
 use Rattle.node_cache.specs.declared.slots.CachedNode.{CachedNode}
 use Rattle.node_cache.specs.Slots.{IsTied}
 use Rattle.node_cache.specs.declared.buckets.Bucket.{Bucket}
@@ -15,6 +15,14 @@ MayHave (Some Many) slot = Unit {0}
 -- no bucket rules out a slot that has an address of it
 abbrev pub Covers : List Bucket → List (Option ℕ) → Type 0
 Covers buckets addrs = (slot addr : ℕ) → slice_get addrs slot ≡ Some (Some addr) → MayHave (slice_get buckets (addr % length buckets)) slot
+
+-- the slot has an address of the bucket at a place, of so many
+abbrev pub IsIn : List (Option ℕ) → ℕ → ℕ → ℕ → Type 0
+IsIn addrs slot count place = (addr : ℕ) × (slice_get addrs slot ≡ Some (Some addr)) × (addr % count ≡ place)
+
+-- another slot than this one has such an address
+abbrev pub IsShared : List (Option ℕ) → ℕ → ℕ → ℕ → Type 0
+IsShared addrs number count place = (other : ℕ) × (other ≢ number) × IsIn addrs other count place
 
 -- numbered slots in the order of their use, of which there is room for so many, the addresses of the nodes in them, and buckets that rule out none of these.
 -- No more room was taken than these need: for each slot, for one at least, and for four buckets a slot

@@ -2,7 +2,7 @@
 ghost use Rattle.std.specs.Prelude.{◌≡◌, ◌≢◌, ◌%◌, ◌<◌, ℕ, Some, IfSome, IfNone, IsTrue, IsFalse, length, slice_get};
 ghost use Rattle.std.proofs.Math.ListN.{set};
 ghost use Rattle.node_cache.specs.Slots.{IsUnlisted};
-ghost use Rattle.node_cache.specs.Buckets.{Covers, MayHave};
+ghost use Rattle.node_cache.specs.Buckets.{Covers, IsIn, IsShared, MayHave};
 
 /// The slots with addresses of one bucket.
 #[derive(Clone, Copy, Debug, PartialEq, Eq)]
@@ -55,6 +55,7 @@ fn bucket_with(
     requires { 0 < count }
     ensures here { MayHave (Some result) number }
     ensures others { (slot addr : ℕ) → slot ≢ number → slice_get addrs.now slot ≡ Some (Some addr) → addr % count ≡ place → MayHave old slot → MayHave (Some result) slot }
+    ensures shared { number < 65536 → result ≡ Bucket.Many → IsShared addrs.now number count place }
 {
     let is_shared = match old {
         None => false,
@@ -109,7 +110,8 @@ fn find(addrs: &[Option<u64>], addr: u64) -> Option<usize>
 /// Whether the address of a slot belongs into the bucket at a place, of so many.
 fn is_at(addrs: &[Option<u64>], number: usize, count: usize, place: usize) -> bool
     requires { 0 < count }
-    ensures { IsFalse result → (addr : ℕ) → slice_get addrs.now number ≡ Some (Some addr) → addr % count ≢ place }
+    ensures away { IsFalse result → (addr : ℕ) → slice_get addrs.now number ≡ Some (Some addr) → addr % count ≢ place }
+    ensures there { IsTrue result → IsIn addrs.now number count place }
 {
     match addrs.get(number) {
         Some(Some(addr)) => place_of(count, *addr) == place,
@@ -120,7 +122,8 @@ fn is_at(addrs: &[Option<u64>], number: usize, count: usize, place: usize) -> bo
 /// Whether the address of another slot than this belongs into the bucket at a place, of so many.
 fn shares(addrs: &[Option<u64>], other: usize, number: usize, count: usize, place: usize) -> bool
     requires { 0 < count }
-    ensures { IsFalse result → (addr : ℕ) → other ≢ number → slice_get addrs.now other ≡ Some (Some addr) → addr % count ≢ place }
+    ensures away { IsFalse result → (addr : ℕ) → other ≢ number → slice_get addrs.now other ≡ Some (Some addr) → addr % count ≢ place }
+    ensures there { IsTrue result → (other ≢ number) × IsIn addrs.now other count place }
 {
     other != number && is_at(addrs, other, count, place)
 }
@@ -128,7 +131,8 @@ fn shares(addrs: &[Option<u64>], other: usize, number: usize, count: usize, plac
 /// Whether the address of a slot but this belongs into the bucket at a place, of so many.
 fn has_other(addrs: &[Option<u64>], number: usize, count: usize, place: usize) -> bool
     requires { 0 < count }
-    ensures { IsFalse result → (other addr : ℕ) → other ≢ number → slice_get addrs.now other ≡ Some (Some addr) → addr % count ≢ place }
+    ensures away { IsFalse result → (other addr : ℕ) → other ≢ number → slice_get addrs.now other ≡ Some (Some addr) → addr % count ≢ place }
+    ensures there { IsTrue result → IsShared addrs.now number count place }
 {
     for other in 0..addrs.len() {
         if shares(addrs, other, number, count, place) {

@@ -1,5 +1,6 @@
 -- What a look does to a platform beside its purpose.
 use Rattle.std.specs.Prelude.{◌≡◌, ◌≤◌, ◌+◌}
+use Rattle.platform.specs.Counts.{MayRiseByOne}
 use Rattle.platform.specs.History.{Steps}
 use Rattle.platform.specs.declared.platforms.Platform.{Ghosts}
 
@@ -13,11 +14,11 @@ pub record ReadsPage {S : Type 0} (P : Ghosts S) (old new : S) : Type 0 where
   pub reads_by_one : P.tells → P.reads new ≤ P.reads old + 1
   pub faults : P.faults old ≤ P.faults new
 
--- a call that looks at the cell alone: the image stays, and no page is read or added
+-- a call that looks at the cell alone, and once at most: the image stays, and no page is read or added
 pub record ReadsCell {S : Type 0} (P : Ghosts S) (old new : S) : Type 0 where
   pub image : P.tells → (P.history new).present ≡ (P.history old).present
   pub time : P.tells → Steps (P.history old) (P.history new)
   pub head : P.head new ≡ P.head old
   pub capacity : P.capacity new ≡ P.capacity old
-  pub reads : P.tells → P.reads new ≡ P.reads old
+  pub reads : P.tells → MayRiseByOne (P.reads old) (P.reads new)
   pub faults : P.faults old ≤ P.faults new

@@ -1,4 +1,4 @@
-ghost use Rattle.std.specs.Prelude.{◌≡◌, ◌≢◌, ◌≤◌, ◌↔◌, None, Some, IsTrue, IfOk, IfSome, IfNone, IsErrOf, length};
+ghost use Rattle.std.specs.Prelude.{◌≡◌, ◌≢◌, ◌≤◌, ◌↔◌, ◌+◌, None, Some, IsTrue, IfOk, IfSome, IfNone, IsErrOf, length};
 ghost use Rattle.sdbt_base.specs.Faults.{TellsOf};
 ghost use Rattle.root_codec.specs.RootRecord.{root_bytes};
 ghost use Rattle.page_store.specs.Reading.{ReadsCell};
@@ -13,7 +13,7 @@ use sdbt_base::ROOT;
 /// The root record in the cell, or none where the cell is empty.
 ///
 /// `BadRoot` comes exactly where the cell is full and holds no root record, or one whose head field is
-/// above the platform's head: it speaks of pages that are not there.
+/// above the platform's head: it speaks of pages that are not there. The cell is looked at once.
 pub fn current<P: Platform>(platform: &mut P) -> Result<Option<Root>, CurrentRefusal>
     ensures found { P.tells → IfOk result (λ found. IfSome found (λ root.
         (P.history platform.old).present.cell ≡ Some (root_bytes root))) }
@@ -24,6 +24,7 @@ pub fn current<P: Platform>(platform: &mut P) -> Result<Option<Root>, CurrentRef
         IsBadCell (P.head platform.old) (P.history platform.old).present.cell }
 
     ensures reads_cell { ReadsCell P.Platform platform.old platform.new }
+    ensures once { P.tells → (IsErrOf result CurrentRefusal.PlatformFault → ⊥) → P.reads platform.new ≡ P.reads platform.old + 1 }
     ensures cause { TellsOf CurrentRefusal.PlatformFault result (P.faults platform.old) (P.faults platform.new) }
 {
     let mut bytes = [0; ROOT];

@@ -30,9 +30,17 @@ calls_of platform = platform.plan.made
 abbrev pub starved_of : MemPlatform → ℕ
 starved_of platform = platform.starved
 
--- how many reads were answered
+-- how many reads of pages were answered
 abbrev pub reads_of : MemPlatform → ℕ
 reads_of platform = platform.reads
+
+-- how many looks at the cell were answered
+abbrev pub looks_of : MemPlatform → ℕ
+looks_of platform = platform.looks
+
+-- how many reads were answered, of pages and of the cell
+abbrev pub answered_of : MemPlatform → ℕ
+answered_of platform = reads_of platform + looks_of platform
 
 -- how many calls failed
 abbrev pub faults_of : MemPlatform → ℕ
@@ -71,6 +79,7 @@ pub record HasEffect (call : CallKind) (old new : MemPlatform) (after : Image) :
 pub record IsSameRest (old new : MemPlatform) : Type 0 where
   pub capacity : capacity_of new ≡ capacity_of old
   pub reads : reads_of new ≡ reads_of old
+  pub looks : looks_of new ≡ looks_of old
   pub faults : faults_of new ≡ faults_of old
   pub starved : starved_of new ≡ starved_of old
 
@@ -80,11 +89,12 @@ pub record TellsFaults {T E : Type 0} (old new : MemPlatform) (result : Result T
   pub cause : Tells result (faults_of old) (faults_of new)
   pub one : OnErr result (faults_of new ≡ next_count (faults_of old))
 
--- a call that reads no page is one step of the history
+-- a call that reads neither a page nor the cell is one step of the history
 pub record StepsBeside (old new : MemPlatform) : Type 0 where
   pub time : Steps (mem_history old) (mem_history new)
   pub capacity : capacity_of new ≡ capacity_of old
   pub reads : reads_of new ≡ reads_of old
+  pub looks : looks_of new ≡ looks_of old
 
 -- a read counts where it is answered, and where it is told to fail with its effect
 pub record CountsRead {T E : Type 0} (old new : MemPlatform) (result : Result T E) : Type 0 where
@@ -93,3 +103,12 @@ pub record CountsRead {T E : Type 0} (old new : MemPlatform) (result : Result T 
   pub by_one : reads_of new ≤ reads_of old + 1
   pub with_effect : due old Read ≡ Some true → ¬ (Starved old new) → reads_of old < 2 ^ 64 - 1 → reads_of new ≡ reads_of old + 1
   pub without_effect : due old Read ≡ Some false → reads_of new ≡ reads_of old
+  pub looks : looks_of new ≡ looks_of old
+
+-- a look at the cell counts where it is answered, and is one step of the history
+pub record CountsLook {T E : Type 0} (old new : MemPlatform) (result : Result T E) : Type 0 where
+  pub time : Steps (mem_history old) (mem_history new)
+  pub capacity : capacity_of new ≡ capacity_of old
+  pub reads : reads_of new ≡ reads_of old
+  pub answered : OnOk result (looks_of new ≡ looks_of old + 1)
+  pub failed : OnErr result (looks_of new ≡ looks_of old)

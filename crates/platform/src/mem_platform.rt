@@ -24,6 +24,7 @@ pub struct MemPlatform {
     capacity: u64,
     plan: Plan,
     reads: u64,
+    looks: u64,
     faults: u64,
     starved: u64,
     ghost room: { length (store_history store).present.recorded ≤ capacity },
@@ -31,7 +32,7 @@ pub struct MemPlatform {
 }
 
 impl MemPlatform {
-    ghost use Rattle.platform.specs.Mem.{mem_history, image_of_now, failures_of, calls_of, starved_of, reads_of, faults_of, capacity_of, IsSameRest};
+    ghost use Rattle.platform.specs.Mem.{mem_history, image_of_now, failures_of, calls_of, starved_of, reads_of, looks_of, faults_of, capacity_of, IsSameRest};
 
     /// No page, an empty cell and no failures.
     pub fn blank(alloc: Global, capacity: u64) -> Self
@@ -41,7 +42,7 @@ impl MemPlatform {
         ensures capacity { capacity_of result ≡ capacity }
         ensures failures { failures_of result ≡ [] }
         ensures calls { calls_of result ≡ no_calls }
-        ensures reads { reads_of result ≡ 0 }
+        ensures reads { (reads_of result ≡ 0) × (looks_of result ≡ 0) }
         ensures faults { faults_of result ≡ 0 }
         ensures starved { starved_of result ≡ 0 }
     {
@@ -51,6 +52,7 @@ impl MemPlatform {
             capacity,
             plan: Plan::new(alloc),
             reads: 0,
+            looks: 0,
             faults: 0,
             starved: 0,
         }
@@ -66,7 +68,7 @@ impl MemPlatform {
         ensures capacity { capacity_of result ≡ capacity }
         ensures failures { failures_of result ≡ [] }
         ensures calls { calls_of result ≡ no_calls }
-        ensures reads { reads_of result ≡ 0 }
+        ensures reads { (reads_of result ≡ 0) × (looks_of result ≡ 0) }
         ensures faults { faults_of result ≡ 0 }
         ensures starved { starved_of result ≡ 0 }
     {
@@ -76,6 +78,7 @@ impl MemPlatform {
             capacity,
             plan: Plan::new(alloc),
             reads: 0,
+            looks: 0,
             faults: 0,
             starved: 0,
         }
@@ -140,6 +143,13 @@ impl MemPlatform {
         self.reads
     }
 
+    /// How many looks at the cell were answered; at its last value it stays.
+    pub fn looks(&self) -> u64
+        ensures { result ≡ looks_of self.now }
+    {
+        self.looks
+    }
+
     /// How many calls failed because a growth was refused.
     pub fn starved(&self) -> u64
         ensures { result ≡ starved_of self.now }
@@ -154,7 +164,7 @@ impl Platform for MemPlatform {
     ghost use Rattle.platform.specs.Counts.{MayRiseByOne};
     ghost use Rattle.platform.specs.Image.{with_page, with_cell, all_synced, IsEither, MayHavePage};
     ghost use Rattle.platform.specs.History.{Steps};
-    ghost use Rattle.platform.specs.Mem.{mem_history, image_of_now, due, starved_of, reads_of, faults_of, capacity_of, FailsAsListed, Starved, Counts, HasEffect, TellsFaults, StepsBeside, CountsRead};
+    ghost use Rattle.platform.specs.Mem.{mem_history, image_of_now, due, starved_of, reads_of, looks_of, answered_of, faults_of, capacity_of, FailsAsListed, Starved, Counts, HasEffect, TellsFaults, StepsBeside, CountsLook, CountsRead};
 
     ghost tells = { Unit {0} };
 
@@ -164,7 +174,7 @@ impl Platform for MemPlatform {
 
     ghost capacity = { capacity_of };
 
-    ghost reads = { reads_of };
+    ghost reads = { answered_of };
 
     ghost faults = { faults_of };
 
@@ -289,20 +299,24 @@ impl Platform for MemPlatform {
         ensures bytes { IfOk result
             (λ full. IsTrue full → (image_of_now self.old).cell ≡ Some into.new) }
         ensures image { image_of_now self.new ≡ image_of_now self.old }
-        ensures beside { StepsBeside self.old self.new }
+        ensures beside { CountsLook self.old self.new result }
 
         ensures head { length (image_of_now self.new).recorded
             ≡ length (image_of_now self.old).recorded }
         ensures faults { TellsFaults self.old self.new result }
 
-        ensures fails { FailsAsListed CallKind.Load self.old self.new result }
+        // A look fails too where its count has come to its end.
+        ensures fails { IsErr result
+            ↔ (IsSome (due self.old CallKind.Load)
+            ⊎ (Starved self.old self.new ⊎ (looks_of self.old ≡ 2 ^ 64 - 1))) }
         ensures starved { starved_of self.new ≡ starved_of self.old }
         ensures counts { Counts CallKind.Load self.old self.new }
     {
         let due = self.plan.next(CallKind::Load);
-        if self.starved == u64::MAX || due.is_some() {
+        if self.starved == u64::MAX || self.looks == u64::MAX || due.is_some() {
             return fault(&mut self.faults);
         }
+        self.looks += 1;
         Ok(self.store.load(into))
     }
 

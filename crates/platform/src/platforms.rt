@@ -24,7 +24,7 @@ pub trait Platform {
     /// How many pages the medium can have at most.
     ghost capacity: { Self → ℕ };
 
-    /// How many reads of pages were answered.
+    /// How many reads were answered, of pages and of the cell.
     ghost reads: { Self → ℕ };
 
     /// How often the platform has failed; it never falls.
@@ -108,7 +108,8 @@ pub trait Platform {
 
         ensures head { head self.new ≡ head self.old }
         ensures capacity { capacity self.new ≡ capacity self.old }
-        ensures reads { tells → reads self.new ≡ reads self.old }
+        ensures reads_ok { tells → OnOk result (reads self.new ≡ reads self.old + 1) }
+        ensures reads { tells → MayRiseByOne (reads self.old) (reads self.new) }
         ensures faults { faults self.old ≤ faults self.new }
         ensures cause { Tells result (faults self.old) (faults self.new) };
 

@@ -1,5 +1,6 @@
--- How many pages a seizure reads.
+-- How many pages a seizure reads, and how often it looks at the cell.
 use Rattle.std.specs.Prelude.{◌≡◌, ◌≢◌, ◌≤◌, ◌⊎◌, ◌+◌, ℕ, List, Option, All, AllPairs, length}
+use Rattle.platform.specs.Counts.{MayRiseByOne}
 use Rattle.key_graph.specs.Chains.{Link, ChainEnds}
 use Rattle.seizure.specs.Report.{Begins}
 
@@ -10,6 +11,7 @@ pub record ReadsEach (roots pages : List (List ℕ)) (reads reads_now : ℕ) : T
   pub once : AllPairs (λ one other. one ≢ other) openings
   pub most : reads_now ≤ reads + (length pages + length openings)
 
--- no page was read, or each so often, from the keys that chains begin with
+-- the cell was looked at, once at most, and no page read; or behind one look at it each page was read so often, from the keys that chains begin with
 abbrev pub ReadsFew : ℕ → Option (List ℕ) → List (List ℕ) → List (List ℕ) → ℕ → ℕ → Type 0
-ReadsFew head cell keys pages reads reads_now = (reads_now ≡ reads) ⊎ ((roots : List (List ℕ)) × Begins head cell keys roots × ReadsEach roots pages reads reads_now)
+ReadsFew head cell keys pages reads reads_now =
+    MayRiseByOne reads reads_now ⊎ ((roots : List (List ℕ)) × Begins head cell keys roots × ReadsEach roots pages (reads + 1) reads_now)

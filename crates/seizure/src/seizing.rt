@@ -1,6 +1,7 @@
 //! A seizure of a platform.
 ghost use Rattle.std.specs.Prelude.{◌≡◌, ◌<◌, ◌≤◌, ◌⊎◌, ◌+◌, [], ℕ, List, None, All, Contains, IfOk, OnOk, IsErrOf, length};
 ghost use Rattle.sdbt_base.specs.Faults.{TellsOf};
+ghost use Rattle.platform.specs.Counts.{MayRiseByOne};
 ghost use Rattle.page_store.specs.Roots.{IsBadCell};
 ghost use Rattle.seizure.specs.Index.{AreMarks, AreBelow, AreApart, AreRising};
 ghost use Rattle.seizure.specs.Looks.{Looks, Stops};
@@ -30,8 +31,9 @@ pub fn seize<P: Platform>(alloc: Global, platform: &mut P) -> Result<Report, Sei
     ensures pages { IfOk result (λ report. report.pages ≡ P.head platform.old) }
     ensures bad { P.tells → IsErrOf result SeizeRefusal.BadRoot →
         IsBadCell (P.head platform.old) (P.history platform.old).present.cell }
+    ensures looked { P.tells → (IsErrOf result SeizeRefusal.PlatformFault → ⊥) → P.reads platform.old + 1 ≤ P.reads platform.new }
     ensures unread { P.tells → IsErrOf result SeizeRefusal.BadRoot ⊎ ((P.history platform.old).present.cell ≡ None) →
-        P.reads platform.new ≡ P.reads platform.old }
+        MayRiseByOne (P.reads platform.old) (P.reads platform.new) }
     ensures reads { P.tells → ReadsFew (P.head platform.old) (P.history platform.old).present.cell [] (P.history platform.old).present.readable
         (P.reads platform.old) (P.reads platform.new) }
     ensures looks { Looks P.Platform platform.old platform.new }
@@ -45,7 +47,7 @@ pub fn seize<P: Platform>(alloc: Global, platform: &mut P) -> Result<Report, Sei
 ///
 /// The report has exactly the addresses, kinds and block fields of the bodies at which a chain of opening ends, over what a
 /// read gives of each page. Every key that a chain yields is tried on every page. Each page is read once, and once more
-/// for each key that opens it; where there is no key, no page is read.
+/// for each key that opens it; where there is no key, no page is read. Before that the cell is looked at, once.
 ///
 /// `BadRoot` comes exactly where [`current`] answers it. A `PlatformFault` comes only where their count rose.
 pub fn seize_all<P: Platform>(
@@ -59,8 +61,9 @@ pub fn seize_all<P: Platform>(
     ensures pages { IfOk result (λ report. report.pages ≡ P.head platform.old) }
     ensures bad { P.tells → IsErrOf result SeizeRefusal.BadRoot →
         IsBadCell (P.head platform.old) (P.history platform.old).present.cell }
+    ensures looked { P.tells → (IsErrOf result SeizeRefusal.PlatformFault → ⊥) → P.reads platform.old + 1 ≤ P.reads platform.new }
     ensures unread { P.tells → IsErrOf result SeizeRefusal.BadRoot ⊎ ((keys.now ≡ []) × ((P.history platform.old).present.cell ≡ None)) →
-        P.reads platform.new ≡ P.reads platform.old }
+        MayRiseByOne (P.reads platform.old) (P.reads platform.new) }
     ensures reads { P.tells → ReadsFew (P.head platform.old) (P.history platform.old).present.cell keys.now (P.history platform.old).present.readable
         (P.reads platform.old) (P.reads platform.new) }
     ensures looks { Looks P.Platform platform.old platform.new }

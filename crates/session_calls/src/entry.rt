@@ -1,5 +1,5 @@
 //! What is looked at before anything is served.
-ghost use Rattle.std.specs.Prelude.{◌≡◌, ◌⊎◌, IfErr, IfOk, OnOk, IsErrOf};
+ghost use Rattle.std.specs.Prelude.{◌≡◌, ◌⊎◌, ◌+◌, IfErr, IfOk, OnOk, IsErrOf};
 ghost use Rattle.sdbt_base.specs.Faults.{TellsOf};
 ghost use Rattle.page_store.specs.Reading.{ReadsCell};
 ghost use Rattle.device_terms.specs.Served.{IsServedImage};
@@ -18,6 +18,7 @@ pub fn check_cell<P: Platform>(platform: &mut P) -> Result<Option<Root>, DeviceS
     ensures stops { IfErr result (λ stop. (stop ≡ DeviceStop.BadRoot) ⊎ (stop ≡ DeviceStop.Platform)) }
     ensures cause { TellsOf DeviceStop.Platform result (P.faults platform.old) (P.faults platform.new) }
     ensures reads_cell { ReadsCell P.Platform platform.old platform.new }
+    ensures once { P.tells → (IsErrOf result DeviceStop.Platform → ⊥) → P.reads platform.new ≡ P.reads platform.old + 1 }
 {
     match current(platform) {
         Ok(found) => Ok(found),

@@ -3,7 +3,7 @@ use Rattle.sdbt_base.specs.Faults.{Rose}
 use Rattle.line_run.specs.Puts.{no_line}
 use Rattle.line_run.specs.Stops.{status_of}
 use Rattle.line_run.specs.declared.stop.Stop.{Stop}
-use Rattle.device_cli.specs.World.{World, IsLater, world_by}
+use Rattle.device_cli.specs.World.{World, IsLater, start_by, world_by}
 use Rattle.session_calls.specs.declared.stops.DeviceStop.{DeviceStop}
 use Rattle.session_calls.specs.declared.stops.DeviceStop.TheVariants as device
 use Rattle.line_run.specs.declared.stop.Stop.TheVariants as stops
@@ -25,14 +25,14 @@ returns-in-Err-clause-ran g c =
     let P = g.P.Platform in
     let O = g.O.Sink in
     let written = O.written in
-    let old : World = world_by P g.T.Tape None c.args.platform.now c.args.tape.now in
+    let old : World = start_by P g.T.Tape c.args.platform.now c.args.tape.now in
     let new : World = world_by P g.T.Tape None c.check_cell.new.platform c.args.tape.now in
     let later : IsLater old new = record { capacity = c.check_cell.ensures.reads_cell.capacity; rises = omega (arith, c.check_cell.ensures.reads_cell.head); within = g.met.P.Platform.has_room c.check_cell.new.platform } in
     let stops_at = early c.in-Err.stop c.in-Err.ensures.stops in (
       None,
       Ran-ended P.tells _ old new (O.faults c.last_line.new.output ≡ O.faults c.args.output.now) (Rose (O.faults c.args.output.now) (O.faults c.last_line.new.output)) c.in-Err.stop c.last_line.result
           (g.I.Source.left c.args.input.now) (g.I.Source.left c.args.input.now) (written c.args.output.now) (written c.args.output.now) (written c.last_line.new.output)
-          (Ran-refused P.tells _ old new c.in-Err.stop (g.I.Source.left c.args.input.now) (written c.args.output.now) stops_at refl later c.check_cell.ensures.reads_cell.head c.check_cell.ensures.reads_cell.reads refl refl (λ told. (c.check_cell.ensures.reads_cell.time told).extends) c.check_cell.ensures.reads_cell.image
+          (Ran-refused P.tells _ old new c.in-Err.stop (g.I.Source.left c.args.input.now) (written c.args.output.now) stops_at refl later c.check_cell.ensures.reads_cell.head (λ told. (c.check_cell.ensures.reads_cell.reads told).by_one) refl refl (λ told. (c.check_cell.ensures.reads_cell.time told).extends) c.check_cell.ensures.reads_cell.image
           (λ told entry rep. still_after old new entry refl (c.check_cell.ensures.reads_cell.image told) (c.check_cell.ensures.reads_cell.time told) c.check_cell.ensures.reads_cell.head rep)
           (λ told entry rep. sound_of c.in-Err.stop stops_at (λ e. c.in-Err.ensures.bad_root told (cc) rep.served)))
           c.last_line.ensures.stop,
@@ -44,7 +44,7 @@ returns-in-Device-clause-ran g c =
     let O = g.O.Sink in
     let left = g.I.Source.left in
     let written = O.written in
-    let old : World = world_by P g.T.Tape None c.args.platform.now c.args.tape.now in
+    let old : World = start_by P g.T.Tape c.args.platform.now c.args.tape.now in
     let mid : World = world_by P g.T.Tape c.new-desk.result.session c.check_cell.new.platform c.args.tape.now in
     let new : World = world_by P g.T.Tape c.serve_input.new.desk.session c.serve_input.new.platform c.serve_input.new.tape in
     let later : IsLater old mid = record { capacity = c.check_cell.ensures.reads_cell.capacity; rises = omega (arith, c.check_cell.ensures.reads_cell.head); within = g.met.P.Platform.has_room c.check_cell.new.platform } in (
@@ -52,7 +52,7 @@ returns-in-Device-clause-ran g c =
       Ran-ended P.tells _ old new (O.faults c.last_line-in-Device.new.output ≡ O.faults c.serve_input.new.output) (Rose (O.faults c.serve_input.new.output) (O.faults c.last_line-in-Device.new.output)) c.in-Device.stop c.last_line-in-Device.result
           (left c.args.input.now) (left c.serve_input.new.input) (written c.args.output.now) (written c.serve_input.new.output) (written c.last_line-in-Device.new.output)
           (Ran-begun P.tells _ old new no_line _ _ _ _ _ (Ran-after P.tells old mid new no_line (Err (stops.Device c.in-Device.stop)) (left c.args.input.now) (left c.serve_input.new.input) (written c.args.output.now) (written c.serve_input.new.output)
-          later c.check_cell.ensures.reads_cell.head c.check_cell.ensures.reads_cell.reads c.new-desk.ensures.session refl (λ told. (c.check_cell.ensures.reads_cell.time told).extends) c.check_cell.ensures.reads_cell.image
+          later c.check_cell.ensures.reads_cell.head (λ told. (c.check_cell.ensures.reads_cell.reads told).by_one) c.new-desk.ensures.session refl (λ told. (c.check_cell.ensures.reads_cell.time told).extends) c.check_cell.ensures.reads_cell.image
           (λ told entry rep. still_after old mid entry c.new-desk.ensures.session (c.check_cell.ensures.reads_cell.image told) (c.check_cell.ensures.reads_cell.time told) c.check_cell.ensures.reads_cell.head rep)
           (rw c.in-Device.is at c.in-Err-serve_input.ensures.ran)))
           c.last_line-in-Device.ensures.stop,
@@ -63,7 +63,7 @@ returns-clause-ran g c =
     let P = g.P.Platform in
     let left = g.I.Source.left in
     let written = g.O.Sink.written in
-    let old : World = world_by P g.T.Tape None c.args.platform.now c.args.tape.now in
+    let old : World = start_by P g.T.Tape c.args.platform.now c.args.tape.now in
     let mid : World = world_by P g.T.Tape c.new-desk.result.session c.check_cell.new.platform c.args.tape.now in
     let new : World = world_by P g.T.Tape c.serve_input.new.desk.session c.serve_input.new.platform c.serve_input.new.tape in
     let later : IsLater old mid = record { capacity = c.check_cell.ensures.reads_cell.capacity; rises = omega (arith, c.check_cell.ensures.reads_cell.head); within = g.met.P.Platform.has_room c.check_cell.new.platform } in (
@@ -71,7 +71,7 @@ returns-clause-ran g c =
       Ran-other P.tells _ old new (Err c.in-Err-serve_input.stop) (left c.args.input.now) (left c.serve_input.new.input) (written c.args.output.now) (written c.serve_input.new.output)
           (λ stop e. c.in_default-stop.not-Device stop (cc))
           (Ran-begun P.tells _ old new no_line _ _ _ _ _ (Ran-after P.tells old mid new no_line (Err c.in-Err-serve_input.stop) (left c.args.input.now) (left c.serve_input.new.input) (written c.args.output.now) (written c.serve_input.new.output)
-          later c.check_cell.ensures.reads_cell.head c.check_cell.ensures.reads_cell.reads c.new-desk.ensures.session refl (λ told. (c.check_cell.ensures.reads_cell.time told).extends) c.check_cell.ensures.reads_cell.image
+          later c.check_cell.ensures.reads_cell.head (λ told. (c.check_cell.ensures.reads_cell.reads told).by_one) c.new-desk.ensures.session refl (λ told. (c.check_cell.ensures.reads_cell.time told).extends) c.check_cell.ensures.reads_cell.image
           (λ told entry rep. still_after old mid entry c.new-desk.ensures.session (c.check_cell.ensures.reads_cell.image told) (c.check_cell.ensures.reads_cell.time told) c.check_cell.ensures.reads_cell.head rep)
           c.in-Err-serve_input.ensures.ran)),
     )
@@ -81,7 +81,7 @@ returns-in_default-clause-ran g c =
     let P = g.P.Platform in
     let left = g.I.Source.left in
     let written = g.O.Sink.written in
-    let old : World = world_by P g.T.Tape None c.args.platform.now c.args.tape.now in
+    let old : World = start_by P g.T.Tape c.args.platform.now c.args.tape.now in
     let mid : World = world_by P g.T.Tape c.new-desk.result.session c.check_cell.new.platform c.args.tape.now in
     let new : World = world_by P g.T.Tape c.serve_input.new.desk.session c.serve_input.new.platform c.serve_input.new.tape in
     let later : IsLater old mid = record { capacity = c.check_cell.ensures.reads_cell.capacity; rises = omega (arith, c.check_cell.ensures.reads_cell.head); within = g.met.P.Platform.has_room c.check_cell.new.platform } in (
@@ -89,7 +89,7 @@ returns-in_default-clause-ran g c =
       Ran-other P.tells _ old new (Ok tt) (left c.args.input.now) (left c.serve_input.new.input) (written c.args.output.now) (written c.serve_input.new.output)
           (λ stop e. cc)
           (Ran-begun P.tells _ old new no_line _ _ _ _ _ (Ran-after P.tells old mid new no_line (Ok tt) (left c.args.input.now) (left c.serve_input.new.input) (written c.args.output.now) (written c.serve_input.new.output)
-          later c.check_cell.ensures.reads_cell.head c.check_cell.ensures.reads_cell.reads c.new-desk.ensures.session refl (λ told. (c.check_cell.ensures.reads_cell.time told).extends) c.check_cell.ensures.reads_cell.image
+          later c.check_cell.ensures.reads_cell.head (λ told. (c.check_cell.ensures.reads_cell.reads told).by_one) c.new-desk.ensures.session refl (λ told. (c.check_cell.ensures.reads_cell.time told).extends) c.check_cell.ensures.reads_cell.image
           (λ told entry rep. still_after old mid entry c.new-desk.ensures.session (c.check_cell.ensures.reads_cell.image told) (c.check_cell.ensures.reads_cell.time told) c.check_cell.ensures.reads_cell.head rep)
           c.in_default.ensures.ran)),
     )

@@ -23,5 +23,5 @@ returns-in-Some-clause-reads g c = λ told.
     let given = subst (λ (pages : ℕ). AreGiven pages records keys) there c.in-Some.ensures.found in
     few_for head (P.head c.check_root.new.platform) image (P.history c.check_root.new.platform).present records keys c.as_slice.result.now
     (P.reads c.args.platform.now) (P.reads c.check_root.new.platform) (P.reads c.open_all.new.platform)
-    c.check_root.ensures.looks.head (c.check_root.ensures.looks.image told) c.as_slice.ensures.value (c.check_root.ensures.unread told)
+    c.check_root.ensures.looks.head (c.check_root.ensures.looks.image told) c.as_slice.ensures.value (c.in_ok-check_root.ensures.looked told (λ e. cc))
     (not_refused head image records keys (c.in_ok-check_root.ensures.good told) given) given (c.open_all.ensures.reads told))

@@ -4,7 +4,7 @@ use Rattle.device_course.proofs.KeysLaws.{on_start, on_done}
 use Rattle.device_cli.specs.Ran.{Ran}
 use Rattle.line_run.specs.Puts.{damage_line}
 use Rattle.device_cli.specs.Working.{script_of}
-use Rattle.device_cli.specs.World.{World, world_by}
+use Rattle.device_cli.specs.World.{World, start_by, world_by}
 use Rattle.device_cli.proofs.WorkLaws.{idle, told_replies, work_ran}
 use Rattle.device_cli.proofs.working.work.Goals as goal
 
@@ -24,7 +24,7 @@ pub returns-in-Ok-run-clause-worked : goal.returns-in-Ok-run-clause-worked
 returns-in-Ok-run-clause-worked g c =
     let P = g.P.Platform in
     let ran = c.in-Ok-run.ensures.ran in
-    let old : World = world_by P g.T.Tape None c.args.platform.now c.args.tape.now in
+    let old : World = start_by P g.T.Tape c.args.platform.now c.args.tape.now in
     let new : World = world_by P g.T.Tape ran.0 c.run.new.platform c.run.new.tape in
     let script : List ℕ = script_of c.args.seed c.args.count in
     let told : List ℕ = c.run.new.output.written in
@@ -47,7 +47,7 @@ pub returns-in-Err-Device-clause-worked : goal.returns-in-Err-Device-clause-work
 returns-in-Err-Device-clause-worked g c =
     let P = g.P.Platform in
     let ran = rw c.in-Err-Device.field-0-is at c.in-Err-Device.ensures.ran in
-    let old : World = world_by P g.T.Tape None c.args.platform.now c.args.tape.now in
+    let old : World = start_by P g.T.Tape c.args.platform.now c.args.tape.now in
     let new : World = world_by P g.T.Tape ran.0 c.run.new.platform c.run.new.tape in
     let text : c.new-input.result ≡ script_of c.args.seed c.args.count = c.new-input.ensures ∙ c.in-Ok.ensures.text in
     let none : c.in-Ok-new.told.written ≡ [] = ap (λ s. s.written) c.in-Ok-new.ensures in (
@@ -68,7 +68,7 @@ pub returns-in-Err-Sink-clause-worked : goal.returns-in-Err-Sink-clause-worked
 returns-in-Err-Sink-clause-worked g c =
     let P = g.P.Platform in
     let ran = rw c.in-Err-Sink.field-0-is at c.in-Err-Sink.ensures.ran in
-    let old : World = world_by P g.T.Tape None c.args.platform.now c.args.tape.now in
+    let old : World = start_by P g.T.Tape c.args.platform.now c.args.tape.now in
     let new : World = world_by P g.T.Tape ran.0 c.run.new.platform c.run.new.tape in
     let text : c.new-input.result ≡ script_of c.args.seed c.args.count = c.new-input.ensures ∙ c.in-Ok.ensures.text in
     let none : c.in-Ok-new.told.written ≡ [] = ap (λ s. s.written) c.in-Ok-new.ensures in (

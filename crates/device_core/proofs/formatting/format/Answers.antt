@@ -133,7 +133,10 @@ returns-in-Ok-publish-clause-made g c = λ told.
 
 pub returns-in-Ok-publish-clause-spends : goal.returns-in-Ok-publish-clause-spends
 returns-in-Ok-publish-clause-spends g c = (
-  λ told. c.publish.ensures.reads told ∙ (c.append.ensures.adds.reads told ∙ c.load_root.ensures.reads told),
+  λ told.
+      let once = c.load_root.ensures.reads told in
+      let same = c.publish.ensures.reads told ∙ c.append.ensures.adds.reads told in
+      record { rises = omega (arith, same, once.rises); by_one = omega (arith, same, once.by_one) },
   (bare c.in-Ok-append.placed.key, c.in-Ok-append.ensures.placed.drew),
 )
 

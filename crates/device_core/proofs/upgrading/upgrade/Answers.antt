@@ -254,7 +254,7 @@ returns-in_err-prepared-clause-spends g c =
         c.in_ok-root.ensures.cause.0,
         λ told.
             let cut = subst (λ (i : Image). ReadsCut i.readable root (P.reads c.begin.new.platform) (P.reads c.prepare.new.platform)) (cell.image told) (c.in_err-prepared.ensures.cut told) in
-            subst (λ (n : ℕ). ReadsCut (P.history c.args.platform.now).present.readable root n (P.reads c.prepare.new.platform)) (cell.reads told) cut,
+            subst (λ (n : ℕ). ReadsCut (P.history c.args.platform.now).present.readable root n (P.reads c.prepare.new.platform)) (c.in_ok-root.ensures.once told) cut,
       ),
     )
 
@@ -269,7 +269,7 @@ spent g c = record {
       let cell = c.begin.ensures.reads_cell in
       let twice = c.in_ok-prepared.ensures.reads told in
       let are = subst (λ (i : Image). NodesOf i.readable root twice.nodes) (cell.image told) twice.are in
-      (twice.nodes, are, omega (arith, cell.reads told, twice.read, c.rewrite.ensures.beside.reads_most told));
+      (twice.nodes, are, omega (arith, c.in_ok-root.ensures.once told, twice.read, c.rewrite.ensures.beside.reads_most told));
 }
 
 pub returns-in_err-next-clause-spends : goal.returns-in_err-next-clause-spends
@@ -286,7 +286,7 @@ spent_all g c = record {
       let cell = c.begin.ensures.reads_cell in
       let twice = c.in_ok-prepared.ensures.reads told in
       let are = subst (λ (i : Image). NodesOf i.readable root twice.nodes) (cell.image told) twice.are in
-      (twice.nodes, are, omega (arith, cell.reads told, twice.read, c.rewrite.ensures.beside.reads_most told, c.publish.ensures.reads told));
+      (twice.nodes, are, omega (arith, c.in_ok-root.ensures.once told, twice.read, c.rewrite.ensures.beside.reads_most told, c.publish.ensures.reads told));
 }
 
 pub returns-in_err-publish-clause-spends : goal.returns-in_err-publish-clause-spends

@@ -1,4 +1,4 @@
-use Rattle.std.proofs.Common.{◌≡◌, inl, inr, [], None, map, ap, ◌∙◌}
+use Rattle.std.proofs.Common.{◌≡◌, inl, inr, [], None, map, ap, ◌∙◌, arith}
 use Rattle.sdbt_base.specs.Keys.{bare}
 use Rattle.seizure.specs.Report.{roots_of}
 use Rattle.seizure.proofs.LooksLaws.{not_bad_root}
@@ -13,5 +13,7 @@ returns-clause-unread g c = λ told either.
           (let P = g.P.Platform in
           let none : c.in-Ok.root ≡ None = root_none (P.history c.args.platform.now).present.cell c.in-Ok.root nothing.1 (c.in-Ok.ensures.found told) in
           let no_keys : c.in_ok-work.work.keys ≡ [] = nothing_wanted c.in_ok-work.work.keys (roots_of c.args.keys.now c.in-Ok.root) c.in_ok-work.ensures.keys (ap (roots_of c.args.keys.now) none ∙ ap (map bare) nothing.0) in
-          ap P.reads (c.seize_from.ensures.unread no_keys) ∙ c.in-Ok.ensures.reads_cell.reads told)
+          let same = ap P.reads (c.seize_from.ensures.unread no_keys) in
+          let once = c.current.ensures.reads_cell.reads told in
+          record { rises = omega (arith, same, once.rises); by_one = omega (arith, same, once.by_one) })
     ]

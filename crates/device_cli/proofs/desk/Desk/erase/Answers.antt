@@ -5,7 +5,9 @@ use Rattle.device_cli.specs.World.{World, world_of}
 use Rattle.device_cli.proofs.ServingLaws.{serves_erased, serves_erase_none, halts_erase}
 use Rattle.device_course.proofs.CertifiedLaws.{certified_emptied}
 use Rattle.device_course.proofs.KeysLaws.{on_kept, listed_image}
+use Rattle.device_cli.specs.Looks.{IsWarmFor}
 use Rattle.device_cli.proofs.EnoughLaws.{enough_none}
+use Rattle.device_cli.proofs.LookLaws.{warm_less}
 use Rattle.device_cli.proofs.desk.Desk.erase.Goals as goal
 
 pub returns-in-Ok-clause-answered : goal.returns-in-Ok-clause-answered
@@ -46,3 +48,13 @@ returns-in-Ok-clause-any g c = ((tt, λ told. (c.in-Ok.ensures.cause.0 told).0),
 
 pub returns-in-Err-NoDevice-clause-any : goal.returns-in-Err-NoDevice-clause-any
 returns-in-Err-NoDevice-clause-any g c = ((tt, λ told. ((rw c.in-Err-NoDevice.field-0-is at c.in-Err-NoDevice.ensures.cause).0 told).0), refl)
+
+pub returns-in-Ok-clause-looks : goal.returns-in-Ok-clause-looks
+returns-in-Ok-clause-looks g c told before warm look =
+    ((c.erase.ensures.reads told).by_one, λ done. subst (λ (session : Option Session). IsWarmFor session None) (sym c.close.ensures.session) tt)
+
+pub returns-in-Err-NoDevice-clause-looks : goal.returns-in-Err-NoDevice-clause-looks
+returns-in-Err-NoDevice-clause-looks g c told before warm look = ((c.erase.ensures.reads told).by_one, λ done. warm_less c.args.self.now.session before warm)
+
+pub returns-in-Err-PlatformFault-clause-looks : goal.returns-in-Err-PlatformFault-clause-looks
+returns-in-Err-PlatformFault-clause-looks g c told before warm look = ((c.erase.ensures.reads told).by_one, λ done. absurd cc)

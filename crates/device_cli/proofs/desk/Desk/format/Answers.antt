@@ -31,6 +31,7 @@ use Rattle.page_store.proofs.KeepingLaws.{drew_none}
 use Rattle.device_cli.proofs.DrawingLaws.{refused_drew}
 use Rattle.device_cli.proofs.ReplyLaws.{refused_any}
 use Rattle.device_cli.proofs.EnoughLaws.{enough_refused, pages_refused}
+use Rattle.device_cli.proofs.LookLaws.{warm_less}
 use Rattle.device_cli.proofs.desk.Desk.format.Goals as goal
 
 -- what the looking for a device ended with
@@ -154,7 +155,7 @@ returns-then-not-is_in_limits-clause-enough g c updates enough =
 
 pub returns-then-not-is_in_limits-clause-pages : goal.returns-then-not-is_in_limits-clause-pages
 returns-then-not-is_in_limits-clause-pages g c =
-    pages_refused g.P.Platform.tells (g.P.Platform.history c.args.platform.now).present c.refuse_format.result c.args.self.now.buffer c.args.blocks c.args.order (needed_of c.args.self.now.session) _ _ c.refuse_format.ensures.either c.refuse_format.ensures.head
+    pages_refused g.P.Platform.tells (g.P.Platform.history c.args.platform.now).present c.refuse_format.result c.args.self.now.buffer c.args.blocks c.args.order (needed_of c.args.self.now.session) _ _ c.refuse_format.ensures.either c.refuse_format.ensures.pages.0
 
 pub returns-in-Ok-clause-after : goal.returns-in-Ok-clause-after
 returns-in-Ok-clause-after g c = record {
@@ -207,3 +208,29 @@ returns-in-Err-Full-clause-drew g c = ([], refl, drew_none _ _ (rw c.in-Err-Full
 
 pub returns-then-not-is_in_limits-clause-drew : goal.returns-then-not-is_in_limits-clause-drew
 returns-then-not-is_in_limits-clause-drew g c = refused_drew (g.T.Tape.drawn c.args.tape.now) c.args.blocks c.args.order c.refuse_format.result c.args.self.now.buffer c.refuse_format.ensures.either
+
+-- ---- the cell is looked at once
+
+pub returns-then-not-is_in_limits-clause-looks : goal.returns-then-not-is_in_limits-clause-looks
+returns-then-not-is_in_limits-clause-looks g c told before warm look = ((c.refuse_format.ensures.reads told).by_one, λ done. warm_less c.args.self.now.session before warm)
+
+pub returns-in-Ok-clause-looks : goal.returns-in-Ok-clause-looks
+returns-in-Ok-clause-looks g c told before warm look = ((c.format.ensures.spends.0 told).by_one, λ done. warm_less c.args.self.now.session before warm)
+
+pub returns-in-Err-NotEmpty-clause-looks : goal.returns-in-Err-NotEmpty-clause-looks
+returns-in-Err-NotEmpty-clause-looks g c told before warm look = ((c.format.ensures.spends.0 told).by_one, λ done. warm_less c.args.self.now.session before warm)
+
+pub returns-in-Err-Full-clause-looks : goal.returns-in-Err-Full-clause-looks
+returns-in-Err-Full-clause-looks g c told before warm look = ((c.format.ensures.spends.0 told).by_one, λ done. warm_less c.args.self.now.session before warm)
+
+pub returns-in-Err-Memory-clause-looks : goal.returns-in-Err-Memory-clause-looks
+returns-in-Err-Memory-clause-looks g c told before warm look = ((c.format.ensures.spends.0 told).by_one, λ done. absurd cc)
+
+pub returns-in-Err-TapeFault-clause-looks : goal.returns-in-Err-TapeFault-clause-looks
+returns-in-Err-TapeFault-clause-looks g c told before warm look = ((c.format.ensures.spends.0 told).by_one, λ done. absurd cc)
+
+pub returns-in-Err-LedgerFault-clause-looks : goal.returns-in-Err-LedgerFault-clause-looks
+returns-in-Err-LedgerFault-clause-looks g c told before warm look = ((c.format.ensures.spends.0 told).by_one, λ done. absurd cc)
+
+pub returns-in-Err-PlatformFault-clause-looks : goal.returns-in-Err-PlatformFault-clause-looks
+returns-in-Err-PlatformFault-clause-looks g c told before warm look = ((c.format.ensures.spends.0 told).by_one, λ done. absurd cc)
