@@ -1,5 +1,7 @@
 //! The answers of a call that could not be done.
 
+ghost use Rattle.std.specs.Prelude.{Some, codes};
+
 use std::alloc::{AllocError, AllocFailed};
 use std::error::Error;
 use std::fmt;
@@ -25,30 +27,40 @@ pub struct TapeFault;
 pub struct PlatformFault;
 
 impl fmt::Display for Memory {
+    ghost output = { λ _. Some (codes "out of memory") };
+
     fn fmt<W: fmt::Write>(&self, f: &mut fmt::Formatter<W>) -> fmt::Result {
         write!(f, "out of memory")
     }
 }
 
 impl fmt::Display for SourceFault {
+    ghost output = { λ _. Some (codes "the input could not be read") };
+
     fn fmt<W: fmt::Write>(&self, f: &mut fmt::Formatter<W>) -> fmt::Result {
         write!(f, "the input could not be read")
     }
 }
 
 impl fmt::Display for SinkFault {
+    ghost output = { λ _. Some (codes "the output could not be written") };
+
     fn fmt<W: fmt::Write>(&self, f: &mut fmt::Formatter<W>) -> fmt::Result {
         write!(f, "the output could not be written")
     }
 }
 
 impl fmt::Display for TapeFault {
+    ghost output = { λ _. Some (codes "no key could be drawn") };
+
     fn fmt<W: fmt::Write>(&self, f: &mut fmt::Formatter<W>) -> fmt::Result {
         write!(f, "no key could be drawn")
     }
 }
 
 impl fmt::Display for PlatformFault {
+    ghost output = { λ _. Some (codes "the medium or the root cell failed") };
+
     fn fmt<W: fmt::Write>(&self, f: &mut fmt::Formatter<W>) -> fmt::Result {
         write!(f, "the medium or the root cell failed")
     }
