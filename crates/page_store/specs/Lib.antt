@@ -11,3 +11,4 @@ pub mod Floors
 pub mod Disclosing
 pub mod Reading
 pub mod Changing
+pub mod Texts

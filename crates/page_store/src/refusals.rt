@@ -32,6 +32,11 @@ pub enum AppendFault {
 }
 
 impl fmt::Display for CurrentRefusal {
+    ghost use Rattle.std.specs.Prelude.{Some};
+    ghost use Rattle.page_store.specs.Texts.{current_text};
+
+    ghost output = { λ refusal. Some (current_text refusal) };
+
     fn fmt<W: fmt::Write>(&self, f: &mut fmt::Formatter<W>) -> fmt::Result {
         match self {
             CurrentRefusal::BadRoot => write!(f, "bad root"),
@@ -41,6 +46,11 @@ impl fmt::Display for CurrentRefusal {
 }
 
 impl fmt::Display for FetchRefusal {
+    ghost use Rattle.std.specs.Prelude.{Some};
+    ghost use Rattle.page_store.specs.Texts.{fetch_text};
+
+    ghost output = { λ refusal. Some (fetch_text refusal) };
+
     fn fmt<W: fmt::Write>(&self, f: &mut fmt::Formatter<W>) -> fmt::Result {
         match self {
             FetchRefusal::BadRecord { addr } => write!(f, "bad record {addr}"),
@@ -50,6 +60,11 @@ impl fmt::Display for FetchRefusal {
 }
 
 impl fmt::Display for AppendFault {
+    ghost use Rattle.std.specs.Prelude.{Some};
+    ghost use Rattle.page_store.specs.Texts.{append_text};
+
+    ghost output = { λ fault. Some (append_text fault) };
+
     fn fmt<W: fmt::Write>(&self, f: &mut fmt::Formatter<W>) -> fmt::Result {
         match self {
             AppendFault::TapeFault => write!(f, "no key could be drawn"),
