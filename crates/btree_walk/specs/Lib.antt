@@ -7,3 +7,4 @@ pub mod Mapped
 pub mod Nodes
 pub mod Readers
 pub mod Refusals
+pub mod Texts

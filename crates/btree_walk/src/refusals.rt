@@ -45,6 +45,11 @@ impl From<Memory> for WalkRefusal {
 }
 
 impl fmt::Display for WalkRefusal {
+    ghost use Rattle.std.specs.Prelude.{Some};
+    ghost use Rattle.btree_walk.specs.Texts.{walk_text};
+
+    ghost output = { λ refusal. Some (walk_text refusal) };
+
     fn fmt<W: fmt::Write>(&self, f: &mut fmt::Formatter<W>) -> fmt::Result {
         match self {
             WalkRefusal::BadRecord { addr } => write!(f, "bad record {addr}"),
