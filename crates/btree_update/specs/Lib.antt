@@ -14,3 +14,4 @@ pub mod Holding
 pub mod Finding
 pub mod Warm
 pub mod Refusals
+pub mod Texts

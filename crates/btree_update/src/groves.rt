@@ -329,6 +329,8 @@ impl Grove {
     pub fn clear(&mut self)
         ensures top { self.new.top ≡ zeros }
         ensures none_held { (self.new.held.items ≡ []) × (self.new.beside.items ≡ []) }
+        ensures rest { (self.new.order ≡ self.old.order) × (self.new.blocks ≡ self.old.blocks) × (self.new.head ≡ self.old.head) × (self.new.level ≡ self.old.level)
+            × (self.new.gone ≡ self.old.gone) × (self.new.never ≡ self.old.never) }
     {
         let_go_held(&mut self.held, &mut self.beside);
         clear_top(&mut self.top);

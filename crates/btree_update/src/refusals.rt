@@ -54,11 +54,16 @@ impl<T: Drop> From<AllocFailed<T>> for ReadyRefusal {
 }
 
 impl fmt::Display for ReadyRefusal {
+    ghost use Rattle.std.specs.Prelude.{Some};
+    ghost use Rattle.btree_update.specs.Texts.{ready_text};
+
+    ghost output = { λ refusal. Some (ready_text refusal) };
+
     fn fmt<W: fmt::Write>(&self, f: &mut fmt::Formatter<W>) -> fmt::Result {
         match self {
             ReadyRefusal::BadRecord { addr } => write!(f, "bad record {addr}"),
             ReadyRefusal::PlatformFault => write!(f, "the medium or the root cell failed"),
-            ReadyRefusal::Memory => write!(f, "no memory"),
+            ReadyRefusal::Memory => write!(f, "out of memory"),
         }
     }
 }
