@@ -7,3 +7,4 @@ pub mod Planned
 pub mod Ready
 pub mod Finishing
 pub mod Refusals
+pub mod Texts

@@ -59,6 +59,11 @@ impl From<AppendFault> for CommitRefusal {
 }
 
 impl fmt::Display for CommitRefusal {
+    ghost use Rattle.std.specs.Prelude.{Some};
+    ghost use Rattle.shadow_commit.specs.Texts.{commit_text};
+
+    ghost output = { λ refusal. Some (commit_text refusal) };
+
     fn fmt<W: fmt::Write>(&self, f: &mut fmt::Formatter<W>) -> fmt::Result {
         match self {
             CommitRefusal::Full { needed, free } => {
