@@ -22,6 +22,10 @@ pub enum NotSpelled<'a> {
 }
 
 impl fmt::Display for NoRecord {
+    ghost use Rattle.root_words.specs.Texts.{no_record_text};
+
+    ghost output = { no_record_text };
+
     fn fmt<W: fmt::Write>(&self, f: &mut fmt::Formatter<W>) -> fmt::Result {
         match self {
             NoRecord::Io(error) => write!(f, "{error}"),
