@@ -1,6 +1,6 @@
 //! Reading replies back.
 
-ghost use Rattle.std.specs.Prelude.{◌≡◌, ◌≢◌, ◌++◌, codes, flat_map, ◌<◌, ◌↔◌, ◌^◌, ℕ, List, Some, IfSome, IfNone, IsSomeAnd, IsTrue, take, ◌≤◌};
+ghost use Rattle.std.specs.Prelude.{◌≡◌, ◌≢◌, [], ◌++◌, codes, false, flat_map, ◌<◌, ◌↔◌, ◌^◌, ℕ, List, Some, IfSome, IfNone, IsSomeAnd, IsTrue, take, ◌≤◌};
 ghost use Rattle.script_lang.specs.Replies as replies;
 ghost use Rattle.script_lang.specs.Replies.{Reply as Answer, said, FitsBlock, text_of, line_of, is_refusal, IsReply, IsFront, IsTrimmed, IsWords, hex_or_dash};
 ghost use Rattle.text_lines.specs.Lines.{HasNone};
@@ -30,7 +30,9 @@ pub fn read_reply(line: &[u8], buffer: &mut [u8; BLOCK]) -> Option<Reply>
 /// pages were free.
 #[tactic(auto, unfolding(crate::specs::Replies::text_of))]
 pub fn is_refusal_text(text: &[u8]) -> bool
-    ensures { (answer : Answer) → text.now ≡ text_of answer → result ≡ is_refusal answer }
+    ensures answers { (answer : Answer) → text.now ≡ text_of answer → result ≡ is_refusal answer }
+    // An empty text is no reply's.
+    ensures empty { text.now ≡ [] → result ≡ false }
 {
     is_text(text, b"bad")
         || is_text(text, b"unmounted")

@@ -22,7 +22,9 @@ impl ReplyWriter {
     ghost use Rattle.script_lang.specs.Replies.{line_of, text_of, said, FitsBlock, CanWrite, hex_or_dash};
 
     /// A writer with a buffer of its own, of some 8 KB.
-    pub fn new() -> ReplyWriter {
+    pub fn new() -> ReplyWriter
+        ensures { result.line ≡ [] }
+    {
         ReplyWriter {
             line: LineBuffer::new(),
         }
