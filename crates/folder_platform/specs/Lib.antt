@@ -6,4 +6,5 @@ pub mod Loss
 pub mod Model
 pub mod Refusals
 pub mod Sequences
+pub mod Texts
 pub mod Told

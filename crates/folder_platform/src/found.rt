@@ -91,6 +91,11 @@ fn kind_of(metadata: &Metadata) -> FileKind
 }
 
 impl fmt::Display for Found {
+    ghost use Rattle.std.specs.Prelude.{Some};
+    ghost use Rattle.folder_platform.specs.Texts.{found_text};
+
+    ghost output = { λ found. Some (found_text found) };
+
     fn fmt<W: fmt::Write>(&self, f: &mut fmt::Formatter<W>) -> fmt::Result {
         match self.kind {
             FileKind::Regular => write!(f, "a file with {} names", self.names),

@@ -76,6 +76,10 @@ pub fn told<T>(file: FolderFile, outcome: io::Result<T>) -> Result<T, OpenRefusa
 }
 
 impl fmt::Display for OpenRefusal {
+    ghost use Rattle.folder_platform.specs.Texts.{open_text};
+
+    ghost output = { open_text };
+
     fn fmt<W: fmt::Write>(&self, f: &mut fmt::Formatter<W>) -> fmt::Result {
         match self {
             OpenRefusal::TooLong { len } => write!(
