@@ -24,7 +24,9 @@ impl ReplyWriter {
     ghost use Rattle.volume_lines.specs.Replies.{FitsBlock, CanWrite};
 
     /// A writer with a buffer of its own, of some 8 KB.
-    pub fn new() -> ReplyWriter {
+    pub fn new() -> ReplyWriter
+        ensures { result.contents.line ≡ [] }
+    {
         ReplyWriter {
             contents: script_lang::ReplyWriter::new(),
         }
