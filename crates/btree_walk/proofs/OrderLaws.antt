@@ -24,7 +24,8 @@ wider low high addr low' high' addr' es l h a all =
     All-weaker (IsListedWithin low' high' addr') (IsListedWithin low high addr)
     (λ e is. (let from = is.from in let to = is.to in let under = is.under in record { from = omega arith; to = omega arith; under = omega arith })) es all
 
-abbrev ListWithin : (Want → List ℕ → List Node → Type 0) → Type 0
+-- what stands below a place lists entries within its bounds
+abbrev pub ListWithin : (Want → List ℕ → List Node → Type 0) → Type 0
 ListWithin Below = (want : Want) (key : List ℕ) (nodes : List Node) → Below want key nodes → All (IsListedWithin want.low want.high want.addr) (listed nodes)
 
 each_within : (Below : Want → List ℕ → List Node → Type 0) (order level low high addr : ℕ) (es : List Entry) (nodes : List Node) → ListWithin Below → All (λ e. low ≤ e.low) es → All (λ e. e.low < high) es → All (λ e. e.addr < addr) es
@@ -42,12 +43,13 @@ each_within Below order level low high addr (e ∷ es) nodes within from to unde
     (subst (All (IsListedWithin low high addr)) (sym (listed-append is.first is.rest)) both)
 
 module _ (pages : List (List ℕ)) (order : ℕ) where
-  leaf_listed : (want : Want) (entries : List Entry) (below nodes : List Node) → Joined (λ b. Nodes pages order zero b.want b.key) (branches order zero want.high entries) below → nodes ≡ node_at want.addr 1 entries ∷ below → listed nodes ≡ entries
+  -- a leaf lists its own
+  pub leaf_listed : (want : Want) (entries : List Entry) (below nodes : List Node) → Joined (λ b. Nodes pages order zero b.want b.key) (branches order zero want.high entries) below → nodes ≡ node_at want.addr 1 entries ∷ below → listed nodes ≡ entries
   leaf_listed want entries below nodes each is =
       let none : below ≡ [] = none_below pages order (branches order zero want.high entries) below each in
       ap listed (is ∙ ap (λ (ns : List Node). node_at want.addr 1 entries ∷ ns) none) ∙ append-nil entries
 
-  nodes_within : (level : ℕ) → ListWithin (Nodes pages order (suc level))
+  pub nodes_within : (level : ℕ) → ListWithin (Nodes pages order (suc level))
   unfolding Nodes
   nodes_within zero want key nodes is =
       let fits = is.fits in
