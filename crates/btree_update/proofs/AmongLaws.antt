@@ -22,6 +22,7 @@ use Rattle.btree_update.specs.GroveTree.{stubs_at}
 use Rattle.btree_update.specs.Holding.{IsNodeOf}
 use Rattle.btree_update.specs.Among.{NodesAmong, HaveSpot}
 use Rattle.btree_update.proofs.Readings.{kept_stubs}
+use Rattle.btree_update.proofs.GroveLaws.{above_it}
 
 front_among : (places : List Place) (xs ys : List Stub) → NodesAmong places (xs ++ ys) → NodesAmong places xs
 front_among places [] ys h = tt
@@ -30,9 +31,6 @@ front_among places (x ∷ xs) ys h = (h.0, front_among places xs ys h.1)
 back_among : (places : List Place) (xs ys : List Stub) → NodesAmong places (xs ++ ys) → NodesAmong places ys
 back_among places [] ys h = h
 back_among places (x ∷ xs) ys h = back_among places xs ys h.1
-
-above : (level : ℕ) → 1 ≤ level → level ≡ suc (level - 1)
-above level one = omega (arith, one)
 
 -- a child of a node
 pub child_among : (places : List Place) (level high i end : ℕ) (cs : List Child) (c : Child) → cs ≡ take i cs ++ c ∷ drop (suc i) cs → end ≡ start_by low_of (drop (suc i) cs) high → NodesAmong places (stubs_under level high cs)
@@ -45,7 +43,7 @@ child_among places level high i end cs c split is h =
 -- what is below a child in memory
 pub grown_among : (places : List Place) (level high low : ℕ) (twig : Twig) (c : Child) → c ≡ made.Grown low twig → 1 ≤ level → NodesAmong places (stubs level high c) → NodesAmong places (stubs_below (level - 1) high twig)
 grown_among places level high low twig c is one h =
-    subst (NodesAmong places) (stubs_of_grown (level - 1) high low twig) (subst (λ k. NodesAmong places (stubs k high (made.Grown low twig))) (above level one) (subst (λ x. NodesAmong places (stubs level high x)) is h))
+    subst (NodesAmong places) (stubs_of_grown (level - 1) high low twig) (subst (λ k. NodesAmong places (stubs k high (made.Grown low twig))) (above_it level one) (subst (λ x. NodesAmong places (stubs level high x)) is h))
 
 kept_here : (places : List Place) (level high low addr : ℕ) (key : List ℕ) → NodesAmong places (stubs (suc level) high (made.Kept low addr key)) → IsAmong places addr key
 unfolding stubs
@@ -54,7 +52,7 @@ kept_here places level high low addr key h = (subst (λ x. NodesAmong places (st
 -- a child on the medium
 pub kept_among : (places : List Place) (level high low addr : ℕ) (key : List ℕ) (c : Child) → c ≡ made.Kept low addr key → 1 ≤ level → NodesAmong places (stubs level high c) → IsAmong places addr key
 kept_among places level high low addr key c is one h =
-    kept_here places (level - 1) high low addr key (subst (λ k. NodesAmong places (stubs k high (made.Kept low addr key))) (above level one) (subst (λ x. NodesAmong places (stubs level high x)) is h))
+    kept_here places (level - 1) high low addr key (subst (λ k. NodesAmong places (stubs k high (made.Kept low addr key))) (above_it level one) (subst (λ x. NodesAmong places (stubs level high x)) is h))
 
 -- the cache then keeps nothing else
 pub read_among : (places : List Place) (level high low addr : ℕ) (key : List ℕ) (c : Child) (old new : Cached) → c ≡ made.Kept low addr key → 1 ≤ level → NodesAmong places (stubs level high c) → KeepsBut addr key old new

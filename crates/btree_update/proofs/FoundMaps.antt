@@ -31,6 +31,7 @@ use Rattle.btree_update.specs.Finding.{FindsFrom, StopsFrom, RootFindsBy, RootSt
 use Rattle.btree_update.proofs.FitsLaws.{AreSmall, small_right}
 use Rattle.btree_update.proofs.FoundLaws.{root_want}
 use Rattle.btree_update.proofs.Places.{IsIn, maps_split, in_maps, one_place}
+use Rattle.btree_update.proofs.GroveLaws.{above_it}
 
 -- ---- where a tree is, no place on the way is wrong
 
@@ -103,9 +104,6 @@ at_maps pages order block high ss here mapped found tiles lt at maps is =
     let after = elsewhere (suc block) high block two.right (inl (omega arith)) (in_maps pages order (suc block) high at.back two.right (tiles_past rest.0 high block here at.back rest.1 at.after lt) two.on_right) in
     subst (λ m. IsMappedAs m block found) (sym (one.is ∙ ap (λ m. one.left ++ m) two.is)) (among block found one.left two.left two.right before (is two.left two.on_left) after)
 
-above_it : (level : ℕ) → 1 ≤ level → level ≡ suc (level - 1)
-above_it level one = omega (arith, one)
-
 one_less : (level : ℕ) → suc level - 1 ≡ level
 one_less level = omega arith
 
@@ -149,7 +147,7 @@ module _ (pages : List (List ℕ)) (order block : ℕ) where
 
 -- ---- below a root
 
-twig_tiles : (order level least most high : ℕ) (twig : Twig) → IsTwig order level least most 0 high twig → Tiles 0 high (stubs_below level high twig)
+pub twig_tiles : (order level least most high : ℕ) (twig : Twig) → IsTwig order level least most 0 high twig → Tiles 0 high (stubs_below level high twig)
 twig_tiles order level least most high twig h =
     tiles_from (start_by low_of (children_of twig) high) 0 high (stubs_below level high twig) (omega arith)
     (tiles_by low_of (IsChild order level) (stubs level) (λ high c. tiles_child order level high c) high (children_of twig) h.node.each)

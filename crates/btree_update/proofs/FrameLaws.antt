@@ -14,19 +14,19 @@ use Rattle.page_store.proofs.RecordLaws.{one_record}
 use Rattle.btree_walk.specs.Ways.{IsEntryOf}
 use Rattle.btree_walk.specs.Finds.{Finds}
 use Rattle.btree_walk.proofs.Elements.{Contains-head, Contains-tail}
+use Rattle.btree_walk.proofs.LevelLaws.{above_leaves}
 use Rattle.btree_walk.proofs.WayLaws.{begins_below, entry_is_one}
 use Rattle.btree_twigs.specs.declared.twigs.Spot.{Spot}
 use Rattle.btree_twigs.specs.declared.twigs.Spot.TheVariants.{Found, Absent, Below}
 use Rattle.btree_twigs.specs.declared.twigs.Child.{Child, Child-F, out-Child}
 use Rattle.btree_twigs.specs.declared.twigs.Child.TheOpen.{Kept, Grown}
 use Rattle.btree_twigs.specs.declared.twigs.Twig.{Twig}
-use Rattle.btree_twigs.specs.Shape.{IsChild, IsTwig}
+use Rattle.btree_twigs.specs.Shape.{IsTwig}
 use Rattle.btree_twigs.specs.Updates.{IsOpen}
 use Rattle.btree_twigs.specs.Top.{IsTopBy, top_least}
-use Rattle.btree_twigs.proofs.Children.{tiles_child}
 use Rattle.btree_twigs.specs.Stubs.{Stub, Tiles, Puts, Takes, datum, datum_in, low_of, start_by, children_of, stubs, stubs_by, stubs_in, stubs_below}
 use Rattle.btree_twigs.specs.Search.{IsSpot}
-use Rattle.btree_twigs.proofs.ListLaws.{tiles_append, tiles_by, tiles_from}
+use Rattle.btree_twigs.proofs.ListLaws.{tiles_append, tiles_from}
 use Rattle.btree_twigs.proofs.Finds.{tiles_before, tiles_after}
 use Rattle.btree_update.specs.GroveTree.{want_of, want_at, want_in, least_at, top_want, stubs_at}
 use Rattle.btree_update.specs.Held.{stub_at, IsReadAs}
@@ -36,6 +36,8 @@ use Rattle.btree_update.specs.Finding.{FindsBelow, FindsFrom, FindsAmong, RootFi
 use Rattle.btree_update.proofs.Readings.{read_same, tail_ascends, bound_above}
 use Rattle.btree_update.proofs.RowLaws.{all_front, all_back, all_append}
 use Rattle.btree_update.proofs.FoundLaws.{root_want, up_twig}
+use Rattle.btree_update.proofs.FoundMaps.{twig_tiles}
+use Rattle.btree_update.proofs.Places.{bound_le}
 use Rattle.btree_update.proofs.ThereLaws.{least_root, least_below, opens_up}
 use Rattle.btree_update.proofs.WrongLaws.{entry_is}
 use Rattle.btree_update.proofs.NodeFinds.{node_finds}
@@ -210,11 +212,7 @@ module _ (pages : List (List ℕ)) (order top block : ℕ) where
   tiles_at (suc level) low high (e ∷ es) le h k up =
       let next = after_entry (suc level) high e es k.0 up in
       let rest = tail_ascends e.low (map (λ (e : Entry). e.low) es) up in
-      (h.0, omega (arith, next), tiles_at (suc level) (bound_of es high) high es (le_high es k.1) (from_next (bound_of es high) high es (omega arith) rest) k.1 rest)
-    where
-      le_high : (es : List Entry) → AllByRecursion (λ (e : Entry). e.low < high) es → bound_of es high ≤ high
-      le_high [] h = omega arith
-      le_high (e ∷ es) h = omega (arith, h.0)
+      (h.0, omega (arith, next), tiles_at (suc level) (bound_of es high) high es (bound_le high es k.1) (from_next (bound_of es high) high es (omega arith) rest) k.1 rest)
 
   plain_at : (level high : ℕ) (es : List Entry) → level < top → AllByRecursion (IsPlain top) (stubs_at level high es)
   plain_at zero high [] less = tt
@@ -484,11 +482,6 @@ both : (top : ℕ) (ss : List Stub) → AllByRecursion (λ s. s.level < top) ss 
 both top [] h k = tt
 both top (s ∷ ss) h k = ((h.0, k.0), both top ss h.1 k.1)
 
-twig_tiles : (order level least most high : ℕ) (twig : Twig) → IsTwig order level least most 0 high twig → Tiles 0 high (stubs_below level high twig)
-twig_tiles order level least most high twig h =
-    tiles_from (start_by low_of (children_of twig) high) 0 high (stubs_below level high twig) (omega arith)
-    (tiles_by low_of (IsChild order level) (stubs level) (λ high c. tiles_child order level high c) high (children_of twig) h.node.each)
-
 less_up : (level top : ℕ) (ss : List Stub) → level < top → AllByRecursion (λ s. s.level ≤ level) ss → AllByRecursion (λ s. s.level < top) ss
 less_up level top [] less h = tt
 less_up level top (s ∷ ss) less h = (omega (arith, less, h.0), less_up level top ss less h.1)
@@ -537,27 +530,24 @@ root_tiles : (order level high : ℕ) (x : Child-F Child Twig) → IsRootBy orde
 root_tiles order level high (Kept low addr key) h to = (omega arith, omega (arith, h, to), omega arith)
 root_tiles order level high (Grown low twig) h to = twig_tiles order level (top_least level) order high twig h.1
 
-above : (level : ℕ) → 1 ≤ level → suc (level - 1) ≡ level
-above level one = omega (arith, one)
-
 -- what is found in a tree is found among its places
 pub root_in : (pages : List (List ℕ)) (order block level high : ℕ) (top : Child) (found : Option Entry) → 1 ≤ level → IsRootBy order (level - 1) high (out-Child top) → block < high →
     RootFindsBy (FitsAt pages) order block (level - 1) high (out-Child top) found ↔ FindsIn pages order level block (stubs level high top) found
 unfolding stubs
 root_in pages order block level high top found one h to =
-    subst (λ n. RootFindsBy (FitsAt pages) order block (level - 1) high (out-Child top) found ↔ FindsIn pages order n block (stubs n high top) found) (above level one) (root_in_by pages order block (level - 1) high (out-Child top) found h to)
+    subst (λ n. RootFindsBy (FitsAt pages) order block (level - 1) high (out-Child top) found ↔ FindsIn pages order n block (stubs n high top) found) (above_leaves level one) (root_in_by pages order block (level - 1) high (out-Child top) found h to)
 
 pub new_in : (pages : List (List ℕ)) (order top block level high : ℕ) (child : Child) (found : Option Entry) → 1 ≤ level → IsTopBy order (level - 1) high (out-Child child) → AllByRecursion (λ s. s.level < top) (stubs level high child) →
     RootFindsBy (FitsAt pages) order block (level - 1) high (out-Child child) found ↔ FindsIn pages order top block (stubs level high child) found
 unfolding stubs
 new_in pages order top block level high child found one h less =
-    subst (λ n. RootFindsBy (FitsAt pages) order block (level - 1) high (out-Child child) found ↔ FindsIn pages order top block (stubs n high child) found) (above level one)
-    (top_in pages order top block (level - 1) high (out-Child child) found h (subst (λ n. AllByRecursion (λ s. s.level < top) (stubs n high child)) (sym (above level one)) less))
+    subst (λ n. RootFindsBy (FitsAt pages) order block (level - 1) high (out-Child child) found ↔ FindsIn pages order top block (stubs n high child) found) (above_leaves level one)
+    (top_in pages order top block (level - 1) high (out-Child child) found h (subst (λ n. AllByRecursion (λ s. s.level < top) (stubs n high child)) (sym (above_leaves level one)) less))
 
 pub places_lower : (order level high : ℕ) (child : Child) → 1 ≤ level → IsRootBy order (level - 1) high (out-Child child) → AllByRecursion (IsLower level high) (stubs level high child)
 unfolding stubs
-places_lower order level high child one h = subst (λ n. AllByRecursion (IsLower n high) (stubs n high child)) (above level one) (lower_child order (level - 1) high (out-Child child) h)
+places_lower order level high child one h = subst (λ n. AllByRecursion (IsLower n high) (stubs n high child)) (above_leaves level one) (lower_child order (level - 1) high (out-Child child) h)
 
 pub places_tile : (order level high : ℕ) (child : Child) → 1 ≤ level → IsRootBy order (level - 1) high (out-Child child) → 0 < high → Tiles 0 high (stubs level high child)
 unfolding stubs
-places_tile order level high child one h to = subst (λ n. Tiles 0 high (stubs n high child)) (above level one) (root_tiles order (level - 1) high (out-Child child) h to)
+places_tile order level high child one h to = subst (λ n. Tiles 0 high (stubs n high child)) (above_leaves level one) (root_tiles order (level - 1) high (out-Child child) h to)

@@ -21,6 +21,7 @@ use Rattle.btree_update.specs.Holding.{CanHold, CanHoldBelow, IsNodeFor, IsNodeO
 use Rattle.btree_update.specs.Held.{Bound, bound, AreBelow}
 use Rattle.btree_update.proofs.OpenLaws.{IsOnWay, below_front, below_back, lower}
 use Rattle.btree_update.proofs.Readings.{kept_stubs, read_is_twig}
+use Rattle.btree_update.proofs.GroveLaws.{above_it}
 
 starts_before : (order level high : ℕ) (gs es : List Child) (d : Child) → EachBy low_of (IsChild order level) high (gs ++ d ∷ es) → start_by low_of (gs ++ d ∷ es) high ≤ low_of d
 starts_before order level high gs es d each =
@@ -123,9 +124,6 @@ pub kept_below : (most : Bound) (level high low addr : ℕ) (key : List ℕ) →
 unfolding stubs
 kept_below most level high low addr key h = (subst (λ x. AreBelow most (stubs_in (stubs level) (suc level) high x)) (made.outs-Kept low addr key) h).0.0
 
-above : (level : ℕ) → 1 ≤ level → level ≡ suc (level - 1)
-above level one = omega (arith, one)
-
 -- a child in memory
 pub way_grown : (order least level block high head low : ℕ) (twig : Twig) → CanHold order least level block high head (made.Grown low twig) → CanHoldBelow order (level - 1) block high head twig
 way_grown order least level block high head low twig at = record {
@@ -138,7 +136,7 @@ way_grown order least level block high head low twig at = record {
   from = omega (arith, at.from, low_of_grown low twig);
   to = at.to;
   size = at.size;
-  within = subst (AreBelow (bound head at.size)) (stubs_of_grown (level - 1) high low twig) (subst (λ k. AreBelow (bound head at.size) (stubs k high (made.Grown low twig))) (above level at.one) at.within);
+  within = subst (AreBelow (bound head at.size)) (stubs_of_grown (level - 1) high low twig) (subst (λ k. AreBelow (bound head at.size) (stubs k high (made.Grown low twig))) (above_it level at.one) at.within);
 }
 
 pub held_grown : (Reads : ℕ → Stub → Twig → Type 0) (order least block level high low : ℕ) (twig : Twig) (held : List Twig) → OnWay block (λ end c. HeldFor Reads order block level end c held) high twig → HeldFrom Reads order least block level high (made.Grown low twig) held
@@ -146,12 +144,12 @@ held_grown Reads order least block level high low twig held way = subst (λ x. H
 
 -- a child on the medium
 pub way_lt : (order least level block high head low addr : ℕ) (key : List ℕ) → CanHold order least level block high head (made.Kept low addr key) → addr < head
-way_lt order least level block high head low addr key at = kept_below (bound head at.size) (level - 1) high low addr key (subst (λ k. AreBelow (bound head at.size) (stubs k high (made.Kept low addr key))) (above level at.one) at.within)
+way_lt order least level block high head low addr key at = kept_below (bound head at.size) (level - 1) high low addr key (subst (λ k. AreBelow (bound head at.size) (stubs k high (made.Kept low addr key))) (above_it level at.one) at.within)
 
 module _ (order least level block high head low addr : ℕ) (key : List ℕ) (twig : Twig) (at : CanHold order least level block high head (made.Kept low addr key)) (h : IsNodeFor (want_at order level low high addr least) key twig) where
   way_shaped : IsTwig order (level - 1) least order low high twig
   way_shaped = node_is_twig order (level - 1) least low high addr key twig at.most (λ one. omega (arith, at.two (omega (arith, one)))) (omega (arith, at.from, at.to, low_of_kept low addr key))
-      (subst (λ k. IsNodeFor (want_at order k low high addr least) key twig) (above level at.one) h)
+      (subst (λ k. IsNodeFor (want_at order k low high addr least) key twig) (above_it level at.one) h)
 
   pub way_read : CanHoldBelow order (level - 1) block high head twig
   way_read = record {
