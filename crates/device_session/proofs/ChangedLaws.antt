@@ -124,16 +124,18 @@ module _ (image changed : Image) (change : IsChangeOf image changed) (order bloc
       subst (λ (p : Parts). AllByRecursion IsKeptRecord p.mapped) (sym is.has)
       (each_kept level want.high is.entries is.children (mapped_kept level) (long_keys want.addr (suc level) key is.entries image.readable long is.fits.0) is.each places.1)
 
+-- what is wanted of the root of a tree without a change
+pub wanted_root : (root : Root) (grove : Grove) → IsTreeOf root grove → top_want grove.order grove.blocks (suc (grove.level - 1)) root.addr ≡ root_want root
+wanted_root root grove tree =
+    let level : suc (grove.level - 1) ≡ root.level = sym (above_it grove.level tree.sound.one) ∙ tree.level in
+    ap (λ n. top_want n grove.blocks (suc (grove.level - 1)) root.addr) tree.order ∙ (ap (λ n. top_want root.order n (suc (grove.level - 1)) root.addr) tree.blocks ∙ ap (λ n. top_want root.order root.blocks n root.addr) level)
+
 -- what is found in the bare tree of a root record is found from its root
-from_root : (pages : List (List ℕ)) (root : Root) (grove : Grove) (block : ℕ) (found : Option Entry) → IsTreeOf root grove → GroveFinds pages block grove found →
-    (path : List ℕ) × Finds (FitsAt pages) root.order block found (root.level - 1) (root_want root) root.key path
+pub from_root : (pages : List (List ℕ)) (root : Root) (grove : Grove) (block : ℕ) (found : Option Entry) → IsTreeOf root grove → GroveFinds pages block grove found → FindsBelow (FitsAt pages) block (root_want root) root.key found
 from_root pages root grove block found tree f =
     let out : out-Child grove.top ≡ Kept 0 root.addr root.key = ap out-Child tree.top ∙ made.outs-Kept 0 root.addr root.key in
-    let level : suc (grove.level - 1) ≡ root.level = sym (above_it grove.level tree.sound.one) ∙ tree.level in
-    let kept = subst (λ x. RootFindsBy (FitsAt pages) grove.order block (grove.level - 1) grove.blocks x found) out f in
-    let one = subst (λ n. FindsBelow (FitsAt pages) block (top_want n grove.blocks (suc (grove.level - 1)) root.addr) root.key found) tree.order kept in
-    let two = subst (λ n. FindsBelow (FitsAt pages) block (top_want root.order n (suc (grove.level - 1)) root.addr) root.key found) tree.blocks one in
-    subst (λ n. FindsBelow (FitsAt pages) block (top_want root.order root.blocks n root.addr) root.key found) level two
+    subst (λ w. FindsBelow (FitsAt pages) block w root.key found) (wanted_root root grove tree)
+    (subst (λ x. RootFindsBy (FitsAt pages) grove.order block (grove.level - 1) grove.blocks x found) out f)
 
 -- the root record that the session is on is the one that the image stands by
 stands_by : (session : Session) (image changed : Image) (device : Device) (pages : ℕ) → IsOpen session pages → IsChangedBelow session image changed device → (parts : Parts) × StandsBy image device session.root parts

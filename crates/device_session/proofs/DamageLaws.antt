@@ -24,7 +24,7 @@ use Rattle.btree_update.proofs.AscendLaws.{grove_up, grove_all, grove_filled}
 use Rattle.grove_accounts.specs.Holding.{IsSameSize, IsTreeOf}
 use Rattle.grove_accounts.proofs.FollowLaws.{root_follows, ready_follows, update_wrong, look_up_wrong, record_wrong}
 use Rattle.grove_accounts.proofs.FollowingLaws.{tree_later, stays_later, insert_follows, remove_follows}
-use Rattle.grove_accounts.proofs.HoldingLaws.{tree_has}
+use Rattle.grove_accounts.proofs.HoldingLaws.{alike, tree_has}
 use Rattle.device_session.specs.Sessions.{Session}
 use Rattle.device_session.specs.Open.{IsOpen}
 use Rattle.device_session.specs.Finishing.{TakesUp}
@@ -35,7 +35,7 @@ use Rattle.device_session.proofs.ArrayLaws.{count_less}
 use Rattle.device_session.proofs.ReadLaws.{grove_maps}
 use Rattle.device_session.proofs.PageLaws.{AreAlike, tree_alike, maps_alike, read_later}
 use Rattle.device_session.proofs.UpdateLaws.{open_sound, with_ready, ready_maps, with_removed, Removes}
-use Rattle.device_session.proofs.InsertLaws.{alike, cached_later, with_inserted, IsInsertion, count_is, lacks_it}
+use Rattle.device_session.proofs.InsertLaws.{cached_later, with_inserted, IsInsertion, count_is, lacks_it}
 
 -- ---- from a mount on
 

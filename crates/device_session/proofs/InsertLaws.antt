@@ -1,5 +1,5 @@
 -- What a write makes of a session.
-use Rattle.std.proofs.Common.{◌≡◌, ◌⊎◌, inl, inr, ℕ, zero, suc, ◌+◌, ◌-◌, ◌<◌, ◌≤◌, ◌^◌, Bool, true, false, List, [], ◌∷◌, ◌++◌, All, IsTrue, length, take, refl, sym, ap, subst, ◌∙◌, arith, length-append}
+use Rattle.std.proofs.Common.{◌≡◌, ◌⊎◌, inl, inr, ℕ, zero, suc, ◌+◌, ◌-◌, ◌<◌, ◌≤◌, ◌^◌, Bool, true, false, List, [], ◌∷◌, ◌++◌, All, IsTrue, length, refl, sym, ap, subst, ◌∙◌, arith, length-append}
 use Rattle.std.specs.Prelude.{Contains, Some, replicate, slice_get}
 use Rattle.std.specs.FinMap as maps
 use Rattle.std.specs.Bool.{OnTrue, OnFalse}
@@ -32,7 +32,7 @@ use Rattle.btree_update.specs.Opens.{HasWay}
 use Rattle.btree_update.specs.Groves.{GroveMaps, places_of}
 use Rattle.btree_update.proofs.AscendLaws.{Ascends, grove_all, grove_filled}
 use Rattle.grove_accounts.specs.Holding.{Arrives, Turns, IsSameSize}
-use Rattle.grove_accounts.proofs.HoldingLaws.{holds_later, insert_holds}
+use Rattle.grove_accounts.proofs.HoldingLaws.{alike, holds_later, insert_holds}
 use Rattle.grove_accounts.proofs.OwnLaws.{insertion_own, insertion_written}
 use Rattle.device_session.specs.Sessions.{Session}
 use Rattle.device_session.specs.Open.{IsOpen, AreDataPages}
@@ -45,15 +45,6 @@ use Rattle.device_session.proofs.ReadLaws.{held_maps, held_up}
 use Rattle.device_session.proofs.UpdateLaws.{open_sound, open_size}
 
 -- ---- a page more
-
-get_take : (n : ℕ) (pages : List (List ℕ)) (addr : ℕ) → addr < n → slice_get (take n pages) addr ≡ slice_get pages addr
-get_take zero pages addr less = absurd (omega (arith, less))
-get_take (suc n) [] addr less = refl
-get_take (suc n) (p ∷ pages) zero less = refl
-get_take (suc n) (p ∷ pages) (suc addr) less = get_take n pages addr (omega (arith, less))
-
-pub alike : (n : ℕ) (pages others : List (List ℕ)) (addr : ℕ) → take n others ≡ pages → addr < n → slice_get others addr ≡ slice_get pages addr
-alike n pages others addr front less = sym (get_take n others addr less) ∙ ap (λ ps. slice_get ps addr) front
 
 get_within : (pages : List (List ℕ)) (addr : ℕ) (page : List ℕ) → slice_get pages addr ≡ Some page → addr < length pages
 get_within [] addr page reads = absurd cc

@@ -1,7 +1,7 @@
 -- The keys of a session's places, and of those of its tree.
 use Rattle.std.proofs.Common.{◌≡◌, ◌⊎◌, inl, inr, ℕ, zero, suc, ◌<◌, ◌≤◌, List, [], ◌∷◌, ◌++◌, All, map, refl, sym, ap, subst, ◌∙◌, arith}
 use Rattle.std.specs.Prelude.{Option, Some, Contains}
-use Rattle.std.proofs.lemmas.List.Elements.{All-head, All-weaker, All-contains, All-contains_itself, Contains-append_left, Contains-append_right, Contains-append_cases, recursion_from_All}
+use Rattle.std.proofs.lemmas.List.Elements.{All-weaker, All-contains, All-contains_itself, Contains-append_left, Contains-append_right, Contains-append_cases, recursion_from_All}
 use Rattle.sdbt_base.specs.Arrays.{Device, Blocks}
 use Rattle.sdbt_base.specs.Traces.{DataOf, NodeOver}
 use Rattle.node_codec.specs.declared.body.Entry.{Entry}
@@ -21,13 +21,12 @@ use Rattle.node_cache.specs.Cached.{Cached}
 use Rattle.btree_walk.specs.Sights.{StandsOver}
 use Rattle.btree_walk.specs.Among.{StaysAmong}
 use Rattle.btree_update.specs.Among.{HaveNodes}
-use Rattle.btree_walk.proofs.OrderLaws.{subtree_up_to}
 use Rattle.btree_update.specs.Groves.{places_of}
 use Rattle.grove_accounts.specs.Accounts.{IsOwn}
 use Rattle.btree_update.specs.GroveTree.{want_in}
 use Rattle.grove_accounts.specs.Below.{HaveParts}
 use Rattle.grove_accounts.specs.Certs.{IsOwnStub}
-use Rattle.grove_accounts.proofs.CertLaws.{IsOldNode, old_nodes}
+use Rattle.grove_accounts.proofs.CertLaws.{IsOldNode, old_below, old_nodes}
 use Rattle.shadow_commit.specs.Handing.{KnowsPlaces}
 use Rattle.device_session.specs.Sessions.{Session}
 use Rattle.device_session.specs.Open.{AreDataPages}
@@ -52,17 +51,9 @@ keeps_by tells drawn drawn_now old new Ready Ready' Done Done' k ready done = re
 
 -- ---- the key of a place on the medium
 
--- what is below a place that is no data record came before the root record
-low_below : (pages : List (List ℕ)) (order top head level : ℕ) (s : Stub) (q : Parts) → Subtree pages order (suc level) (want_in order top s) s.key q → All (IsOldNode head) q.places → All (λ p. p.addr < head) q.places
-unfolding Subtree
-low_below pages order top head level s q h old =
-    let up = subtree_up_to pages order (suc level) (want_in order top s) s.key q h in
-    let first = All-head (IsOldNode head) _ (joined h.children).places (subst (λ (x : Parts). All (IsOldNode head) x.places) h.has old) in
-    All-weaker (λ (p : Place). p.addr ≤ s.addr) (λ p. p.addr < head) (λ p le. omega (arith, le, first (_, refl))) q.places up
-
 one_key : (pages : List (List ℕ)) (order top head level : ℕ) (s : Stub) (q : Parts) (p : Place) → s.level ≡ level → Subtree pages order level (want_in order top s) s.key q → All (IsOldNode head) q.places → Contains q.places p → head ≤ p.addr → IsOwnStub head s × (s.key ≡ p.key)
 unfolding Subtree
-one_key pages order top head (suc level) s q p is h old has own = absurd (let less = All-contains (λ p. p.addr < head) q.places p (low_below pages order top head level s q h old) has in omega (arith, less, own))
+one_key pages order top head (suc level) s q p is h old has own = absurd (let less = All-contains (λ p. p.addr < head) q.places p (old_below pages order top head level s q h old) has in omega (arith, less, own))
 one_key pages order top head zero s q p is h old has own = only (subst (λ (x : Parts). Contains x.places p) h.has has)
   where
     only : Contains (record { addr = s.addr; key = s.key; trace = DataOf s.low } ∷ []) p → IsOwnStub head s × (s.key ≡ p.key)

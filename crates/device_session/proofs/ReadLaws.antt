@@ -3,7 +3,6 @@ use Rattle.std.proofs.Common.{◌≡◌, ◌≢◌, ℕ, zero, suc, ◌-◌, ◌
 use Rattle.std.specs.Prelude.{Contains, Err, unwrap_or, replicate}
 use Rattle.std.specs.FinMap as maps
 use Rattle.std.specs.List.{AllByRecursion}
-use Rattle.std.proofs.lemmas.Bool.{eq-eqb, ne_eqb}
 use Rattle.std.proofs.lemmas.List.Elements.{All-contains, All-from_recursion, recursion_from_All}
 use Rattle.sdbt_base.specs.Arrays.{Device, Blocks, content_of}
 use Rattle.platform.specs.Image.{Image}
@@ -30,11 +29,12 @@ use Rattle.btree_walk.specs.Sights.{StandsOver}
 use Rattle.btree_walk.specs.Among.{StaysAmong}
 use Rattle.btree_update.specs.Among.{HaveNodes}
 use Rattle.btree_update.specs.declared.groves.Grove.{Grove}
-use Rattle.btree_update.specs.GroveTree.{MapsIn, MapsFrom, want_at, least_at, want_in}
+use Rattle.btree_update.specs.GroveTree.{MapsIn, MapsFrom, want_at, want_in}
 use Rattle.btree_update.specs.Roots.{IsRoot, IsRootBy}
 use Rattle.btree_update.specs.Groves.{IsSound, GroveMaps, places_of}
 use Rattle.btree_update.proofs.FoundLaws.{up_twig}
 use Rattle.btree_update.proofs.GroveLaws.{above_it}
+use Rattle.btree_update.proofs.ThereLaws.{least_root}
 use Rattle.node_cache.specs.Cached.{Cached}
 use Rattle.grove_accounts.specs.Below.{HaveParts}
 use Rattle.grove_accounts.proofs.ListLaws.{each_append, each_weaker}
@@ -122,10 +122,6 @@ pub grove_tiles : (grove : Grove) → IsSound grove → 1 ≤ grove.blocks → T
 grove_tiles grove sound one =
     subst (λ n. Tiles 0 grove.blocks (stubs n grove.blocks grove.top)) (sym (above_it grove.level sound.one)) (root_tiles grove.order (grove.level - 1) grove.blocks grove.top one sound.shaped)
 
-least_same : (order below : ℕ) → least_at order (suc below) (suc below) ≡ top_least below
-least_same order zero = refl
-least_same order (suc below) = rw (eq-eqb (suc (suc below)) (suc (suc below)) refl, ne_eqb (suc (suc below)) 1 (λ e. absurd (omega (arith, e)))) refl
-
 root_maps : (pages : List (List ℕ)) (order below high : ℕ) (c : Child) (each : List Parts) → HaveParts pages order (suc below) (stubs (suc below) high c) each → MapsFrom pages order (top_least below) below high c (joined each).mapped
 unfolding stubs
 root_maps pages order below high c each h = here (out-Child c) each h
@@ -133,7 +129,7 @@ root_maps pages order below high c each h = here (out-Child c) each h
     here : (x : Child-F Child Twig) (each : List Parts) → HaveParts pages order (suc below) (stubs_in (stubs below) (suc below) high x) each → MapsIn pages order (top_least below) below high x (joined each).mapped
     here (Kept low addr key) [] h = absurd h
     here (Kept low addr key) (p ∷ q ∷ ps) h = absurd h.1
-    here (Kept low addr key) (p ∷ []) h = (p, subst (λ n. Subtree pages order (suc below) (want_at order (suc below) low high addr n) key p) (least_same order below) h.0, append-nil p.mapped)
+    here (Kept low addr key) (p ∷ []) h = (p, subst (λ n. Subtree pages order (suc below) (want_at order (suc below) low high addr n) key p) (least_root order below) h.0, append-nil p.mapped)
     here (Grown low twig) each h = record {
       each = each;
       has = parts_each pages order (suc below) (stubs_below below high twig) each (each_weaker (λ (s : Stub). s.level ≤ below) (λ (s : Stub). s.level < suc below) (λ s le. omega (arith, le)) (stubs_below below high twig) (up_twig below high twig)) h;

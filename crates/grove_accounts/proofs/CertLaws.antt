@@ -46,7 +46,7 @@ abbrev pub IsOldNode : ℕ → Place → Type 0
 IsOldNode head p = IsInner p → p.addr < head
 
 -- what stands below a place that is no data record came before the root record
-old_below : (pages : List (List ℕ)) (order top head level : ℕ) (s : Stub) (q : Parts) → Subtree pages order (suc level) (want_in order top s) s.key q → All (IsOldNode head) q.places → All (λ p. p.addr < head) q.places
+pub old_below : (pages : List (List ℕ)) (order top head level : ℕ) (s : Stub) (q : Parts) → Subtree pages order (suc level) (want_in order top s) s.key q → All (IsOldNode head) q.places → All (λ p. p.addr < head) q.places
 unfolding Subtree
 old_below pages order top head level s q h old =
     let up = subtree_up_to pages order (suc level) (want_in order top s) s.key q h in

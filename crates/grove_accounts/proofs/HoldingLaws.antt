@@ -110,7 +110,7 @@ get_take (suc n) [] addr less = refl
 get_take (suc n) (p ∷ pages) zero less = refl
 get_take (suc n) (p ∷ pages) (suc addr) less = get_take n pages addr (omega (arith, less))
 
-alike : (n : ℕ) (pages others : List (List ℕ)) (addr : ℕ) → take n others ≡ pages → addr < n → slice_get others addr ≡ slice_get pages addr
+pub alike : (n : ℕ) (pages others : List (List ℕ)) (addr : ℕ) → take n others ≡ pages → addr < n → slice_get others addr ≡ slice_get pages addr
 alike n pages others addr front less = sym (get_take n others addr less) ∙ ap (λ ps. slice_get ps addr) front
 
 pub parts_later : (pages others : List (List ℕ)) (order top n : ℕ) (ss : List Stub) (ps : List Parts) → take n others ≡ pages → All (λ p. p.addr < n) (joined ps).places → HaveParts pages order top ss ps → HaveParts others order top ss ps
