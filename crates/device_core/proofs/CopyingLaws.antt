@@ -54,7 +54,7 @@ sound_still old new stays sound =
 -- ---- one record
 
 -- a whole block is not padded
-padded_whole : (bytes : List ℕ) → length bytes ≡ 4096 → padded bytes ≡ bytes
+pub padded_whole : (bytes : List ℕ) → length bytes ≡ 4096 → padded bytes ≡ bytes
 padded_whole bytes len = let none : 4096 - length bytes ≡ 0 = omega (arith, len) in ap (λ (n : ℕ). bytes ++ replicate n 0) none ∙ append-nil bytes
 
 -- the body is the data record of what was read

@@ -1,6 +1,9 @@
--- How parts of a run compose in which a session goes on.
-use Rattle.std.proofs.Common.{◌+◌, ℕ, Some, refl, ◌∙◌, arith}
+-- How parts of a run compose in which a session goes on, and that its pages read as they did where none is added.
+use Rattle.std.proofs.Common.{◌≡◌, ◌+◌, ℕ, Some, length, refl, sym, ◌∙◌, arith}
+use Rattle.std.proofs.lemmas.List.{take_all}
+use Rattle.platform.specs.History.{Extends, History}
 use Rattle.platform.specs.declared.platforms.Platform.{Ghosts as PlatformGhosts}
+use Rattle.platform.proofs.Moments.{Extends-earlier, whole-now}
 use Rattle.device_terms.proofs.MomentLaws.{still, stays_then}
 use Rattle.device_course.specs.States.{IsListed}
 use Rattle.device_course.proofs.KeysLaws.{on_start, on_then}
@@ -52,3 +55,10 @@ along_then P some more first second third drawn mid drawn_now session between no
     ledger = omega arith;
   };
 }
+
+-- where as many pages are handed over as were, each reads as it did
+pub pages_still : (old new : History) (head head_now : ℕ) → Extends old new → length old.present.recorded ≡ head → length new.present.recorded ≡ head_now → head_now ≡ head → new.present.readable ≡ old.present.readable
+pages_still old new head head_now extends many many_now same =
+    let earlier = Extends-earlier old new extends in
+    let size : length new.present.readable ≡ length old.present.recorded = omega (arith, (whole-now new).as_many, many, many_now, same) in
+    sym (take_all (length old.present.recorded) new.present.readable (omega (arith, size))) ∙ earlier.readable

@@ -8,7 +8,7 @@ use Rattle.session_calls.specs.declared.stops.DeviceStop.{DeviceStop}
 use Rattle.session_calls.specs.declared.stops.DeviceStop.TheVariants as stops
 
 -- a wrong place, or the root node of a tree that is miscounted with more said of it
-wrong_page : {Place Counted More : Type 0} → Place ⊎ (Counted × More) → Place ⊎ Counted
+pub wrong_page : {Place Counted More : Type 0} → Place ⊎ (Counted × More) → Place ⊎ Counted
 wrong_page (inl place) = inl place
 wrong_page (inr counted) = inr counted.0
 
