@@ -18,10 +18,10 @@ use Rattle.transfer.specs.declared.halts.Halt.TheVariants as halts
 -- ---- calls on one of the platforms
 
 -- counts that are as they were, but for those of the other platform
-same_from : (before now : Counts) → now.to ≡ before.to → with_from now ≡ with_from before → now ≡ before
+pub same_from : (before now : Counts) → now.to ≡ before.to → with_from now ≡ with_from before → now ≡ before
 same_from before now other same = λ k. counts ((same k).platform) (other k) ((same k).tape) ((same k).output) ((same k).ledger)
 
-same_to : (before now : Counts) → now.from ≡ before.from → with_to now ≡ with_to before → now ≡ before
+pub same_to : (before now : Counts) → now.from ≡ before.from → with_to now ≡ with_to before → now ≡ before
 same_to before now other same = λ k. counts (other k) ((same k).platform) ((same k).tape) ((same k).output) ((same k).ledger)
 
 fell_from : (before now : Counts) → now.to ≡ before.to → device.NoneFell (with_from before) (with_from now) → NoneFell before now

@@ -31,6 +31,7 @@ use Rattle.session_calls.specs.Mounts.{IsFound, MountLeads}
 use Rattle.session_calls.specs.declared.stops.DeviceStop.{DeviceStop}
 use Rattle.session_calls.proofs.CallLaws.{no_draw}
 use Rattle.session_calls.proofs.CarryLaws.{stays_at}
+use Rattle.session_calls.proofs.SpanLaws.{led_of}
 use Rattle.session_calls.proofs.StateLaws.{with_array}
 use Rattle.transfer.specs.Program.{FromAlone, LeavesDevice}
 use Rattle.transfer.specs.Running.{Clears, alone}
@@ -137,10 +138,6 @@ clears_look P platform platform_now Done never looks = record {
       shut (P.history platform_now).present entry.device (subst (λ (i : Image). Stands i entry.device) (sym (looks.image told)) at.there.device) (subst IsServedImage (sym (looks.image told)) at.served) in
       inl (never, stays_at (P.history platform) (P.history platform_now) None entry (closed entry.device) (looks.time told) at.there.device after);
 }
-
--- from which state a mount that found a session led to which
-led_of : (image : Image) (session : Session) (entry : State) → MountLeads image entry (Ok (Some session)) → (there : Device) × (entry ≡ closed (Some there)) × IsAt image (Some session) (mounted there (session_on there))
-led_of image session entry (there, is, at, number) = (there, is, at)
 
 -- that found a session
 pub ready_found : {S : Type 0} (P : PlatformGhosts S) (platform mid : S) (session : Session) (result : Result (Option Session) DeviceStop) → result ≡ Ok (Some session) → IfOk result (IsFound P 256 platform mid) → IsReady P.tells (alone P mid) session

@@ -1,6 +1,6 @@
 -- Which record a halt names.
-use Rattle.std.proofs.Common.{◌≡◌, ◌∙◌, ℕ, List, Option, Result, Ok, Err, inl, inr, sym, ap, subst}
-use Rattle.std.specs.Prelude.{◌⊎◌, IfErr}
+use Rattle.std.proofs.Common.{◌≡◌, ◌∙◌, ℕ, List, Option, Result, Ok, Err, inl, sym, ap, subst}
+use Rattle.std.specs.Prelude.{IfErr}
 use Rattle.std.specs.Result.{IsErrAnd}
 use Rattle.std.proofs.lemmas.Result.{err_from_is_err_and}
 use Rattle.platform.specs.Image.{Image}
@@ -14,6 +14,7 @@ use Rattle.session_calls.specs.Damage.{ReadsAny, WritesAny}
 use Rattle.session_calls.specs.Mounts.{IsMountStop}
 use Rattle.session_calls.specs.declared.stops.DeviceStop.{DeviceStop}
 use Rattle.session_calls.specs.declared.stops.DeviceStop.TheVariants as stops
+use Rattle.session_calls.proofs.DamageLaws.{wrong_page}
 use Rattle.transfer.specs.Counts.{Counts}
 use Rattle.transfer.specs.Halts.{Blames}
 use Rattle.transfer.specs.Listing.{IsListStop}
@@ -40,10 +41,6 @@ read_to tells Mounted mounted image after session block bytes stops.BadRoot any 
 read_to tells Mounted mounted image after session block bytes (stops.BadRecord addr) any = λ told. inl (any (told, mounted told))
 
 -- a write
-wrong_page : {Place Counted More : Type 0} → Place ⊎ (Counted × More) → Place ⊎ Counted
-wrong_page (inl place) = inl place
-wrong_page (inr counted) = inr counted.0
-
 pub write_to : (tells Mounted : Type 0) (mounted : tells → Mounted) (image after : Image) (session : Session) (block : ℕ) (stop : DeviceStop) → WritesAny (tells × Mounted) image after session block (Err stop) → HaltsTo tells after (halts.To stop)
 write_to tells Mounted mounted image after session block stops.Platform any = tt
 write_to tells Mounted mounted image after session block stops.Memory any = tt

@@ -30,18 +30,11 @@ use Rattle.transfer.specs.declared.halts.Halt.TheVariants as halts
 use Rattle.transfer.specs.declared.halts.Moved.{Moved}
 use Rattle.transfer.proofs.FromLaws as from_laws
 use Rattle.transfer.proofs.KeyLaws.{reaches_nothing}
+use Rattle.transfer.proofs.RefusalLaws.{refuses_as}
 use Rattle.transfer.proofs.ToLaws as to_laws
 use Rattle.transfer.proofs.StatusLaws.{never_zero}
 
 -- ---- with a session on the device
-
-refuses_as : (X Y : Type 0) (halt : Halt) → Refuses {X = X} (Err halt) → Refuses {X = Y} (Err halt)
-refuses_as X Y halts.NoDevice is = is
-refuses_as X Y halts.NotEmpty is = is
-refuses_as X Y halts.Full is = is
-refuses_as X Y halts.Output is = is
-refuses_as X Y (halts.From stop) is = is
-refuses_as X Y (halts.To stop) is = is
 
 -- the second device didn't come to be a copy, or it isn't known: the first one is left
 pub moves_halted : (from from_now to to_now : History) (device : Device) (there : Option Device) (Short : Type 0) (halt : Halt) → MadeBetween from from_now device [] device → Reaches to to_now device there Short (Err halt) → Moves from from_now to to_now device there Short (Err halt)

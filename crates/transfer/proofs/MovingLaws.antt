@@ -1,11 +1,11 @@
 -- From which devices the calls of a move lead to which.
-use Rattle.std.proofs.Common.{◌≡◌, ◌<◌, ◌∙◌, ◌++◌, ℕ, List, Some, Result, Ok, Err, refl, sym, ap, subst, length, map, append-nil, arith}
-use Rattle.std.specs.Prelude.{All, IfErr, IfOk, replicate}
+use Rattle.std.proofs.Common.{◌≡◌, ◌<◌, ◌∙◌, ℕ, List, Some, Result, Ok, Err, refl, sym, subst, length, map}
+use Rattle.std.specs.Prelude.{All, IfErr, IfOk}
 use Rattle.std.proofs.Common.{[], ◌∷◌, ◌+◌, ◌-◌, get_or, take, true}
 use Rattle.std.proofs.lemmas.List.{take_more}
 use Rattle.std.proofs.lemmas.List.Elements.{All-append, All-cons, All-get_or, All-nil}
 use Rattle.std.specs.FinMap as maps
-use Rattle.sdbt_base.specs.Arrays.{Device, Session as OpenSession, content_of, mounted, padded, written}
+use Rattle.sdbt_base.specs.Arrays.{Device, Session as OpenSession, content_of, mounted, written}
 use Rattle.platform.specs.Image.{Image}
 use Rattle.page_store.specs.Places.{root_want}
 use Rattle.page_store.specs.Tree.{Parts, Tree}
@@ -19,6 +19,7 @@ use Rattle.btree_walk.specs.declared.refusals.WalkRefusal.TheVariants as walks
 use Rattle.btree_walk.proofs.ShowsLaws.{first_wrong_is_wrong}
 use Rattle.device_course.specs.States.{IsAt}
 use Rattle.device_session.specs.Sessions.{Session}
+use Rattle.device_core.proofs.CopyingLaws.{padded_whole}
 use Rattle.session_calls.specs.Goes.{ReadsBlock, WritesBlock}
 use Rattle.session_calls.specs.declared.stops.DeviceStop.{DeviceStop}
 use Rattle.session_calls.specs.declared.stops.DeviceStop.TheVariants as stops
@@ -61,15 +62,9 @@ write_sound image now device array block content stops.Ledger led = tt
 write_sound image now device array block content stops.BadRoot led = absurd led
 write_sound image now device array block content (stops.BadRecord addr) led = absurd led
 
--- bytes of a whole block are written as they are
-whole : (bytes : List ℕ) → length bytes ≡ 4096 → padded bytes ≡ bytes
-whole bytes size =
-    let none : 4096 - length bytes ≡ 0 = omega (arith, size) in
-    ap (λ (n : ℕ). bytes ++ replicate n 0) none ∙ append-nil bytes
-
 pub copied_block : (image : Image) (now : Session) (there : Device) (array other : OpenSession) (block : ℕ) (bytes : List ℕ) → length bytes ≡ 4096 → bytes ≡ content_of array.contents block → IsAt image (Some now) (mounted there (written other block bytes)) → IsAt image (Some now) (mounted there (copy_block array.contents other block))
 copied_block image now there array other block bytes size is at =
-    subst (λ (b : List ℕ). IsAt image (Some now) (mounted there (record { contents = maps.insert other.contents block b; touched = true }))) (whole bytes size ∙ is) at
+    subst (λ (b : List ℕ). IsAt image (Some now) (mounted there (record { contents = maps.insert other.contents block b; touched = true }))) (padded_whole bytes size ∙ is) at
 
 -- ---- blocks that are compared
 

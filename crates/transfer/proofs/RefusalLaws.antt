@@ -166,7 +166,7 @@ root_there image session pages is_open cell = record { cell = cell; in_range = i
 
 -- ---- a whole move
 
-refuses_as : (X Y : Type 0) (halt : Halt) → Refuses {X = X} (Err halt) → Refuses {X = Y} (Err halt)
+pub refuses_as : (X Y : Type 0) (halt : Halt) → Refuses {X = X} (Err halt) → Refuses {X = Y} (Err halt)
 refuses_as X Y halts.NoDevice is = is
 refuses_as X Y halts.NotEmpty is = is
 refuses_as X Y halts.Full is = is

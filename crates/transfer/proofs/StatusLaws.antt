@@ -8,7 +8,7 @@ use Rattle.transfer.specs.Halts.{Blames, status_at}
 use Rattle.transfer.specs.Program.{IsBlamedAt, IsStatus, NamesFault}
 use Rattle.transfer.specs.declared.halts.Halt.{Halt}
 use Rattle.transfer.specs.declared.halts.Halt.TheVariants as halts
-use Rattle.transfer.proofs.BlameLaws.{fell_not}
+use Rattle.transfer.proofs.BlameLaws.{fell_not, same_from, same_to}
 
 is_zero : IsStatus 0
 is_zero = inl refl
@@ -136,12 +136,6 @@ ledger_of_to before now other rose = (rose.0, λ k. counts (other k) ((rose.1 k)
 
 to_of_to : (before now : Counts) → now.from ≡ before.from → device_counts.PlatformRose (with_to before) (with_to now) → ToRose before now
 to_of_to before now other rose = (rose.0, λ k. counts (other k) now.to ((rose.1 k).tape) ((rose.1 k).output) ((rose.1 k).ledger))
-
-same_from : (before now : Counts) → now.to ≡ before.to → with_from now ≡ with_from before → now ≡ before
-same_from before now other same = λ k. counts ((same k).platform) (other k) ((same k).tape) ((same k).output) ((same k).ledger)
-
-same_to : (before now : Counts) → now.from ≡ before.from → with_to now ≡ with_to before → now ≡ before
-same_to before now other same = λ k. counts (other k) ((same k).platform) ((same k).tape) ((same k).output) ((same k).ledger)
 
 -- at one that names this fault alone
 other_ten : NamesFault 10 → ⊥

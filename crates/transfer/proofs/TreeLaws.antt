@@ -1,11 +1,11 @@
 -- That a tree is whole whose nodes fit, and in which a look-up of the block of each entry comes to a content.
-use Rattle.std.proofs.Common.{◌≡◌, ◌==◌, if◌then◌else◌, ℕ, zero, suc, ◌-◌, ◌/◌, ◌^◌, ◌<◌, ◌≤◌, List, [], ◌∷◌, ◌++◌, Option, None, Some, length, map, refl, sym, ap, subst, inl, inr, ◌∙◌, arith, append-nil, append_assoc}
+use Rattle.std.proofs.Common.{◌≡◌, ◌==◌, if◌then◌else◌, ℕ, zero, suc, ◌-◌, ◌/◌, ◌^◌, ◌<◌, ◌≤◌, List, [], ◌∷◌, ◌++◌, Option, None, Some, length, map, refl, sym, ap, subst, inl, inr, ◌∙◌, arith, append_assoc}
 use Rattle.std.specs.Prelude.{All, Contains, IfSome, slice_get}
 use Rattle.std.proofs.lemmas.Bool.{cases_eq, cases_lt}
 use Rattle.std.proofs.lemmas.Bool.Decides.{eqb_tells}
 use Rattle.std.specs.List.Sorted.{IsStrictlyIncreasing}
 use Rattle.std.proofs.lemmas.List.{map-append}
-use Rattle.std.proofs.lemmas.List.Elements.{All-nil, All-cons, All-head, All-tail, All-weaker, All-append, All-contains, Contains-append_left, Contains-append_right}
+use Rattle.std.proofs.lemmas.List.Elements.{All-nil, All-cons, All-head, All-tail, All-weaker, All-contains, Contains-append_left, Contains-append_right}
 use Rattle.node_codec.specs.declared.body.Entry.{Entry}
 use Rattle.node_codec.specs.Record.{DataRecord, NodeRecord}
 use Rattle.root_codec.specs.declared.root.Root.{Root}
@@ -16,12 +16,11 @@ use Rattle.page_store.specs.Tree.{Parts, joined, data_parts, node_parts, bound_o
 use Rattle.page_store.proofs.RecordLaws.{one_record}
 use Rattle.btree_walk.specs.Finds.{Finds}
 use Rattle.btree_walk.specs.Mapped.{IsListedWithin, IsMappedAs, entry_of}
-use Rattle.btree_walk.specs.Nodes.{Node, node_at, branches, Joined, Nodes, NodesOf, listed}
+use Rattle.btree_walk.specs.Nodes.{Node, branches, Joined, Nodes, NodesOf, listed}
 use Rattle.btree_walk.specs.Ways.{IsEntryOf, IsWay}
-use Rattle.btree_walk.proofs.ApartLaws.{bound_most}
 use Rattle.btree_walk.proofs.Elements.{Contains-head, Contains-tail}
-use Rattle.btree_walk.proofs.ListLaws.{none_below}
 use Rattle.btree_walk.proofs.LevelLaws.{above_leaves}
+use Rattle.btree_walk.proofs.OrderLaws.{leaf_listed, nodes_within}
 use Rattle.btree_walk.proofs.MappedLaws.{found_is_mapped}
 use Rattle.btree_walk.proofs.ShowsLaws.{listed-append, listed-inner}
 use Rattle.btree_walk.proofs.TurnLaws.{lows}
@@ -31,33 +30,9 @@ use Rattle.btree_twigs.specs.declared.twigs.Child.TheOpen.{Kept}
 use Rattle.btree_twigs.specs.declared.twigs.Child.TheVariants as made
 use Rattle.btree_update.specs.declared.groves.Grove.{Grove}
 use Rattle.btree_update.specs.Finding.{FindsBelow, GroveFinds, RootFindsBy}
-use Rattle.btree_update.specs.GroveTree.{top_want}
 use Rattle.grove_accounts.specs.Holding.{IsTreeOf}
 use Rattle.device_session.specs.Reading.{FindsContent, ReadsAs}
-
--- ---- the entries below a place lie within its bounds
-
-wider : (low high addr low' high' addr' : ℕ) (es : List Entry) → low ≤ low' → high' ≤ high → addr' ≤ addr → All (IsListedWithin low' high' addr') es → All (IsListedWithin low high addr) es
-wider low high addr low' high' addr' es l h a all =
-    All-weaker (IsListedWithin low' high' addr') (IsListedWithin low high addr)
-    (λ e is. (let from = is.from in let to = is.to in let under = is.under in record { from = omega arith; to = omega arith; under = omega arith })) es all
-
-abbrev ListWithin : (Want → List ℕ → List Node → Type 0) → Type 0
-ListWithin Below = (want : Want) (key : List ℕ) (nodes : List Node) → Below want key nodes → All (IsListedWithin want.low want.high want.addr) (listed nodes)
-
-each_within : (Below : Want → List ℕ → List Node → Type 0) (order level low high addr : ℕ) (es : List Entry) (nodes : List Node) → ListWithin Below → All (λ e. low ≤ e.low) es → All (λ e. e.low < high) es → All (λ e. e.addr < addr) es
-    → Joined (λ b. Below b.want b.key) (branches order level high es) nodes → All (IsListedWithin low high addr) (listed nodes)
-each_within Below order level low high addr [] nodes within from to under is =
-    subst (λ (ns : List Node). All (IsListedWithin low high addr) (listed ns)) (sym is) (All-nil (IsListedWithin low high addr))
-each_within Below order level low high addr (e ∷ es) nodes within from to under is =
-    let to' = All-tail (λ (x : Entry). x.low < high) e es to in
-    let below = All-head (λ (x : Entry). x.addr < addr) e es under in
-    let first = within (child_want order level e (bound_of es high)) e.key is.first is.one in
-    let first' = wider low high addr e.low (bound_of es high) e.addr (listed is.first) (All-head (λ (x : Entry). low ≤ x.low) e es from) (bound_most high es to') (omega arith) first in
-    let rest = each_within Below order level low high addr es is.rest within (All-tail (λ (x : Entry). low ≤ x.low) e es from) to' (All-tail (λ (x : Entry). x.addr < addr) e es under) is.others in
-    let both = All-append (IsListedWithin low high addr) (listed is.first) (listed is.rest) first' rest in
-    subst (λ (ns : List Node). All (IsListedWithin low high addr) (listed ns)) (sym is.is)
-    (subst (All (IsListedWithin low high addr)) (sym (listed-append is.first is.rest)) both)
+use Rattle.device_session.proofs.ChangedLaws.{from_root, wanted_root}
 
 -- a look-up of an entry's block, from a place so many levels above the leaves on, comes to a content
 record Reads (pages : List (List ℕ)) (order level : ℕ) (want : Want) (key : List ℕ) (e : Entry) : Type 0 where
@@ -87,21 +62,6 @@ record GrowsBelow (pages : List (List ℕ)) (order level high : ℕ) (entries : 
   lists : map entry_of (joined children).mapped ≡ listed nodes
 
 module _ (pages : List (List ℕ)) (order : ℕ) where
-  leaf_listed : (want : Want) (entries : List Entry) (below nodes : List Node) → Joined (λ b. Nodes pages order zero b.want b.key) (branches order zero want.high entries) below → nodes ≡ node_at want.addr 1 entries ∷ below → listed nodes ≡ entries
-  leaf_listed want entries below nodes each is =
-      let none : below ≡ [] = none_below pages order (branches order zero want.high entries) below each in
-      ap listed (is ∙ ap (λ (ns : List Node). node_at want.addr 1 entries ∷ ns) none) ∙ append-nil entries
-
-  nodes_within : (level : ℕ) → ListWithin (Nodes pages order (suc level))
-  unfolding Nodes
-  nodes_within zero want key nodes is =
-      let fits = is.fits in
-      let all : All (IsListedWithin want.low want.high want.addr) is.entries = (λ k d h. record { from = fits.1.from_low k d h; to = fits.1.below_high k d h; under = fits.0.in_range.0.below k d h }) in
-      subst (All (IsListedWithin want.low want.high want.addr)) (sym (leaf_listed want is.entries is.below nodes is.each is.is)) all
-  nodes_within (suc level) want key nodes is =
-      let below = each_within (Nodes pages order (suc level)) order (suc level) want.low want.high want.addr is.entries is.below (nodes_within level) is.fits.1.from_low is.fits.1.below_high is.fits.0.in_range.0.below is.each in
-      subst (All (IsListedWithin want.low want.high want.addr)) (sym (ap listed is.is ∙ listed-inner want.addr level is.entries is.below)) below
-
   -- ---- the data records of a leaf
 
   leaf_data : (high : ℕ) (es : List Entry) → ((e : Entry) → Contains es e → (content : List ℕ) × FitsAt pages (block_want e.addr e.low) e.key (DataRecord e.low content))
@@ -116,7 +76,7 @@ module _ (pages : List (List ℕ)) (order : ℕ) where
   grows_leaf : (want : Want) (key : List ℕ) (nodes : List Node) → want.addr < 2 ^ 64 → Nodes pages order (suc zero) want key nodes → ((e : Entry) → Contains (listed nodes) e → Reads pages order zero want key e) → Grows pages order (suc zero) want key nodes
   unfolding Subtree Nodes Finds
   grows_leaf want key nodes small is reads =
-      let whole : listed nodes ≡ is.entries = leaf_listed want is.entries is.below nodes is.each is.is in
+      let whole : listed nodes ≡ is.entries = leaf_listed pages order want is.entries is.below nodes is.each is.is in
       let built = leaf_data want.high is.entries (λ e has.
       (let r = reads e (subst (λ (es : List Entry). Contains es e) (sym whole) has) in
       let value : NodeRecord 1 r.finds.entries ≡ NodeRecord 1 is.entries = one_record pages want.addr key _ _ small r.finds.fits.0 is.fits.0 in
@@ -140,7 +100,7 @@ module _ (pages : List (List ℕ)) (order : ℕ) where
   each_grows level high whole before (x ∷ es) nodes grow split up small is reads =
       let bound = bound_of es high in
       let lists : listed nodes ≡ listed is.first ++ listed is.rest = ap listed is.is ∙ listed-append is.first is.rest in
-      let within = nodes_within level (child_want order (suc level) x bound) x.key is.first is.one in
+      let within = nodes_within pages order level (child_want order (suc level) x bound) x.key is.first is.one in
       let one = grow (child_want order (suc level) x bound) x.key is.first (All-head (λ (e : Entry). e.addr < 2 ^ 64) x es small) is.one (λ e has.
       (let r = reads e (subst (λ (l : List Entry). Contains l e) (sym lists) (Contains-append_left (listed is.first) (listed is.rest) e has)) in
       let lies = All-contains (IsListedWithin x.low bound x.addr) (listed is.first) e within has in
@@ -178,22 +138,8 @@ module _ (pages : List (List ℕ)) (order : ℕ) where
         lists = below.lists ∙ sym whole;
       }
 
--- ---- the tree of a root record
+-- ---- the tree of a root record is whole
 
--- what is wanted of the root of a tree without a change
-wanted : (root : Root) (grove : Grove) → IsTreeOf root grove → top_want grove.order grove.blocks (suc (grove.level - 1)) root.addr ≡ root_want root
-wanted root grove of =
-    let level : suc (grove.level - 1) ≡ root.level = above_leaves grove.level of.sound.one ∙ of.level in
-    ap (λ n. top_want n grove.blocks (suc (grove.level - 1)) root.addr) of.order ∙ (ap (λ n. top_want root.order n (suc (grove.level - 1)) root.addr) of.blocks ∙ ap (λ n. top_want root.order root.blocks n root.addr) level)
-
--- a look-up in it goes down from the root
-pub finds_root : (pages : List (List ℕ)) (root : Root) (grove : Grove) (block : ℕ) (found : Option Entry) → IsTreeOf root grove → GroveFinds pages block grove found → FindsBelow (FitsAt pages) block (root_want root) root.key found
-finds_root pages root grove block found of is =
-    let out : out-Child grove.top ≡ Kept 0 root.addr root.key = ap out-Child of.top ∙ made.outs-Kept 0 root.addr root.key in
-    subst (λ w. FindsBelow (FitsAt pages) block w root.key found) (wanted root grove of)
-    (subst (λ x. RootFindsBy (FitsAt pages) grove.order block (grove.level - 1) grove.blocks x found) out is)
-
--- is whole
 pub tree_grown : (pages : List (List ℕ)) (root : Root) (nodes : List Node) (grove : Grove) → FitsRoot root → IsTreeOf root grove → NodesOf pages root nodes → ((e : Entry) → Contains (listed nodes) e → (content : List ℕ) × FindsContent pages grove e.low content)
     → (parts : Parts) × Tree pages root parts × (map entry_of parts.mapped ≡ listed nodes)
 tree_grown pages root nodes grove fits of are reads =
@@ -201,7 +147,7 @@ tree_grown pages root nodes grove fits of are reads =
     let whole = grows pages root.order (root.level - 1) (root_want root) root.key nodes (omega (arith, fits.addr, fits.head)) (subst (λ (n : ℕ). Nodes pages root.order n (root_want root) root.key nodes) (sym up) are)
     (λ e has.
     (let r = reads e has in
-    let f = finds_root pages root grove e.low r.1.found of r.1.finds in
+    let f = from_root pages root grove e.low r.1.found of r.1.finds in
     record { found = r.1.found; path = f.0; finds = f.1; content = r.0; reads = r.1.reads })) in
     (whole.parts, subst (λ (n : ℕ). Subtree pages root.order n (root_want root) root.key whole.parts) up whole.tree, whole.lists)
 
@@ -326,10 +272,10 @@ looked_up pages root nodes grove block fits of are less =
     let one = looks pages root.order (root.level - 1) block (root_want root) root.key nodes (omega (arith, fits.order_least)) (least_root root.level) (omega arith) less (subst (λ (n : ℕ). Nodes pages root.order n (root_want root) root.key nodes) (sym up) are) in
     let down : FindsBelow (FitsAt pages) block (root_want root) root.key one.found = (one.path, one.finds) in
     let out : out-Child grove.top ≡ Kept 0 root.addr root.key = ap out-Child of.top ∙ made.outs-Kept 0 root.addr root.key in
-    (one.found, subst (λ x. RootFindsBy (FitsAt pages) grove.order block (grove.level - 1) grove.blocks x one.found) (sym out) (subst (λ w. FindsBelow (FitsAt pages) block w root.key one.found) (sym (wanted root grove of)) down), one.among)
+    (one.found, subst (λ x. RootFindsBy (FitsAt pages) grove.order block (grove.level - 1) grove.blocks x one.found) (sym out) (subst (λ w. FindsBelow (FitsAt pages) block w root.key one.found) (sym (wanted_root root grove of)) down), one.among)
 
 -- what it comes to is what the tree has
 pub found_mapped : (pages : List (List ℕ)) (root : Root) (parts : Parts) (grove : Grove) (block : ℕ) (found : Option Entry) → FitsRoot root → IsTreeOf root grove → Tree pages root parts → GroveFinds pages block grove found → IsMappedAs parts.mapped block found
 found_mapped pages root parts grove block found fits of tree is =
-    let down = finds_root pages root grove block found of is in
+    let down = from_root pages root grove block found of is in
     found_is_mapped pages root.order (root.level - 1) block (root_want root) root.key down.0 parts found (omega (arith, fits.addr, fits.head)) (subst (λ (n : ℕ). Subtree pages root.order n (root_want root) root.key parts) (sym (above_leaves root.level fits.level_least)) tree) down.1

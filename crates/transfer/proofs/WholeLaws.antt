@@ -4,7 +4,7 @@ use Rattle.std.specs.Prelude.{◌↔◌, ◌⊎◌, All, Bool, Contains, IfOk, I
 use Rattle.std.specs.FinMap.{from_entries}
 use Rattle.std.specs.List.{AllByRecursion}
 use Rattle.std.proofs.lemmas.Bool.{cases_eq}
-use Rattle.std.proofs.lemmas.List.{length-map, take_all}
+use Rattle.std.proofs.lemmas.List.{length-map}
 use Rattle.std.proofs.lemmas.List.Elements.{All-append, All-cons, All-contains, All-contains_itself, All-head, All-nil, All-weaker, Contains-append_left, Contains-append_right}
 use Rattle.std.proofs.lemmas.Result.{IfOk-weaker}
 use Rattle.key_graph.proofs.ChainLaws.{map_contains}
@@ -13,7 +13,7 @@ use Rattle.platform.specs.Calls.{Looks}
 use Rattle.platform.specs.History.{CellStays, Extends, History, moment}
 use Rattle.platform.specs.Image.{Image}
 use Rattle.platform.specs.declared.platforms.Platform.{Ghosts as PlatformGhosts}
-use Rattle.platform.proofs.Moments.{During-now, Extends-earlier, image_at-now, whole-now}
+use Rattle.platform.proofs.Moments.{During-now, image_at-now}
 use Rattle.node_codec.specs.declared.body.Entry.{Entry}
 use Rattle.root_codec.specs.Laws.{one_root}
 use Rattle.root_codec.specs.RootRecord.{FitsRoot, root_bytes}
@@ -36,10 +36,12 @@ use Rattle.device_session.specs.Damage.{HasPut, IsMiscounted}
 use Rattle.device_session.specs.Open.{IsOpen, IsTreeFor, blocks_of, is_touched, root_of}
 use Rattle.device_session.specs.Reading.{FindsContent, KeepsBlock, ReadsAs}
 use Rattle.device_session.specs.Sessions.{Session}
+use Rattle.device_core.proofs.CopyingLaws.{padded_whole}
 use Rattle.session_calls.specs.Along.{Along, Drawn}
 use Rattle.session_calls.specs.Damage.{IsMounted, IsWrongPage}
 use Rattle.session_calls.specs.Mounts.{IsFound}
 use Rattle.session_calls.specs.declared.stops.DeviceStop.{DeviceStop}
+use Rattle.session_calls.proofs.AlongLaws.{pages_still}
 use Rattle.device_session.proofs.KeepLaws.{block_then, still_keeps}
 use Rattle.device_session.proofs.OrderLaws.{places_up}
 use Rattle.device_session.proofs.ReadLaws.{HasRecord, IsArray, content_none, entry_read, grove_maps, grove_tiles, parts_records}
@@ -62,12 +64,7 @@ whatever P (Err halt) p = tt
 pub pages_same : {S : Type 0} (P : PlatformGhosts S) (platform platform_now : S) (drawn drawn_now : Drawn) (session now : Session) → (P.tells → (there : S) → length (P.history there).present.recorded ≡ P.head there) → Along P 0 platform platform_now drawn drawn_now session now
     → P.tells → (P.history platform_now).present.readable ≡ (P.history platform).present.readable
 pages_same P platform platform_now drawn drawn_now session now pages along told =
-    let old : Image = (P.history platform).present in
-    let new : Image = (P.history platform_now).present in
-    let head : P.head platform_now ≡ P.head platform = omega (arith, along.rises, along.adds) in
-    let size : length new.recorded ≡ length old.recorded = pages told platform_now ∙ (head ∙ sym (pages told platform)) in
-    let many : length new.readable ≡ length new.recorded = (whole-now (P.history platform_now)).as_many in
-    sym (take_all (length old.recorded) new.readable (omega (arith, size, many))) ∙ (Extends-earlier (P.history platform) (P.history platform_now) (along.cell told).extends).readable
+    pages_still (P.history platform) (P.history platform_now) (P.head platform) (P.head platform_now) (along.cell told).extends (pages told platform) (pages told platform_now) (omega (arith, along.rises, along.adds))
 
 -- what a look-up comes to later in the same tree, over the same pages, it came to
 pub finds_as : (image later : Image) (session now : Session) (block : ℕ) (content : List ℕ) → later.readable ≡ image.readable → now.grove ≡ session.grove → FindsContent later.readable now.grove block content → FindsContent image.readable session.grove block content
@@ -119,9 +116,6 @@ sees_same from_tells to_tells from to mid source target blocks others is_true (O
 
 -- ---- what was copied
 
-full : (bytes : List ℕ) → length bytes ≡ 4096 → padded bytes ≡ bytes
-full bytes size = let none : 4096 - length bytes ≡ 0 = omega (arith, size) in ap (λ (n : ℕ). bytes ++ replicate n 0) none ∙ append-nil bytes
-
 -- nothing yet
 pub copied_none : (from_tells to_tells : Type 0) (from to : Image) (source target : Session) → CopiesTree from_tells to_tells from to to source target target []
 copied_none from_tells to_tells from to source target = record {
@@ -135,7 +129,7 @@ pub copied_one : (from_tells to_tells : Type 0) (from to to_now : Image) (source
 copied_one from_tells to_tells from to to_now source target now block bytes size here put =
     let One : ℕ → Type 0 = HasOne from_tells to_tells from to_now source now in
     record {
-      each = All-cons One block [] (record { content = bytes; here = here; there = λ told. subst (FindsContent to_now.readable now.grove block) (full bytes size) (put told).left.content }) (All-nil One);
+      each = All-cons One block [] (record { content = bytes; here = here; there = λ told. subst (FindsContent to_now.readable now.grove block) (padded_whole bytes size) (put told).left.content }) (All-nil One);
       others = λ told other less not_one. (put told).left.others other less (λ same. not_one (subst (Contains (block ∷ [])) (sym same) (0, omega arith, refl)));
     }
 
