@@ -1,19 +1,17 @@
 -- Bytes that look-ups find.
 use Rattle.std.proofs.Common.{◌≡◌, ◌<◌, ◌≤◌, ◌+◌, ◌*◌, ◌++◌, ◌⊎◌, ◌∙◌, ℕ, zero, suc, List, [], ◌∷◌, Some, Result, Ok, Err, inl, inr, length, length-take, take, get_or, refl, sym, ap, subst, arith}
 use Rattle.std.specs.Prelude.{◌/◌, OnOk, slice_get}
-use Rattle.std.proofs.lemmas.List.{take_all}
 use Rattle.std.proofs.lemmas.Option.{slice_get-get_or}
 use Rattle.byte_arrays.specs.Arrays.{bytes_at, byte_of}
 use Rattle.byte_arrays.proofs.ArrayLaws.{block_of_place, byte_in_block, place_in_block}
 use Rattle.platform.specs.Image.{Image}
-use Rattle.platform.specs.History.{Extends, History}
 use Rattle.platform.specs.declared.platforms.Platform.{Ghosts as PlatformGhosts}
-use Rattle.platform.proofs.Moments.{Extends-earlier, whole-now}
 use Rattle.device_session.specs.Reading.{FindsContent}
 use Rattle.device_session.specs.Sessions.{Session}
 use Rattle.session_calls.specs.Along.{Along, Drawn}
 use Rattle.session_calls.specs.Damage.{ReadsAny}
 use Rattle.session_calls.specs.declared.stops.DeviceStop.{DeviceStop}
+use Rattle.session_calls.proofs.AlongLaws.{pages_still}
 use Rattle.session_calls.proofs.DamageLaws.{read_meets}
 use Rattle.nbd_core.specs.Found.{FindsByte, FindsBytes, FindsSame, ReadsFound}
 
@@ -101,13 +99,6 @@ same_byte image after session now place byte same finds = record {
 
 pub same_bytes : (image after : Image) (session now : Session) (place : ℕ) (bytes : List ℕ) → FindsSame image after session now → FindsBytes after now place bytes → FindsBytes image session place bytes
 same_bytes image after session now place bytes same finds i byte there = same_byte image after session now (place + i) byte same (finds i byte there)
-
--- where as many pages are handed over as were, each reads as it did
-pub pages_still : (old new : History) (head head_now : ℕ) → Extends old new → length old.present.recorded ≡ head → length new.present.recorded ≡ head_now → head_now ≡ head → new.present.readable ≡ old.present.readable
-pages_still old new head head_now extends many many_now same =
-    let earlier = Extends-earlier old new extends in
-    let size : length new.present.readable ≡ length old.present.recorded = omega (arith, (whole-now new).as_many, many, many_now, same) in
-    sym (take_all (length old.present.recorded) new.present.readable (omega (arith, size))) ∙ earlier.readable
 
 -- ---- a read of bytes
 

@@ -1,7 +1,6 @@
 -- Blocks of which look-ups find behind a call what they found before, and those that a trim or a write changed.
-use Rattle.std.proofs.Common.{◌≡◌, ◌≢◌, ◌<◌, ◌≤◌, ◌+◌, ◌-◌, ◌*◌, ◌++◌, ◌⊎◌, ◌∙◌, ℕ, List, [], None, Some, Result, Ok, Err, false, inl, inr, length, length-append, take, drop, get_or, replicate, append-nil, refl, sym, ap, subst, arith}
+use Rattle.std.proofs.Common.{◌≡◌, ◌≢◌, ◌<◌, ◌≤◌, ◌+◌, ◌-◌, ◌*◌, ◌++◌, ◌⊎◌, ◌∙◌, ℕ, List, [], None, Some, Result, Ok, Err, false, inl, inr, length, length-append, take, drop, get_or, refl, sym, ap, subst, arith}
 use Rattle.std.specs.Prelude.{◌/◌, ◌%◌, All, Contains, IfErr, OnOk, slice_get}
-use Rattle.sdbt_base.specs.Arrays.{padded}
 use Rattle.session_calls.specs.Damage.{MeetsDamage}
 use Rattle.session_calls.specs.declared.stops.DeviceStop.{DeviceStop}
 use Rattle.std.proofs.lemmas.Bool.{cases_lt}
@@ -233,11 +232,6 @@ written_all image after session now offset count n bytes size all written = reco
     ]
 
 -- ---- calls for blocks
-
-pub padded_whole : (bytes : List ℕ) → length bytes ≡ 4096 → padded bytes ≡ bytes
-padded_whole bytes size =
-    let none : 4096 - length bytes ≡ 0 = omega (arith, size) in
-    ap (λ (n : ℕ). bytes ++ replicate n 0) none ∙ append-nil bytes
 
 pub writes_found : (image after : Image) (session now : Session) (place : ℕ) (bytes : List ℕ) (result : Result (Unit {0}) DeviceStop) {Put : Type 0} → IfErr result (MeetsDamage after) → OnOk result Put → (Put → HasWritten image after session now place bytes)
     → WritesFound image after session now place bytes result

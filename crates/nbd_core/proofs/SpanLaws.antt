@@ -22,7 +22,6 @@ use Rattle.sdbt_base.specs.Arrays.{Device, State, closed}
 use Rattle.platform.specs.Image.{Image}
 use Rattle.platform.specs.History.{CellStays, Extends, History}
 use Rattle.page_store.specs.Stands.{Stands}
-use Rattle.page_store.specs.Roots.{IsBadCell}
 use Rattle.device_terms.specs.Served.{IsServedImage, IsServedCell}
 use Rattle.device_course.specs.Course.{MadeBetween}
 use Rattle.device_course.specs.Keys.{KeepsOn}
@@ -41,6 +40,7 @@ use Rattle.session_calls.specs.Spans.{Spans}
 use Rattle.session_calls.proofs.SpanLaws.{led_of, mounted_at}
 use Rattle.nbd_core.specs.declared.halts.Halt.{Halt}
 use Rattle.session_calls.proofs.CarryLaws.{stays_at}
+use Rattle.session_calls.proofs.MountLaws.{bad_served}
 use Rattle.nbd_core.proofs.DamageLaws.{told_since}
 use Rattle.nbd_core.proofs.TurnLaws.{array_since}
 
@@ -75,10 +75,6 @@ of_mount tells cell pages device.BadRoot is = tt
 of_mount tells cell pages device.Tape is = absurd is
 of_mount tells cell pages device.Ledger is = absurd is
 of_mount tells cell pages (device.BadRecord addr) is = absurd is
-
-bad_served : (cell : Option (List ℕ)) (pages : ℕ) → IsServedCell cell pages → IsBadCell pages cell → ⊥
-bad_served None pages served bad = bad.full refl
-bad_served (Some bytes) pages (root, served, same) bad = bad.bad root served (ap (λ (b : List ℕ). Some b) same)
 
 -- over a cell that can be served a mount doesn't stop at its root record
 pub late_mount : (tells : Type 0) (cell : Option (List ℕ)) (pages : ℕ) (stop : DeviceStop) (halt : Halt) → tells → IsServedCell cell pages → IsMountStop tells cell pages stop → halt ≡ mount_halt stop → IsLate halt

@@ -23,7 +23,7 @@ content_same contents block bytes =
     ap (λ o. unwrap_or o (replicate 4096 0)) (get-insert nat_cmp_total contents block bytes block ∙ ap (λ b. cond b (Some bytes) (map.get contents block)) (unsigned_tied block block ∙ eq-eqb block block refl))
 
 -- a whole block is not padded
-padded_whole : (bytes : List ℕ) → length bytes ≡ 4096 → padded bytes ≡ bytes
+pub padded_whole : (bytes : List ℕ) → length bytes ≡ 4096 → padded bytes ≡ bytes
 padded_whole bytes len = let none : 4096 - length bytes ≡ 0 = omega (arith, len) in ap (λ (n : ℕ). bytes ++ replicate n 0) none ∙ append-nil bytes
 
 written_there : (session : Session) (array : ℕ → ℕ) (block : ℕ) → content_of (written session block (bytes_at array (4096 * block) 4096)).contents block ≡ bytes_at array (4096 * block) 4096

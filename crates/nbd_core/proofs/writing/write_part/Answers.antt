@@ -1,10 +1,11 @@
 use Rattle.std.proofs.Common.{◌≡◌, Err, ◌∙◌, ap, length, refl, subst, arith}
 use Rattle.session_calls.specs.Along.{drawn_by}
+use Rattle.nbd_terms.proofs.ArrayOfLaws.{padded_whole}
 use Rattle.nbd_core.proofs.ArrayLaws.{adds_behind, adds_none, adds_one, on_stop, writes_patched, writes_unread, writes_whole}
 use Rattle.session_calls.proofs.DamageLaws.{read_meets, write_meets}
 use Rattle.device_session.specs.Damage.{HasPut}
 use Rattle.nbd_core.proofs.FoundLaws.{same_of_call}
-use Rattle.nbd_core.proofs.KeptLaws.{padded_whole, pasted, put_part, put_whole, writes_found}
+use Rattle.nbd_core.proofs.KeptLaws.{pasted, put_part, put_whole, writes_found}
 use Rattle.session_calls.proofs.CallLaws.{calls_of, calls_then, calls_stopped, platform_quiet}
 use Rattle.nbd_core.proofs.writing.write_part.Goals as goal
 
