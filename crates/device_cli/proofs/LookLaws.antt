@@ -1,8 +1,9 @@
 -- How the page reads of lines that only look add up.
-use Rattle.std.proofs.Common.{◌≡◌, ℕ, ◌+◌, ◌<◌, ◌≤◌, ◌==◌, List, [], ◌∷◌, ◌++◌, Option, None, Some, Result, Ok, inl, inr, refl, sym, subst, arith, eqb-true}
+use Rattle.std.proofs.Common.{◌≡◌, ℕ, ◌+◌, ◌*◌, ◌<◌, ◌≤◌, ◌==◌, List, [], ◌∷◌, ◌++◌, Option, None, Some, Result, Ok, inl, inr, refl, sym, subst, arith, eqb-true}
+use Rattle.std.specs.Prelude.{IfSome}
 use Rattle.std.proofs.lemmas.Bool.{cases_Bool}
 use Rattle.platform.specs.declared.platforms.Platform.{Ghosts}
-use Rattle.device_session.specs.Open.{blocks_of}
+use Rattle.device_session.specs.Open.{IsOpen, blocks_of}
 use Rattle.device_session.specs.Reading.{KeepsWayTo, room_of}
 use Rattle.session_calls.specs.Goes.{ReadsPages}
 use Rattle.session_calls.specs.declared.stops.DeviceStop.{DeviceStop}
@@ -11,18 +12,18 @@ use Rattle.script_lang.specs.Grammar.{Spells, IsBad}
 use Rattle.script_lang.proofs.CommandLaws.{one_command}
 use Rattle.device_session.specs.Sessions.{Session}
 use Rattle.device_cli.specs.World.{World}
-use Rattle.device_cli.specs.Looks.{IsLook, IsWarmFor, AreLooks, LooksOn, block_read, most_for, most_reads}
+use Rattle.device_cli.specs.Looks.{IsBounded, IsWarmFor, AreBounded, LooksOn, block_read, most_for, most_reads}
 
 -- lines that look are such lines and then others
 record Parted (before : Option ℕ) (lines more : List (List ℕ)) (most : ℕ) (after : Option ℕ) : Type 0 where
   pub between : Option ℕ
   pub first : ℕ
   pub second : ℕ
-  pub front : AreLooks before lines first between
-  pub behind : AreLooks between more second after
+  pub front : AreBounded before lines first between
+  pub behind : AreBounded between more second after
   pub sum : most ≡ first + second
 
-parted : (before after : Option ℕ) (lines more : List (List ℕ)) (most : ℕ) → AreLooks before (lines ++ more) most after → Parted before lines more most after
+parted : (before after : Option ℕ) (lines more : List (List ℕ)) (most : ℕ) → AreBounded before (lines ++ more) most after → Parted before lines more most after
 parted before after [] more most h = record { between = before; first = 0; second = most; front = (refl, refl); behind = h; sum = omega arith }
 parted before after (line ∷ lines) more most (command, spells, look, others, rest, is) =
     let p = parted (block_read command) after lines more others rest in
@@ -66,11 +67,11 @@ looks_weaker tells old new lines Was Done leads p told before after most warm h 
 
 -- a line that spells a command
 pub looks_line : (tells : Type 0) (old new : World) (line : List ℕ) (command : Command) (Done : Type 0) → Spells line command
-    → (tells → (before : Option ℕ) → IsWarmFor old.session before → IsLook command → (new.reads ≤ old.reads + most_reads before command) × (Done → IsWarmFor new.session (block_read command)))
+    → (tells → (before : Option ℕ) → IsWarmFor old.session before → IsBounded command → (new.reads ≤ old.reads + most_reads before command) × (Done → IsWarmFor new.session (block_read command)))
     → LooksOn tells old new (line ∷ []) Done
 looks_line tells old new line command Done spells looks told before after most warm (other, reads, look, others, (none, last), is) =
     let same : other ≡ command = one_command line other command reads spells in
-    let here = looks told before warm (subst IsLook same look) in
+    let here = looks told before warm (subst IsBounded same look) in
     let few : most ≡ most_reads before command + others = subst (λ (c : Command). most ≡ most_reads before c + others) same is in
     let block : after ≡ block_read command = subst (λ (c : Command). after ≡ block_read c) same last in
     (omega (arith, here.0, few, none), λ done. subst (λ (b : Option ℕ). IsWarmFor new.session b) (sym block) (here.1 done))
@@ -110,3 +111,21 @@ pub warm_after : {S : Type 0} (P : Ghosts S) (block : ℕ) (platform after : S) 
 warm_after P block platform after session now before tells low warm same few =
     let room : 20 ≤ room_of now = omega (arith, same, has_room session before warm) in
     (room, λ within. few.fills tells (omega (arith, room, low)))
+
+-- a session that is there, and has room for a node of each level
+pub open_there : (held : Option Session) (session : Session) (head : ℕ) → held ≡ Some session → IfSome held (λ s. IsOpen s head) → session.grove.level ≤ 20
+open_there held session head is open' = (subst (λ (h : Option Session). IfSome h (λ s. IsOpen s head)) is open').level
+
+pub warm_there : (held : Option Session) (session : Session) (before : Option ℕ) → held ≡ Some session → IsWarmFor held before → IsWarmFor (Some session) before
+warm_there held session before is warm = subst (λ (h : Option Session). IsWarmFor h before) is warm
+
+-- a command that is refused before the session is asked leaves it as warm
+pub still_warm : (held : Option Session) (session : Session) (before : Option ℕ) → held ≡ Some session → IsWarmFor held before → 20 ≤ room_of session
+still_warm held session before is warm = has_room session before (warm_there held session before is warm)
+
+-- what an update costs, and that it leaves the cache its room
+pub update_cost : (held : Option Session) (session now : Session) (head reads reads_now : ℕ) (before : Option ℕ) → held ≡ Some session → IfSome held (λ s. IsOpen s head) → IsWarmFor held before
+    → room_of now ≡ room_of session → reads_now ≤ reads + (2 * session.grove.level + 1) → (reads_now ≤ reads + 41) × IsWarmFor (Some now) None
+update_cost held session now head reads reads_now before is open' warm same few =
+    let low = open_there held session head is open' in
+    (omega (arith, few, low), omega (arith, same, still_warm held session before is warm))

@@ -1,22 +1,24 @@
--- How often a run reads a page or looks at the cell, at lines that change no block.
+-- How often a run reads a page or looks at the cell, at lines that neither go over the whole tree nor hand a new one over.
 use Rattle.std.specs.Prelude.{◌≡◌, ℕ, ◌+◌, ◌<◌, ◌≤◌, ◌==◌, if◌then◌else◌, List, [], ◌∷◌, Option, None, Some}
 use Rattle.script_lang.specs.Commands.{Command}
-use Rattle.script_lang.specs.Commands.{Erase, Format, Mount, Read, Drop, Stat}
+use Rattle.script_lang.specs.Commands.{Erase, Format, Mount, Read, Write, Trim, Drop, Stat}
 use Rattle.script_lang.specs.Grammar.{Spells}
 use Rattle.device_session.specs.Open.{blocks_of}
 use Rattle.device_session.specs.Reading.{KeepsWayTo, room_of}
 use Rattle.device_session.specs.Sessions.{Session}
 use Rattle.device_cli.specs.World.{World}
 
--- the command makes, mounts or erases a device, reads a block, or tells of the session, or gives it up
-abbrev pub IsLook : Command → Type 0
-IsLook (Format blocks order) = Unit {0}
-IsLook Erase = Unit {0}
-IsLook Mount = Unit {0}
-IsLook (Read block) = Unit {0}
-IsLook Stat = Unit {0}
-IsLook Drop = Unit {0}
-IsLook _ = ⊥
+-- the command makes, mounts or erases a device, reads, writes or trims a block, or tells of the session, or gives it up
+abbrev pub IsBounded : Command → Type 0
+IsBounded (Format blocks order) = Unit {0}
+IsBounded Erase = Unit {0}
+IsBounded Mount = Unit {0}
+IsBounded (Read block) = Unit {0}
+IsBounded (Write block content) = Unit {0}
+IsBounded (Trim block) = Unit {0}
+IsBounded Stat = Unit {0}
+IsBounded Drop = Unit {0}
+IsBounded _ = ⊥
 
 -- the block that it reads
 abbrev pub block_read : Command → Option ℕ
@@ -28,20 +30,22 @@ abbrev pub most_for : Option ℕ → ℕ → ℕ
 most_for None block = 21
 most_for (Some before) block = if before == block then 1 else 21
 
--- so many pages are read at most, and looks at the cell made, for any of these commands behind one that read this block: one look to make, mount or erase a device, and
--- none for what only tells of the session
+-- so many pages are read at most, and looks at the cell made, for any of these commands behind one that read this block: one look to make, mount or erase a device; two pages
+-- for each of 20 levels and one more for an update; and none for what only tells of the session
 abbrev pub most_reads : Option ℕ → Command → ℕ
 most_reads before (Format blocks order) = 1
 most_reads before Mount = 1
 most_reads before Erase = 1
 most_reads before (Read block) = most_for before block
+most_reads before (Write block content) = 41
+most_reads before (Trim block) = 41
 most_reads before _ = 0
 
 -- the lines spell such commands, behind one that read this block; so much is read for them at most, and the last of them reads this block
-abbrev pub AreLooks : Option ℕ → List (List ℕ) → ℕ → Option ℕ → Type 0
-AreLooks before [] most after = (most ≡ 0) × (after ≡ before)
-AreLooks before (line ∷ lines) most after =
-    (command : Command) × Spells line command × IsLook command × (others : ℕ) × AreLooks (block_read command) lines others after × (most ≡ most_reads before command + others)
+abbrev pub AreBounded : Option ℕ → List (List ℕ) → ℕ → Option ℕ → Type 0
+AreBounded before [] most after = (most ≡ 0) × (after ≡ before)
+AreBounded before (line ∷ lines) most after =
+    (command : Command) × Spells line command × IsBounded command × (others : ℕ) × AreBounded (block_read command) lines others after × (most ≡ most_reads before command + others)
 
 -- the cache has room for a node of each level, and keeps each node on the way to the block that was read last, if one was
 abbrev pub IsWarmFor : Option Session → Option ℕ → Type 0
@@ -52,5 +56,5 @@ IsWarmFor (Some session) (Some block) = (20 ≤ room_of session) × (block < blo
 -- where the lines are such, no more is read than this; and where all are done, the cache is ready for the next one
 abbrev pub LooksOn : Type 0 → World → World → List (List ℕ) → Type 0 → Type 0
 LooksOn tells old new lines Done =
-    tells → (before after : Option ℕ) (most : ℕ) → IsWarmFor old.session before → AreLooks before lines most after
+    tells → (before after : Option ℕ) (most : ℕ) → IsWarmFor old.session before → AreBounded before lines most after
     → (new.reads ≤ old.reads + most) × (Done → IsWarmFor new.session after)

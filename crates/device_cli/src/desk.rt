@@ -194,6 +194,7 @@ impl Desk {
         ensures keeps { (written : Option (List ℕ))
             → KeepsFrom P.Platform (T.drawn tape.old) (T.drawn tape.new) written written self.old self.new platform.old platform.new result }
         ensures answered { P.tells → ServesAny P.Platform self.old self.new platform.old platform.new (commands.Write block (take count self.old.buffer)) result }
+        ensures looks { P.tells → LooksFew P.Platform self.old self.new platform.old platform.new (commands.Write block (take count self.old.buffer)) result }
     {
         let Some(session) = &mut self.session else {
             return Ok(Reply::Unmounted);
@@ -217,6 +218,7 @@ impl Desk {
         ensures enough { StaysEnough self.old self.new result }
         ensures keeps { KeepsStill P.Platform self.old self.new platform.old platform.new result }
         ensures answered { P.tells → ServesAny P.Platform self.old self.new platform.old platform.new (commands.Trim block) result }
+        ensures looks { P.tells → LooksFew P.Platform self.old self.new platform.old platform.new (commands.Trim block) result }
     {
         let Some(session) = &mut self.session else {
             return Ok(Reply::Unmounted);

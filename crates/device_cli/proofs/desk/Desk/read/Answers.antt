@@ -17,7 +17,7 @@ use Rattle.device_cli.specs.Replied.{Serves}
 use Rattle.device_cli.specs.World.{AreEnough, World, is_full, needed_of, world_of}
 use Rattle.device_cli.proofs.CallLaws.{after_stopped, halts_led, mounted_has, mounted_held, no_draw, no_root, on_held, past_device, room_held, read_sound, read_stops, serves_led, within_device}
 use Rattle.device_cli.proofs.EnoughLaws.{enough_less}
-use Rattle.device_cli.proofs.LookLaws.{has_room, read_cost, warm_after}
+use Rattle.device_cli.proofs.LookLaws.{has_room, open_there, read_cost, warm_after, warm_there}
 use Rattle.device_cli.proofs.ReplyLaws.{held_has}
 use Rattle.device_cli.proofs.ServedLaws.{gives_unmounted_read, gives_content, gives_read_range}
 use Rattle.device_cli.proofs.ServingLaws.{keeps_same, serves_unmounted}
@@ -149,13 +149,6 @@ pub returns-in_default-clause-looks : goal.returns-in_default-clause-looks
 returns-in_default-clause-looks g c told before warm look =
     let none : c.args.self.now.session ≡ None = grind (arith, common_steps, c.in_default.is) in
     (omega arith, λ done. subst (λ (session : Option Session). IsWarmFor session (Some c.args.block)) (sym none) tt)
-
--- the session is open, and has room for a node of each level
-open_there : (held : Option Session) (session : Session) (head : ℕ) → held ≡ Some session → IfSome held (λ s. IsOpen s head) → session.grove.level ≤ 20
-open_there held session head is open' = (subst (λ (h : Option Session). IfSome h (λ s. IsOpen s head)) is open').level
-
-warm_there : (held : Option Session) (session : Session) (before : Option ℕ) → held ≡ Some session → IsWarmFor held before → IsWarmFor (Some session) before
-warm_there held session before is warm = subst (λ (h : Option Session). IsWarmFor h before) is warm
 
 pub returns-then-block-blocks-clause-looks : goal.returns-then-block-blocks-clause-looks
 returns-then-block-blocks-clause-looks g c told before warm look =

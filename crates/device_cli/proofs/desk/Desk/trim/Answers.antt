@@ -1,4 +1,4 @@
-use Rattle.std.proofs.Common.{◌≡◌, ◌<◌, ◌≤◌, ◌⊎◌, false, None, Some, Err, refl, ◌∙◌, ap, rules, arith, sym}
+use Rattle.std.proofs.Common.{◌≡◌, ◌<◌, ◌≤◌, ◌⊎◌, false, Option, None, Some, Err, refl, ◌∙◌, ap, rules, arith, subst, sym}
 use Rattle.std.proofs.lemmas.Result.{err_from_is_err_and}
 use Rattle.std.proofs.lemmas.Grind.{common_steps}
 use Rattle.sdbt_base.specs.Arrays.{unmapped}
@@ -10,7 +10,9 @@ use Rattle.script_lang.specs.Commands.{Trim}
 use Rattle.script_lang.specs.Replies as replies
 use Rattle.device_cli.specs.World.{World, is_full, world_of}
 use Rattle.device_cli.proofs.CallLaws.{after_stopped, halts_led, mounted_has, mounted_held, no_draw, no_root, on_held, past_device, room_held, serves_led, trim_sound, trim_stops, within_device}
+use Rattle.device_cli.specs.Looks.{IsWarmFor}
 use Rattle.device_cli.proofs.EnoughLaws.{enough_more}
+use Rattle.device_cli.proofs.LookLaws.{still_warm, update_cost}
 use Rattle.device_cli.proofs.ReplyLaws.{held_has}
 use Rattle.device_cli.proofs.ServedLaws.{gives_unmounted_trim, gives_trimmed, gives_trim_range}
 use Rattle.device_cli.proofs.ServingLaws.{keeps_same, serves_unmounted}
@@ -128,3 +130,27 @@ returns-in_err-trim_block-clause-answered g c told entry rep =
     rw (stopped g c) (halts_led old new c.in-Some.session entry (Trim c.args.block) c.in_err-trim_block.field-0.0 c.in-Some.is (c.requires.cell told)
     (λ d t at. trim_sound _ c.trim_block.new.session d t c.args.block c.in_err-trim_block.field-0.0 (c.in_err-trim_block.ensures.leads told d t at))
     ((c.in_err-trim_block.ensures.goes (no_draw None)).along.cell told) rep)
+
+-- ---- what it reads
+
+pub returns-in_default-clause-looks : goal.returns-in_default-clause-looks
+returns-in_default-clause-looks g c told before warm look =
+    let none : c.args.self.now.session ≡ None = grind (arith, common_steps, c.in_default.is) in
+    (omega arith, λ done. subst (λ (session : Option Session). IsWarmFor session None) (sym none) tt)
+
+pub returns-then-block-blocks-clause-looks : goal.returns-then-block-blocks-clause-looks
+returns-then-block-blocks-clause-looks g c told before warm look = (omega arith, λ done. still_warm _ c.in-Some.session before c.in-Some.is warm)
+
+pub returns-clause-looks : goal.returns-clause-looks
+returns-clause-looks g c told before warm look =
+    let P = g.P.Platform in
+    let goes = (c.in_ok-trim_block.ensures.goes (no_draw None)) in
+    let cost = update_cost _ c.in-Some.session c.trim_block.new.session _ (P.reads c.args.platform.now) (P.reads c.trim_block.new.platform) before c.in-Some.is c.requires.ready warm goes.along.forgets.capacity (goes.reads told) in
+    (cost.0, λ done. cost.1)
+
+pub returns-in_err-trim_block-clause-looks : goal.returns-in_err-trim_block-clause-looks
+returns-in_err-trim_block-clause-looks g c told before warm look =
+    let P = g.P.Platform in
+    let goes = (c.in_err-trim_block.ensures.goes (no_draw None)) in
+    let cost = update_cost _ c.in-Some.session c.trim_block.new.session _ (P.reads c.args.platform.now) (P.reads c.trim_block.new.platform) before c.in-Some.is c.requires.ready warm goes.along.forgets.capacity (goes.reads told) in
+    (cost.0, rw (stopped g c) (λ done. absurd cc))

@@ -1,4 +1,4 @@
-use Rattle.std.proofs.Common.{◌≡◌, ◌<◌, ◌≤◌, ◌⊎◌, true, List, [], ◌∷◌, ℕ, None, Some, Err, refl, take, ◌∙◌, ap, rules, arith, sym}
+use Rattle.std.proofs.Common.{◌≡◌, ◌<◌, ◌≤◌, ◌⊎◌, true, List, [], ◌∷◌, ℕ, Option, None, Some, Err, refl, take, ◌∙◌, ap, rules, arith, subst, sym}
 use Rattle.std.proofs.lemmas.Grind.{common_steps}
 use Rattle.std.proofs.lemmas.Result.{err_from_is_err_and}
 use Rattle.sdbt_base.specs.Arrays.{padded, written}
@@ -10,7 +10,9 @@ use Rattle.script_lang.specs.Commands.{Write}
 use Rattle.script_lang.specs.Replies as replies
 use Rattle.device_cli.specs.World.{World, is_full, world_of}
 use Rattle.device_cli.proofs.CallLaws.{after_stopped, halts_led, mounted_has, mounted_held, no_root, on_held, past_device, room_held, serves_led, within_device, write_added, write_kept, write_sound, write_stops}
+use Rattle.device_cli.specs.Looks.{IsWarmFor}
 use Rattle.device_cli.proofs.EnoughLaws.{enough_more}
+use Rattle.device_cli.proofs.LookLaws.{still_warm, update_cost}
 use Rattle.page_store.proofs.KeepingLaws.{drew_none}
 use Rattle.device_cli.proofs.ReplyLaws.{held_has}
 use Rattle.device_cli.proofs.ServedLaws.{gives_unmounted_write, gives_write_full, gives_write_range, gives_written, is_full_false, is_full_true}
@@ -178,3 +180,30 @@ returns-clause-pages g c = c.in_ok-write_block.ensures.adds.0
 
 pub returns-in_err-write_block-clause-drew : goal.returns-in_err-write_block-clause-drew
 returns-in_err-write_block-clause-drew g c = rw (stopped g c) tt
+
+-- ---- what it reads
+
+pub returns-in_default-clause-looks : goal.returns-in_default-clause-looks
+returns-in_default-clause-looks g c told before warm look =
+    let none : c.args.self.now.session ≡ None = grind (arith, common_steps, c.in_default.is) in
+    (omega arith, λ done. subst (λ (session : Option Session). IsWarmFor session None) (sym none) tt)
+
+pub returns-then-block-blocks-clause-looks : goal.returns-then-block-blocks-clause-looks
+returns-then-block-blocks-clause-looks g c told before warm look = (omega arith, λ done. still_warm _ c.in-Some.session before c.in-Some.is warm)
+
+pub returns-then-head-capacity-clause-looks : goal.returns-then-head-capacity-clause-looks
+returns-then-head-capacity-clause-looks g c told before warm look = (omega arith, λ done. still_warm _ c.in-Some.session before c.in-Some.is warm)
+
+pub returns-clause-looks : goal.returns-clause-looks
+returns-clause-looks g c told before warm look =
+    let P = g.P.Platform in
+    let goes = c.in_ok-write_block.ensures.goes in
+    let cost = update_cost _ c.in-Some.session c.write_block.new.session _ (P.reads c.args.platform.now) (P.reads c.write_block.new.platform) before c.in-Some.is c.requires.before.ready warm goes.along.forgets.capacity (goes.reads told) in
+    (cost.0, λ done. cost.1)
+
+pub returns-in_err-write_block-clause-looks : goal.returns-in_err-write_block-clause-looks
+returns-in_err-write_block-clause-looks g c told before warm look =
+    let P = g.P.Platform in
+    let goes = c.in_err-write_block.ensures.goes in
+    let cost = update_cost _ c.in-Some.session c.write_block.new.session _ (P.reads c.args.platform.now) (P.reads c.write_block.new.platform) before c.in-Some.is c.requires.before.ready warm goes.along.forgets.capacity (goes.reads told) in
+    (cost.0, rw (stopped g c) (λ done. absurd cc))
