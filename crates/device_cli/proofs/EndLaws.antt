@@ -3,6 +3,7 @@ use Rattle.std.proofs.Common.{◌≡◌, ◌≤◌, ◌⊎◌, ◌+◌, ℕ, Lis
 use Rattle.std.specs.Prelude.{◌≢◌, IfErr}
 use Rattle.sdbt_base.specs.Arrays.{Device, closed}
 use Rattle.sdbt_base.specs.Faults.{Rose}
+use Rattle.platform.specs.Counts.{MayRiseByOne}
 use Rattle.platform.specs.History.{History, Steps}
 use Rattle.page_store.specs.Stands.{Stands}
 use Rattle.cert_checker.specs.Chain.{Accepted, chain_of}
@@ -85,13 +86,14 @@ serves_at tells status old new session ending alone then_alone untold is ran cau
     }
 
 pub checked_at : {S R I O L : Type 0} (tells : Type 0) (status : ℕ) (old new : Handed S R I O L) (ending : Result Finding Stop) → new.tape ≡ old.tape → new.ledger ≡ old.ledger → new.world.head ≡ old.world.head
-    → (tells → Steps old.world.history new.world.history) → (tells → new.world.history.present ≡ old.world.history.present) → status ≡ status_at ending
+    → (tells → Steps old.world.history new.world.history) → (tells → new.world.history.present ≡ old.world.history.present) → (tells → MayRiseByOne old.world.reads new.world.reads) → status ≡ status_at ending
     → Checks tells old.world.history.present old.left new.left old.written new.written ending → IfErr ending (HasCause old.counts new.counts) → Checked tells status old new
-checked_at tells status old new ending undrawn unput pages steps same is checks cause = record {
+checked_at tells status old new ending undrawn unput pages steps same reads is checks cause = record {
   undrawn = undrawn;
   unput = unput;
   pages = pages;
   image = λ told. image_stays old.world.history new.world.history (steps told) (same told);
+  reads = reads;
   taken = checks.taken;
   gave = checks.gave;
   accepted = λ e. accepted_at tells old.world.history.present old.written new.written checks.taken new.left ending checks.is (sym is ∙ e);

@@ -2,6 +2,7 @@
 use Rattle.std.specs.Prelude.{◌≡◌, ◌≢◌, ◌⊎◌, ℕ, ◌<◌, ◌^◌, List, [], ◌∷◌, ◌++◌, Option, None, Some, Result, Ok, Err, length, codes}
 use Rattle.std.specs.Fmt.{decimal}
 use Rattle.sdbt_base.specs.Told.{Gave, Got, GotPart}
+use Rattle.platform.specs.Counts.{MayRiseByOne}
 use Rattle.platform.specs.Image.{Image}
 use Rattle.platform.specs.History.{During}
 use Rattle.root_codec.specs.declared.root.Root.{Root}
@@ -117,7 +118,7 @@ IsSilent tells image taken status =
     ((status ≡ 5) × (taken ≡ []))
     ⊎ (HoldsRoot tells image × (((status ≡ 3) × (length taken < 2 ^ 32)) ⊎ ((status ≡ 12) × (length taken ≡ 2 ^ 32)) ⊎ ((status ≡ 11) × IsWanting taken)))
 
--- a check: no key is drawn, no entry put, no page added, and the image is as it was at each moment. By its status: the ledger is accepted; it is refused, by a rule or since there is no device;
+-- a check: no key is drawn, no entry put, no page added or read, the cell is looked at once at most, and the image is as it was at each moment. By its status: the ledger is accepted; it is refused, by a rule or since there is no device;
 -- the cell can't be served; the line that says so was cut; or nothing was put. 10 comes where the cell is empty, unless that could not be told or not be said. A ledger that is accepted, and one
 -- that breaks a rule, are told so, unless something failed or no memory was given
 pub record Checked {S R I O L : Type 0} (tells : Type 0) (status : ℕ) (old new : Handed S R I O L) : Type 0 where
@@ -125,6 +126,7 @@ pub record Checked {S R I O L : Type 0} (tells : Type 0) (status : ℕ) (old new
   pub unput : new.ledger ≡ old.ledger
   pub pages : new.world.head ≡ old.world.head
   pub image : tells → During old.world.history new.world.history (λ image. image ≡ old.world.history.present)
+  pub reads : tells → MayRiseByOne old.world.reads new.world.reads
   pub taken : List ℕ
   pub gave : Gave old.left taken new.left
   pub accepted : status ≡ 0 → (commit live deleted : ℕ) × Finds tells old.world.history.present taken new.left old.written new.written (findings.Accepted commit live deleted)

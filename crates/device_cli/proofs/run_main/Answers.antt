@@ -216,7 +216,7 @@ returns-in-Ok-check-clause-checks g c words =
     let new = handed g.P.Platform g.T.Tape g.I.Source g.O.Sink g.L.Sink c.check.new.platform c.args.tape.now c.check.new.input c.check.new.output c.args.ledger.now in
     let ending : Result Finding Stop = Ok c.in-Ok-check.finding in
     let part : ArePart _ _ old.counts new.counts = record { platform = inr (refl, refl); tape = inl (refl, refl, refl); input = inr (refl, refl); output = inr (refl, refl); ledger = inl (refl, refl, refl) } in
-    checked_at g.P.Platform.tells _ old new ending refl refl c.check.ensures.head c.check.ensures.time c.check.ensures.image c.status-in-Ok-check.ensures c.in-Ok-check.ensures.checks
+    checked_at g.P.Platform.tells _ old new ending refl refl c.check.ensures.head c.check.ensures.time c.check.ensures.image c.check.ensures.reads c.status-in-Ok-check.ensures c.in-Ok-check.ensures.checks
     (cause_wide _ _ old.counts new.counts ending part c.in-Ok-check.ensures.blame.cause)
 
 pub returns-in-Err-check-clause-checks : goal.returns-in-Err-check-clause-checks
@@ -225,7 +225,7 @@ returns-in-Err-check-clause-checks g c words =
     let new = handed g.P.Platform g.T.Tape g.I.Source g.O.Sink g.L.Sink c.check.new.platform c.args.tape.now c.check.new.input c.check.new.output c.args.ledger.now in
     let ending : Result Finding Stop = Err c.in-Err-check.stop in
     let part : ArePart _ _ old.counts new.counts = record { platform = inr (refl, refl); tape = inl (refl, refl, refl); input = inr (refl, refl); output = inr (refl, refl); ledger = inl (refl, refl, refl) } in
-    checked_at g.P.Platform.tells _ old new ending refl refl c.check.ensures.head c.check.ensures.time c.check.ensures.image c.status-in-Err-check.ensures c.in-Err-check.ensures.checks
+    checked_at g.P.Platform.tells _ old new ending refl refl c.check.ensures.head c.check.ensures.time c.check.ensures.image c.check.ensures.reads c.status-in-Err-check.ensures c.in-Err-check.ensures.checks
     (cause_wide _ _ old.counts new.counts ending part c.in-Err-check.ensures.blame.cause)
 
 pub returns-in-Ok-check-clause-refuses : goal.returns-in-Ok-check-clause-refuses
