@@ -6,6 +6,7 @@ use Rattle.device_session.specs.Sessions.{Session}
 use Rattle.session_calls.specs.Damage.{MeetsDamage, ReadsAny, TrimsAny, WritesAny}
 use Rattle.session_calls.specs.declared.stops.DeviceStop.{DeviceStop}
 use Rattle.session_calls.specs.declared.stops.DeviceStop.TheVariants as stops
+use Rattle.session_calls.proofs.NodeLaws.{node_or}
 
 -- a wrong place, or the root node of a tree that is miscounted with more said of it
 pub wrong_page : {Place Counted More : Type 0} → Place ⊎ (Counted × More) → Place ⊎ Counted
@@ -30,7 +31,7 @@ write_meets Known image after session block (Err stops.Memory) any known = tt
 write_meets Known image after session block (Err stops.Tape) any known = tt
 write_meets Known image after session block (Err stops.Ledger) any known = absurd any
 write_meets Known image after session block (Err stops.BadRoot) any known = absurd any
-write_meets Known image after session block (Err (stops.BadRecord addr)) any known = wrong_page (any known)
+write_meets Known image after session block (Err (stops.BadRecord addr)) any known = wrong_page (node_or after addr (any known))
 
 pub trim_meets : (Known : Type 0) (image after : Image) (session : Session) (block : ℕ) (result : Result (Unit {0}) DeviceStop)
     → TrimsAny Known image after session block result → Known → IfErr result (MeetsDamage after)
@@ -40,4 +41,4 @@ trim_meets Known image after session block (Err stops.Memory) any known = tt
 trim_meets Known image after session block (Err stops.Tape) any known = absurd any
 trim_meets Known image after session block (Err stops.Ledger) any known = absurd any
 trim_meets Known image after session block (Err stops.BadRoot) any known = absurd any
-trim_meets Known image after session block (Err (stops.BadRecord addr)) any known = wrong_page (any known)
+trim_meets Known image after session block (Err (stops.BadRecord addr)) any known = wrong_page (node_or after addr (any known))

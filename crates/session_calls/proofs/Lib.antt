@@ -11,5 +11,6 @@ pub mod UpgradeLaws
 pub mod CarryLaws
 pub mod CallLaws
 pub mod DamageLaws
+pub mod NodeLaws
 pub mod HeldLaws
 pub mod SpanLaws

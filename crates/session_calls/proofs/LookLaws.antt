@@ -27,7 +27,7 @@ use Rattle.device_session.specs.declared.refusals.TrimRefusal.TheVariants as tri
 use Rattle.session_calls.specs.Along.{Along, Drawn}
 use Rattle.sdbt_base.specs.Counts.{Counts}
 use Rattle.session_calls.specs.Blame.{HasCause, IsOfCall}
-use Rattle.session_calls.specs.Damage.{IsMiscountedAt, IsWrongPlace, ReadsAny, TrimsAny}
+use Rattle.session_calls.specs.Damage.{IsMiscountedAt, IsWrongNode, IsWrongPlace, ReadsAny, TrimsAny}
 use Rattle.session_calls.specs.Goes.{IsReadStop, IsTrimStop, ReadsBlock, TrimsBlock}
 use Rattle.session_calls.specs.declared.stops.DeviceStop.{DeviceStop}
 use Rattle.session_calls.specs.declared.stops.DeviceStop.TheVariants as stops
@@ -91,7 +91,7 @@ trim_refused image now device array block touched trim.PlatformFault stop is hol
     subst (λ (s : DeviceStop). TrimsBlock image now device array block (Err s)) (sym is) (at_array image now device array holds same served)
 
 pub trim_any : (Known : Type 0) (image after : Image) (session : Session) (block : ℕ) (refusal : TrimRefusal) (stop : DeviceStop) → IsTrimStop refusal stop
-    → ((addr : ℕ) → refusal ≡ trim.BadRecord addr → Known → IsWrongPlace after addr ⊎ (IsMiscountedAt after addr × IsUncounted image.readable session block addr)) → TrimsAny Known image after session block (Err stop)
+    → ((addr : ℕ) → refusal ≡ trim.BadRecord addr → Known → IsWrongNode after addr ⊎ (IsMiscountedAt after addr × IsUncounted image.readable session block addr)) → TrimsAny Known image after session block (Err stop)
 trim_any Known image after session block trim.Range stop is named = absurd is
 trim_any Known image after session block trim.Memory stop is named = subst (λ (s : DeviceStop). TrimsAny Known image after session block (Err s)) (sym is) tt
 trim_any Known image after session block (trim.BadRecord addr) stop is named =

@@ -23,7 +23,7 @@ use Rattle.device_session.specs.declared.refusals.WriteRefusal.TheVariants as wr
 use Rattle.session_calls.specs.Along.{Along, drawn_by}
 use Rattle.sdbt_base.specs.Counts.{Counts}
 use Rattle.session_calls.specs.Blame.{HasCause, IsOfCall}
-use Rattle.session_calls.specs.Damage.{IsMiscountedAt, IsWrongPlace, WritesAny}
+use Rattle.session_calls.specs.Damage.{IsMiscountedAt, IsWrongNode, WritesAny}
 use Rattle.session_calls.specs.Goes.{AddsBlock, IsWriteStop, WritesBlock}
 use Rattle.session_calls.specs.declared.stops.DeviceStop.{DeviceStop}
 use Rattle.session_calls.specs.declared.stops.DeviceStop.TheVariants as stops
@@ -81,9 +81,9 @@ write_refused image now device array block bytes content write.PlatformFault sto
 write_refused image now device array block bytes content write.TapeFault stop is holds touched served =
     subst (λ (s : DeviceStop). WritesBlock image now device array block bytes (Err s)) (sym is) (at_array image now device array holds touched served)
 
--- on any pages a place that doesn't fit is named, or the root node of a tree that is miscounted; no key was given only where a write would have been done
+-- on any pages a node's place that doesn't fit is named, or the root node of a tree that is miscounted; no key was given only where a write would have been done
 pub write_any : (Known : Type 0) (image after : Image) (session : Session) (block : ℕ) (refusal : WriteRefusal) (stop : DeviceStop) → IsWriteStop refusal stop
-    → ((addr : ℕ) → refusal ≡ write.BadRecord addr → Known → IsWrongPlace after addr ⊎ (IsMiscountedAt after addr × IsPastLimit image.readable session block addr))
+    → ((addr : ℕ) → refusal ≡ write.BadRecord addr → Known → IsWrongNode after addr ⊎ (IsMiscountedAt after addr × IsPastLimit image.readable session block addr))
     → (refusal ≡ write.TapeFault → Known → IsFound true image.readable session block ⊎ HasRoom session) → WritesAny Known image after session block (Err stop)
 write_any Known image after session block write.Range stop is named keyless = absurd is
 write_any Known image after session block write.Full stop is named keyless = absurd is

@@ -1,9 +1,11 @@
 -- What a session names that meets a record which doesn't fit.
-use Rattle.std.specs.Prelude.{◌≡◌, ◌≤◌, ◌⊎◌, ℕ, List, Some, Result, Ok, Err, true, false}
+use Rattle.std.specs.Prelude.{◌≡◌, ◌≤◌, ◌⊎◌, ℕ, zero, suc, List, Some, Result, Ok, Err, true, false}
 use Rattle.platform.specs.Image.{Image}
 use Rattle.root_codec.specs.declared.root.Root.{Root}
 use Rattle.root_codec.specs.RootRecord.{FitsRoot, root_bytes}
-use Rattle.page_store.specs.Tree.{Wrong}
+use Rattle.page_store.specs.declared.wants.Want.{Want}
+use Rattle.page_store.specs.Places.{root_want}
+use Rattle.page_store.specs.Tree.{IsAbove, IsMisfit, Wrong}
 use Rattle.device_session.specs.Damage.{Follows, IsMiscounted, IsFound, HasRoom, IsPastLimit, IsUncounted}
 use Rattle.device_session.specs.Open.{root_of}
 use Rattle.device_session.specs.Reading.{FindsContent}
@@ -22,6 +24,23 @@ pub record IsWrongPlace (image : Image) (addr : ℕ) : Type 0 where
   pub in_range : FitsRoot root
   pub cell : image.cell ≡ Some (root_bytes root)
   pub wrong : Wrong image.readable root addr
+
+-- from a place of a level on, through nodes that fit, a node's place at this address is reached that doesn't fit; where a data record is to be there is none
+unfoldable pub WrongNodeBelow : List (List ℕ) → ℕ → ℕ → ℕ → Want → List ℕ → Type 0
+WrongNodeBelow pages addr order zero want key = ⊥
+WrongNodeBelow pages addr order (suc level) want key =
+    IsMisfit pages addr want key ⊎ IsAbove pages (WrongNodeBelow pages addr order level) order level want key
+
+-- a node's place at this address is reached from the root through nodes that fit, and doesn't fit
+abbrev pub WrongNode : List (List ℕ) → Root → ℕ → Type 0
+WrongNode pages root addr = WrongNodeBelow pages addr root.order root.level (root_want root) root.key
+
+-- a node's place at this address of the tree of the root record in the cell doesn't fit
+pub record IsWrongNode (image : Image) (addr : ℕ) : Type 0 where
+  pub root : Root
+  pub in_range : FitsRoot root
+  pub cell : image.cell ≡ Some (root_bytes root)
+  pub wrong : WrongNode image.readable root addr
 
 -- the address is that of the root node, and the root record in the cell says that other blocks are mapped than its tree has
 pub record IsMiscountedAt (image : Image) (addr : ℕ) : Type 0 where
@@ -55,22 +74,22 @@ ReadsAny Known image after session block bytes (Err stops.Tape) = ⊥
 ReadsAny Known image after session block bytes (Err stops.Ledger) = ⊥
 ReadsAny Known image after session block bytes (Err stops.BadRoot) = ⊥
 
--- the same of a write: the block is mapped, or another one can be; what is named is a place that doesn't fit, or the root node of a tree that is miscounted, where the block isn't mapped
--- and no more can be
+-- the same of a write: the block is mapped, or another one can be; what is named is a node's place that doesn't fit, and never that of a data record, or the root node of a tree that is
+-- miscounted, where the block isn't mapped and no more can be
 abbrev pub WritesAny : Type 0 → Image → Image → Session → ℕ → Result (Unit {0}) DeviceStop → Type 0
 WritesAny Known image after session block (Ok done) = Known → IsFound true image.readable session block ⊎ HasRoom session
-WritesAny Known image after session block (Err (stops.BadRecord addr)) = Known → IsWrongPlace after addr ⊎ (IsMiscountedAt after addr × IsPastLimit image.readable session block addr)
+WritesAny Known image after session block (Err (stops.BadRecord addr)) = Known → IsWrongNode after addr ⊎ (IsMiscountedAt after addr × IsPastLimit image.readable session block addr)
 WritesAny Known image after session block (Err stops.Platform) = Unit {0}
 WritesAny Known image after session block (Err stops.Memory) = Unit {0}
 WritesAny Known image after session block (Err stops.Tape) = Known → IsFound true image.readable session block ⊎ HasRoom session
 WritesAny Known image after session block (Err stops.Ledger) = ⊥
 WritesAny Known image after session block (Err stops.BadRoot) = ⊥
 
--- and of a trim: the block isn't mapped, or one is counted; what is named is a place that doesn't fit, or the root node of a tree that is miscounted, where the block is mapped and none is
--- counted
+-- and of a trim: the block isn't mapped, or one is counted; what is named is a node's place that doesn't fit, or the root node of a tree that is miscounted, where the block is mapped and
+-- none is counted
 abbrev pub TrimsAny : Type 0 → Image → Image → Session → ℕ → Result (Unit {0}) DeviceStop → Type 0
 TrimsAny Known image after session block (Ok done) = Known → IsFound false image.readable session block ⊎ (1 ≤ session.mapped)
-TrimsAny Known image after session block (Err (stops.BadRecord addr)) = Known → IsWrongPlace after addr ⊎ (IsMiscountedAt after addr × IsUncounted image.readable session block addr)
+TrimsAny Known image after session block (Err (stops.BadRecord addr)) = Known → IsWrongNode after addr ⊎ (IsMiscountedAt after addr × IsUncounted image.readable session block addr)
 TrimsAny Known image after session block (Err stops.Platform) = Unit {0}
 TrimsAny Known image after session block (Err stops.Memory) = Unit {0}
 TrimsAny Known image after session block (Err stops.Tape) = ⊥

@@ -55,5 +55,5 @@ returns-in-Ok-clause-taken g c told mounted = c.in-Ok.ensures.taken told mounted
 pub returns-in-Err-clause-any : goal.returns-in-Err-clause-any
 returns-in-Err-clause-any g c =
     trim_any _ (g.P.Platform.history c.args.platform.now).present (g.P.Platform.history c.trim.new.platform).present c.args.session.now c.args.block c.in-Err.refusal c.stop_of_trim.result c.stop_of_trim.ensures (λ addr named known.
-    wrong_page c.args.session.now _ addr (g.P.Platform.history c.args.platform.now) (g.P.Platform.history c.trim.new.platform) _ c.requires.open known.1 (c.trim.ensures.looks.time known.0) (c.trim.ensures.looks.image known.0)
-    (c.in-Err.ensures.damaged known.0 addr (ap Err named)).damage)
+    wrong_page c.args.session.now _ c.args.block addr (g.P.Platform.history c.args.platform.now) (g.P.Platform.history c.trim.new.platform) _ c.requires.open known.1 (c.trim.ensures.looks.time known.0) (c.trim.ensures.looks.image known.0)
+    (λ uncounted. uncounted.0) (c.in-Err.ensures.damaged known.0 addr (ap Err named)))

@@ -61,7 +61,7 @@ returns-in-Ok-clause-written g c told mounted = (c.in-Ok.ensures.written told mo
 pub returns-in-Err-clause-any : goal.returns-in-Err-clause-any
 returns-in-Err-clause-any g c =
     write_any _ (g.P.Platform.history c.args.platform.now).present (g.P.Platform.history c.write.new.platform).present c.args.session.now c.args.block c.in-Err.refusal c.stop_of_write.result c.stop_of_write.ensures
-    (λ addr named known. wrong_page c.args.session.now _ addr (g.P.Platform.history c.args.platform.now) (g.P.Platform.history c.write.new.platform) _ c.requires.open known.1 (c.write.ensures.grows.time known.0)
+    (λ addr named known. wrong_page c.args.session.now _ c.args.block addr (g.P.Platform.history c.args.platform.now) (g.P.Platform.history c.write.new.platform) _ c.requires.open known.1 (c.write.ensures.grows.time known.0)
     (write_left g.P.Platform g.T.Tape _ _ _ _ (places_of c.write.new.self.grove) c.args.block addr c.in-Err.refusal named c.in-Err.ensures.adds known.0)
-    (c.in-Err.ensures.damaged known.0 addr (ap Err named)).damage)
+    (λ past. past.0) (c.in-Err.ensures.damaged known.0 addr (ap Err named)))
     (λ keyless known. (c.in-Err.ensures.written known.0 known.1.follows.cached).1 (ap Err keyless))
