@@ -15,6 +15,7 @@ use Rattle.root_codec.specs.RootRecord.{root_bytes}
 use Rattle.root_codec.specs.declared.root.Root.{Root}
 use Rattle.page_store.specs.Kept.{IsRootOf}
 use Rattle.device_session.specs.Open.{IsOpen, blocks_of, root_of}
+use Rattle.device_session.specs.Reading.{room_of}
 use Rattle.device_session.specs.Sessions.{Session}
 use Rattle.session_calls.specs.Mounts.{IsFound}
 use Rattle.session_calls.specs.declared.stops.DeviceStop.{DeviceStop}
@@ -270,6 +271,12 @@ pub idle_found : {S : Type 0} (P : PlatformGhosts S) (platform mid : S) (session
 idle_found P platform mid session result is finds =
     let found : IsFound P 256 platform mid (Some session) = subst (λ (r : Result (Option Session) DeviceStop). IfOk r (IsFound P 256 platform mid)) is finds in
     record { untouched = found.0.untouched; mapped = found.0.mapped }
+
+-- with room for so many nodes
+pub room_found : {S : Type 0} (P : PlatformGhosts S) (nodes : ℕ) (platform mid : S) (session : Session) (result : Result (Option Session) DeviceStop) → result ≡ Ok (Some session) → IfOk result (IsFound P nodes platform mid) → room_of session ≡ nodes
+room_found P nodes platform mid session result is finds =
+    let found : IsFound P nodes platform mid (Some session) = subst (λ (r : Result (Option Session) DeviceStop). IfOk r (IsFound P nodes platform mid)) is finds in
+    ap (λ cache. cache.capacity) found.0.empty
 
 pub on_found : {S : Type 0} (P : PlatformGhosts S) (platform mid : S) (session : Session) (result : Result (Option Session) DeviceStop) → result ≡ Ok (Some session) → IfOk result (IsFound P 256 platform mid) → P.tells → IsRootOf (P.history platform).present session.root
 on_found P platform mid session result is finds told =

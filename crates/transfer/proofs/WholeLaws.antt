@@ -45,7 +45,7 @@ use Rattle.session_calls.proofs.AlongLaws.{pages_still}
 use Rattle.device_session.proofs.KeepLaws.{block_then, still_keeps}
 use Rattle.device_session.proofs.OrderLaws.{places_up}
 use Rattle.device_session.proofs.ReadLaws.{HasRecord, IsArray, content_none, entry_read, grove_maps, grove_tiles, parts_records}
-use Rattle.transfer.specs.Whole.{BeginsWithin, CopiesOnce, CopiesTree, FillsOnce, HasBlocks, HasOne, HasWholeTree, IsCopied, IsFilled, IsMoved, IsNew, IsRead, IsReadThrough, IsWholeMove, IsWithin, MovesWhole, SeesAll, WasFresh, WhereDone}
+use Rattle.transfer.specs.Whole.{BeginsWithin, CopiesOnce, CopiesTree, FillsOnce, ComparesAll, HasBlocks, HasOne, HasTwo, HasWholeTree, IsCopied, IsFilled, IsMoved, IsNew, IsRead, IsReadThrough, IsWholeMove, IsWithin, MovesWhole, SeesAll, WasFresh, WhereDone}
 use Rattle.transfer.specs.Refusals.{IsIdle, IsOn}
 use Rattle.transfer.specs.declared.halts.Halt.{Halt}
 use Rattle.transfer.specs.declared.halts.Moved.{Moved}
@@ -99,9 +99,19 @@ one_as from_tells to_tells from from_now to to_now source source_now target targ
   there = λ told. finds_as to to_now target target_now block one.content (to_pages told) target_tree (one.there told);
 }
 
--- the same blocks of both, and each has one content
+pub two_as : (from_tells to_tells : Type 0) (from from_now to to_now : Image) (source source_now target target_now : Session) (block : ℕ) → (from_tells → from_now.readable ≡ from.readable) → (to_tells → to_now.readable ≡ to.readable) → source_now.grove ≡ source.grove → target_now.grove ≡ target.grove
+    → HasTwo from_tells to_tells from_now to_now source_now target_now block → HasTwo from_tells to_tells from to source target block
+two_as from_tells to_tells from from_now to to_now source source_now target target_now block from_pages to_pages source_tree target_tree two = record {
+  content = two.content;
+  other = two.other;
+  differ = two.differ;
+  here = λ told. finds_as from from_now source source_now block two.content (from_pages told) source_tree (two.here told);
+  there = λ told. finds_as to to_now target target_now block two.other (to_pages told) target_tree (two.there told);
+}
+
+-- the same blocks of both, and each has one content, or one of them has contents that differ
 pub sees_same : {X : Type 0} (from_tells to_tells : Type 0) (from to mid : Image) (source target : Session) (blocks others : List ℕ) (is_true : X → Bool) (result : Result X Halt) → (to_tells → mid ≡ to) → (to_tells → HasBlocks to (root_of target) others) → length others ≡ (root_of target).mapped → others ≡ blocks
-    → IfOk result (λ same. IsTrue (is_true same) → All (HasOne from_tells to_tells from mid source target) blocks) → IfOk result (λ same. SeesAll from_tells to_tells from to source target blocks (is_true same))
+    → IfOk result (λ same. ComparesAll from_tells to_tells from mid source target blocks (is_true same)) → IfOk result (λ same. SeesAll from_tells to_tells from to source target blocks (is_true same))
 sees_same from_tells to_tells from to mid source target blocks others is_true (Err halt) image listed count is all = tt
 sees_same from_tells to_tells from to mid source target blocks others is_true (Ok same) image listed count is all = record {
   others = others;
@@ -110,8 +120,11 @@ sees_same from_tells to_tells from to mid source target blocks others is_true (O
   same = λ yes. (
     is,
     All-weaker (HasOne from_tells to_tells from mid source target) (HasOne from_tells to_tells from to source target)
-        (λ b one. one_as from_tells to_tells from from to mid source source target target b (λ told. refl) (λ told. ap (λ (i : Image). i.readable) (image told)) refl refl one) blocks (all yes),
+        (λ b one. one_as from_tells to_tells from from to mid source source target target b (λ told. refl) (λ told. ap (λ (i : Image). i.readable) (image told)) refl refl one) blocks (all.one yes),
   );
+  unlike = λ apart.
+      let there = all.two apart in
+      inr (there.0, there.1, two_as from_tells to_tells from from to mid source source target target there.0 (λ told. refl) (λ told. ap (λ (i : Image). i.readable) (image told)) refl refl there.2);
 }
 
 -- ---- what was copied

@@ -7,6 +7,7 @@ use Rattle.platform.specs.declared.platforms.Platform.{Ghosts as PlatformGhosts}
 use Rattle.page_store.specs.Stands.{Stands}
 use Rattle.device_terms.specs.Served.{IsServedImage}
 use Rattle.device_course.specs.States.{around}
+use Rattle.device_session.specs.Reading.{room_of}
 use Rattle.session_calls.specs.Spans.{Spans}
 use Rattle.transfer.specs.Counts.{counts}
 use Rattle.transfer.specs.Halts.{Blames}
@@ -29,7 +30,7 @@ halt_of_format format.TapeFault = halts.To device.Tape
 halt_of_format format.PlatformFault = halts.To device.Platform
 halt_of_format format.LedgerFault = halts.To device.Ledger
 
--- a session was opened on the device that there is, or on a new one of so many blocks and of this order; or none was, and what there was is left, or such a new device came
+-- a session was opened on the device that there is, or on a new one of so many blocks and of this order, with room for a node of each level; or none was, and what there was is left, or such a new device came
 pub record OpensTarget {R W V : Type 0} (Q : PlatformGhosts R) (T : TapeGhosts W) (L : SinkGhosts V) (to to_now : R) (tape tape_now : W) (ledger ledger_now : V) (blocks order : ℕ) (result : Result Target Halt) : Type 0 where
   pub opened : IfOk result (λ target. Opens Q.tells blocks order (around Q T L to tape ledger) (around Q T L to_now tape_now ledger_now) target.session)
   pub stopped : IfErr result (λ halt. Spans Q.tells (around Q T L to tape ledger) (around Q T L to_now tape_now ledger_now) ⊥)
@@ -39,5 +40,6 @@ pub record OpensTarget {R W V : Type 0} (Q : PlatformGhosts R) (T : TapeGhosts W
   pub blame : (from output : ℕ) → Blames (counts from (Q.faults to) (T.faults tape) output (L.faults ledger)) (counts from (Q.faults to_now) (T.faults tape_now) output (L.faults ledger_now)) result
   pub stops : IfErr result IsOfOpening
   pub idle : IfOk result (λ target. IsIdle target.session)
+  pub room : IfOk result (λ target. 20 ≤ room_of target.session)
   pub on : IfOk result (λ target. Q.tells → IsOn (Q.history to).present blocks order target.is_new target.session)
   pub opens_not : IfErr result (λ halt. Q.tells → OpensNot (Q.history to).present (Q.capacity to - Q.head to) halt)

@@ -1,5 +1,5 @@
 -- What a move that was done found of a device, on any pages.
-use Rattle.std.specs.Prelude.{◌≡◌, ◌<◌, ◌≤◌, ◌⊎◌, ℕ, None, Bool, false, Contains, List, All, IfOk, IsTrue, Result, OnOk, length, map}
+use Rattle.std.specs.Prelude.{◌≡◌, ◌≢◌, ◌<◌, ◌≤◌, ◌⊎◌, ℕ, None, Bool, false, Contains, List, All, IfOk, IsTrue, Result, OnOk, length, map}
 use Rattle.std.specs.FinMap.{from_entries}
 use Rattle.sdbt_base.specs.Arrays.{Blocks, content_of}
 use Rattle.platform.specs.History.{History, image_at, moment}
@@ -36,6 +36,24 @@ pub record HasOne (from_tells to_tells : Type 0) (from to : Image) (source targe
   pub content : List ℕ
   pub here : from_tells → FindsContent from.readable source.grove block content
   pub there : to_tells → FindsContent to.readable target.grove block content
+
+-- a block has contents that differ: a look-up of it comes to the one in the tree of the first session, and to the other in that of the second, where its platform tells
+pub record HasTwo (from_tells to_tells : Type 0) (from to : Image) (source target : Session) (block : ℕ) : Type 0 where
+  pub content : List ℕ
+  pub other : List ℕ
+  pub differ : content ≢ other
+  pub here : from_tells → FindsContent from.readable source.grove block content
+  pub there : to_tells → FindsContent to.readable target.grove block other
+
+-- a block was compared: it has one content on both where this says so, and else contents that differ
+pub record Compares (from_tells to_tells : Type 0) (from to : Image) (source target : Session) (block : ℕ) (same : Bool) : Type 0 where
+  pub one : IsTrue same → HasOne from_tells to_tells from to source target block
+  pub two : (IsTrue same → ⊥) → HasTwo from_tells to_tells from to source target block
+
+-- these blocks were compared: each has one content on both where this says so, and else one of them has contents that differ
+pub record ComparesAll (from_tells to_tells : Type 0) (from to : Image) (source target : Session) (blocks : List ℕ) (same : Bool) : Type 0 where
+  pub one : IsTrue same → All (HasOne from_tells to_tells from to source target) blocks
+  pub two : (IsTrue same → ⊥) → (block : ℕ) × Contains blocks block × HasTwo from_tells to_tells from to source target block
 
 -- these blocks were copied: a look-up of each comes to one content on both, and one of each other block on the second to what it came to before
 pub record CopiesTree (from_tells to_tells : Type 0) (from to to_now : Image) (source target target_now : Session) (blocks : List ℕ) : Type 0 where
@@ -82,12 +100,13 @@ pub record IsFilled (from_tells to_tells : Type 0) (from : Image) (to to_now : H
   pub same_order : (root_of target).order ≡ (root_of source).order
   pub fills : FillsOnce from_tells to_tells from to to_now source target blocks New
 
--- the nodes of the second device's tree fit, and these are their blocks, as many as its root record says; they are those of the first one, and each has one content on both, where it is found so
+-- the nodes of the second device's tree fit, and these are their blocks, as many as its root record says; they are those of the first one, and each has one content on both, where it is found so; else they are others, or one of them has contents that differ
 pub record SeesAll (from_tells to_tells : Type 0) (from to : Image) (source target : Session) (blocks : List ℕ) (has : Bool) : Type 0 where
   pub others : List ℕ
   pub listed : to_tells → HasBlocks to (root_of target) others
   pub count : length others ≡ (root_of target).mapped
   pub same : IsTrue has → (others ≡ blocks) × All (HasOne from_tells to_tells from to source target) blocks
+  pub unlike : (IsTrue has → ⊥) → (others ≢ blocks) ⊎ ((block : ℕ) × Contains blocks block × HasTwo from_tells to_tells from to source target block)
 
 -- the root record in the cell has a tree: each node and each data record fits its place, and as many blocks are mapped as it says. So there is no page that a run could name
 pub record HasWholeTree (image : Image) : Type 0 where

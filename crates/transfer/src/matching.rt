@@ -7,7 +7,7 @@ ghost use Rattle.sdbt_base.specs.Arrays.{Device, Session as OpenSession, content
 ghost use Rattle.device_course.specs.States.{IsAt};
 ghost use Rattle.transfer.specs.Moving.{Matches};
 ghost use Rattle.transfer.specs.Running.{alone};
-ghost use Rattle.transfer.specs.Whole.{HasOne};
+ghost use Rattle.transfer.specs.Whole.{Compares, ComparesAll};
 
 use crate::halts::Halt;
 use crate::sides::{read_source, read_target};
@@ -43,8 +43,8 @@ pub(crate) fn has_same<P: Platform, Q: Platform>(
         → IsAt (Q.history to.old).present (Some target.old) (mounted there other)
         → Matches (P.history from.new).present (Q.history to.new).present source.new target.new device there array other
         (All (λ block. content_of array.contents block ≡ content_of other.contents block) blocks.now) result }
-    // On any pages: where it is so, a look-up of each comes to one content on both.
-    ensures same { IfOk result (λ same. IsTrue same → All (HasOne P.tells Q.tells (P.history from.old).present (Q.history to.old).present source.old target.old) blocks.now) }
+    // On any pages: a look-up of each comes to one content on both, or those of one block to contents that differ.
+    ensures same { IfOk result (ComparesAll P.tells Q.tells (P.history from.old).present (Q.history to.old).present source.old target.old blocks.now) }
 {
     let mut content = [0; BLOCK];
     let mut other = [0; BLOCK];
@@ -77,8 +77,8 @@ fn has_same_block<P: Platform, Q: Platform>(
         → IsAt (Q.history to.old).present (Some target.old) (mounted there other)
         → Matches (P.history from.new).present (Q.history to.new).present source.new target.new device there array other
         (content_of array.contents block ≡ content_of other.contents block) result }
-    // On any pages: where it is so, a look-up of it comes to one content on both.
-    ensures same { IfOk result (λ same. IsTrue same → HasOne P.tells Q.tells (P.history from.old).present (Q.history to.old).present source.old target.old block) }
+    // On any pages: the look-ups of it come to one content on both, or to contents that differ.
+    ensures same { IfOk result (Compares P.tells Q.tells (P.history from.old).present (Q.history to.old).present source.old target.old block) }
     ensures size { length content.new ≡ 4096 }
     ensures other_size { length other.new ≡ 4096 }
 {

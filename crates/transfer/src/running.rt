@@ -1,6 +1,7 @@
 //! A run: the device that is moved, the one that it comes to, and the last line.
-ghost use Rattle.std.specs.Prelude.{◌≡◌, ◌-◌, ◌<◌, [], ℕ, All, None, Some, Err, IfErr, IfOk, IsOk, IsTrue, Option, length};
+ghost use Rattle.std.specs.Prelude.{◌≡◌, ◌-◌, ◌<◌, ◌≤◌, [], ℕ, All, None, Some, Err, IfErr, IfOk, IsOk, IsTrue, Option, length};
 ghost use Rattle.device_session.specs.Open.{blocks_of, needed_by, number_of, root_of};
+ghost use Rattle.device_session.specs.Reading.{room_of};
 ghost use Rattle.transfer.specs.Refusals.{HaltsAt, IsFreshRoot, IsIdle};
 ghost use Rattle.device_course.specs.States.{around};
 ghost use Rattle.session_calls.specs.Along.{Along, Drawn};
@@ -97,7 +98,8 @@ fn move_session<P: Platform, Q: Platform, T: Tape, L: Sink>(
     tape: &mut T,
     ledger: &mut L,
 ) -> Result<Moved, Halt>
-    requires ready { IsReady P.tells (alone P.Platform from.old) first }
+    // The session's cache has room for a node of each level.
+    requires ready { IsReady P.tells (alone P.Platform from.old) first × (20 ≤ room_of first) }
     ensures from { Clears P.tells (Some first) (alone P.Platform from.old) (alone P.Platform from.new) (IsOk result) }
     ensures to { Spans Q.tells (around Q.Platform T.Tape L.Sink to.old tape.old ledger.old)
         (around Q.Platform T.Tape L.Sink to.new tape.new ledger.new) (IsOk result) }
@@ -175,6 +177,8 @@ fn fill_target<P: Platform, Q: Platform, T: Tape, L: Sink>(
 ) -> Result<u64, Halt>
     requires source { IsReady P.tells (alone P.Platform from.old) source.old }
     requires target { IsReady Q.tells (around Q.Platform T.Tape L.Sink to.old tape.old ledger.old) target }
+    // Its cache has room for a node of each level.
+    requires room { 20 ≤ room_of target }
     ensures both { FillsBoth P.Platform Q.Platform T.Tape L.Sink from.old from.new to.old to.new tape.old tape.new ledger.old ledger.new source.old source.new target result }
     ensures refused { IsIdle target → IfErr result (HaltsAt (IsFreshRoot (blocks_of source.old) (root_of source.old).order (root_of target)) (root_of source.old).mapped (Q.capacity to.old - Q.head to.old)) }
     ensures unlike { ((blocks_of source.old ≡ blocks_of target) × ((root_of source.old).order ≡ (root_of target).order) → ⊥) → result ≡ Err Halt.NotEmpty }
@@ -242,7 +246,7 @@ fn has_all<P: Platform, Q: Platform>(
 ) -> Result<bool, Halt>
     requires { AreReady P.tells Q.tells (alone P.Platform from.old) (alone Q.Platform to.old) source.old target.old blocks.now }
     ensures both { ReadsBoth P.Platform Q.Platform from.old from.new to.old to.new source.old source.new target.old target.new result }
-    // On any pages: the second device's blocks were read, and where it is so, a look-up of each comes to one content on both.
+    // On any pages: the second device's blocks were read, and where it is so, a look-up of each comes to one content on both; else they are others, or have other contents.
     ensures sees { IfOk result (SeesAll P.tells Q.tells (P.history from.old).present (Q.history to.old).present source.old target.old blocks.now) }
     ensures leads { P.tells → Q.tells → (device there : Device) → IsAt (P.history from.old).present (Some source.old) (mounted device (session_on device))
         → IsAt (Q.history to.old).present (Some target.old) (mounted there (session_on there)) → blocks.now ≡ map.keys device.contents

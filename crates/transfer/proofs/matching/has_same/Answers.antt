@@ -5,12 +5,12 @@ use Rattle.session_calls.proofs.AlongLaws.{along_start, along_then}
 use Rattle.session_calls.proofs.CallLaws.{no_draw}
 use Rattle.transfer.proofs.HaltLaws.{halted}
 use Rattle.transfer.specs.Counts.{Counts}
-use Rattle.std.proofs.Common.{[], ◌∷◌, List, get_or, subst, sym, take}
+use Rattle.std.proofs.Common.{[], ◌∷◌, List, false, get_or, subst, sym, take, true}
 use Rattle.transfer.specs.Whole.{HasOne}
-use Rattle.transfer.proofs.WholeLaws.{one_as, pages_same}
+use Rattle.transfer.proofs.WholeLaws.{one_as, pages_same, two_as}
 use Rattle.std.specs.Prelude.{All}
 use Rattle.std.proofs.lemmas.List.{take_all, take_more}
-use Rattle.std.proofs.lemmas.List.Elements.{All-append, All-cons, All-nil}
+use Rattle.std.proofs.lemmas.List.Elements.{All-append, All-cons, All-nil, Contains-get_or}
 use Rattle.sdbt_base.specs.Arrays.{content_of}
 use Rattle.transfer.proofs.MovingLaws.{same_at, same_more}
 use Rattle.transfer.proofs.BlameLaws.{blames_done, blames_then, same_counts}
@@ -105,7 +105,7 @@ loop-block-preserved g c =
           let next : One block = one_as P.tells Q.tells (P.history c.args.from.now).present (P.history c.loop-block.from).present (Q.history c.args.to.now).present (Q.history c.loop-block.to).present c.args.source.now c.loop-block.source c.args.target.now c.loop-block.target block
           (pages_same P c.args.from.now c.loop-block.from no_draw no_draw c.args.source.now c.loop-block.source g.met.P.Platform.counts_pages (before.source no_draw))
           (pages_same Q c.args.to.now c.loop-block.to no_draw no_draw c.args.target.now c.loop-block.target g.met.Q.Platform.counts_pages (before.target no_draw))
-          before.source_tree before.target_tree (c.in_ok-has_same_block.ensures.same c.if-not-branch.false) in
+          before.source_tree before.target_tree (c.in_ok-has_same_block.ensures.same.one c.if-not-branch.false) in
           subst (All One) (sym (take_more blocks index 0 c.loop-block-test.true)) (All-append One (take index blocks) (block ∷ []) before.same (All-cons One block [] next (All-nil One)));
       size = c.has_same_block.ensures.size;
       other_size = c.has_same_block.ensures.other_size;
@@ -128,11 +128,31 @@ returns-clause-leads g c from_told to_told device there array other at at_other 
     (so_far.0, so_far.1, (λ yes. subst (λ (bs : List ℕ). All (λ block. content_of array.contents block ≡ content_of other.contents block) bs) (take_all c.loop-block.block-index c.args.blocks.now (omega arith)) so_far.2, λ all. refl))
 
 pub returns-then-not-branch-clause-same : goal.returns-then-not-branch-clause-same
-returns-then-not-branch-clause-same g c agrees = absurd cc
+returns-then-not-branch-clause-same g c =
+    let P = g.P.Platform in
+    let Q = g.Q.Platform in
+    let before = c.loop-block.invariant in
+    let block : ℕ = get_or c.args.blocks.now c.loop-block.block-index 0 in
+    record {
+      one = λ agrees. absurd cc;
+      two = λ apart. (
+        block,
+        Contains-get_or c.args.blocks.now c.loop-block.block-index 0 c.loop-block-test.true,
+        two_as P.tells Q.tells (P.history c.args.from.now).present (P.history c.loop-block.from).present (Q.history c.args.to.now).present (Q.history c.loop-block.to).present c.args.source.now c.loop-block.source c.args.target.now c.loop-block.target block
+            (pages_same P c.args.from.now c.loop-block.from no_draw no_draw c.args.source.now c.loop-block.source g.met.P.Platform.counts_pages (before.source no_draw))
+            (pages_same Q c.args.to.now c.loop-block.to no_draw no_draw c.args.target.now c.loop-block.target g.met.Q.Platform.counts_pages (before.target no_draw)) before.source_tree before.target_tree
+            (c.in_ok-has_same_block.ensures.same.two (λ yes.
+            let never : false ≡ true = sym c.if-not-branch.true ∙ yes in
+            cc)),
+      );
+    }
 
 pub returns-in_err-has_same_block-clause-same : goal.returns-in_err-has_same_block-clause-same
 returns-in_err-has_same_block-clause-same g c = rw (halted c.from_residual.result c.in_err-has_same_block.field-0.0 c.from_residual.ensures.1) tt
 
 pub returns-clause-same : goal.returns-clause-same
-returns-clause-same g c agrees =
-    subst (All (HasOne g.P.Platform.tells g.Q.Platform.tells (g.P.Platform.history c.args.from.now).present (g.Q.Platform.history c.args.to.now).present c.args.source.now c.args.target.now)) (take_all c.loop-block.block-index c.args.blocks.now (omega arith)) c.loop-block.invariant.same
+returns-clause-same g c = record {
+  one = λ agrees.
+      subst (All (HasOne g.P.Platform.tells g.Q.Platform.tells (g.P.Platform.history c.args.from.now).present (g.Q.Platform.history c.args.to.now).present c.args.source.now c.args.target.now)) (take_all c.loop-block.block-index c.args.blocks.now (omega arith)) c.loop-block.invariant.same;
+  two = λ apart. absurd (apart refl);
+}

@@ -54,8 +54,17 @@ pub returns-in_err-read_source-clause-same : goal.returns-in_err-read_source-cla
 returns-in_err-read_source-clause-same g c = rw (halted c.from_residual.result c.in_err-read_source.field-0.0 c.from_residual.ensures.1) tt
 
 pub returns-in-Ok-clause-same : goal.returns-in-Ok-clause-same
-returns-in-Ok-clause-same g c agrees = record {
-  content = c.read_source.new.out;
-  here = c.in_ok-read_source.ensures.reads.found;
-  there = λ told. subst (λ (bytes : List ℕ). FindsContent (g.Q.Platform.history c.args.to.now).present.readable c.args.target.now.grove c.args.block bytes) (sym (c.is_same.ensures.0 agrees)) (c.in-Ok.ensures.reads.found told);
+returns-in-Ok-clause-same g c = record {
+  one = λ agrees. record {
+    content = c.read_source.new.out;
+    here = c.in_ok-read_source.ensures.reads.found;
+    there = λ told. subst (λ (bytes : List ℕ). FindsContent (g.Q.Platform.history c.args.to.now).present.readable c.args.target.now.grove c.args.block bytes) (sym (c.is_same.ensures.0 agrees)) (c.in-Ok.ensures.reads.found told);
+  };
+  two = λ apart. record {
+    content = c.read_source.new.out;
+    other = c.read_target.new.out;
+    differ = λ is. apart (c.is_same.ensures.1 is);
+    here = c.in_ok-read_source.ensures.reads.found;
+    there = c.in-Ok.ensures.reads.found;
+  };
 }

@@ -1,9 +1,10 @@
-use Rattle.std.proofs.Common.{◌∙◌, Some, Ok, Err, inl, refl, sym, ap, subst, arith}
+use Rattle.std.proofs.Common.{◌≤◌, ◌∙◌, Some, Ok, Err, inl, refl, sym, ap, subst, arith}
 use Rattle.platform.proofs.Moments.{During-now}
 use Rattle.sdbt_base.specs.Arrays.{closed, new_device}
 use Rattle.device_terms.specs.Served.{IsServedImage}
 use Rattle.device_course.proofs.FitsLaws.{behind_added}
 use Rattle.device_course.proofs.MadeLaws.{shut}
+use Rattle.device_session.specs.Reading.{room_of}
 use Rattle.device_core.specs.declared.refusals.FormatRefusal.{FormatRefusal}
 use Rattle.transfer.specs.Counts.{counts}
 use Rattle.transfer.specs.Halts.{Blames}
@@ -16,7 +17,7 @@ use Rattle.transfer.proofs.LookedLaws.{made_served}
 use Rattle.transfer.proofs.OpenLaws.{format_not_root, made_found, formatted_found, formatted_stopped, is_made, unformatted}
 use Rattle.transfer.proofs.ToLaws.{found_none, formatted_made, format_keeps, formatted_of, opens_formatted, opens_found, spans_formatted, spans_look, spans_unformatted}
 use Rattle.transfer.proofs.MoveLaws.{at_mounted}
-use Rattle.transfer.proofs.RefusalLaws.{format_opens_not, idle_found, on_new}
+use Rattle.transfer.proofs.RefusalLaws.{format_opens_not, idle_found, on_new, room_found}
 use Rattle.transfer.proofs.opening.make_target.Goals as goal
 
 pub returns-in-Ok-Some-clause-target : goal.returns-in-Ok-Some-clause-target
@@ -41,6 +42,9 @@ returns-in-Ok-Some-clause-target g c = record {
       blames_then before mid now _ (to_quiet _ _ before mid (of_ledger _ _ _ _ output _ _) refl c.in-Ok.ensures.cause.3) (blames_done mid now _ (to_quiet _ _ mid now (of_platform _ _ _ output _) refl c.in-Ok-Some.ensures.blame.quiet));
   stops = tt;
   idle = idle_found g.Q.Platform c.format.new.platform c.mount_session.new.platform c.in-Ok-Some.session c.mount_session.result (c.in-Ok-Some.is ∙ ap Ok c.in-Ok-Some.field-0-is) c.mount_session.ensures.finds;
+  room = let room = room_found g.Q.Platform _ _ _ c.in-Ok-Some.session c.mount_session.result (c.in-Ok-Some.is ∙ ap Ok c.in-Ok-Some.field-0-is) c.mount_session.ensures.finds in
+      let enough : 20 ≤ room_of c.in-Ok-Some.session = omega (arith, room) in
+      enough;
   on = λ told. (
     c.requires.empty told,
     on_new (g.Q.Platform.history c.mount_session.new.platform).present c.in-Ok-Some.session c.args.blocks c.args.order
@@ -74,6 +78,7 @@ returns-in-Ok-None-clause-target g c = record {
       blames_then before mid now _ (to_quiet _ _ before mid (of_ledger _ _ _ _ output _ _) refl c.in-Ok.ensures.cause.3) (to_stopped _ _ mid now _ (of_platform _ _ _ output _) refl looked.fell looked.quiet);
   stops = tt;
   idle = tt;
+  room = tt;
   on = tt;
   opens_not = λ told. tt;
 }
@@ -102,6 +107,7 @@ returns-in-Err-mount_session-clause-target g c = record {
       blames_then before mid now _ (to_quiet _ _ before mid (of_ledger _ _ _ _ output _ _) refl c.in-Ok.ensures.cause.3) (to_stopped _ _ mid now _ (of_platform _ _ _ output _) refl looked.fell looked.cause);
   stops = mount_to _ _ _ c.in-Err-mount_session.stop c.in-Err-mount_session.ensures.stops;
   idle = tt;
+  room = tt;
   on = tt;
   opens_not = λ told. tt;
 }
@@ -128,6 +134,7 @@ returns-in-Err-clause-target g c = record {
       (format_blamed Q T _ _ _ _ _ _ before now c.in-Err.refusal (of_ledger _ _ _ _ output _ _) refl (record { platform = grows.0.faults; tape = grows.1; input = omega arith; output = omega arith; ledger = grows.2 }) c.in-Err.ensures.cause);
   stops = subst IsOfOpening (sym c.halt_of.ensures) (format_halt c.in-Err.refusal);
   idle = tt;
+  room = tt;
   on = tt;
   opens_not = λ told. rw c.halt_of.ensures (format_opens_not g.Q.Platform g.T.Tape _ _ _ _ _ _ c.in-Err.refusal c.in-Err.ensures.cause told (c.requires.empty told));
 }

@@ -1,6 +1,7 @@
 use Rattle.std.proofs.Common.{◌≡◌, ◌≤◌, ◌+◌, ◌∙◌, Ok, refl, ap, arith}
 use Rattle.std.proofs.lemmas.Result.{IfOk-weaker}
 use Rattle.platform.specs.Image.{Image}
+use Rattle.device_session.specs.Reading.{room_of}
 use Rattle.transfer.specs.Counts.{counts}
 use Rattle.transfer.specs.declared.opening.Target.{Target}
 use Rattle.transfer.proofs.BlameLaws.{blames_done, blames_then, of_platform, to_quiet, to_stopped}
@@ -8,7 +9,7 @@ use Rattle.transfer.proofs.HaltLaws.{mount_to}
 use Rattle.transfer.proofs.LookedLaws.{there_found, there_none, there_stop}
 use Rattle.transfer.proofs.OpenLaws.{mount_stopped, nones_behind}
 use Rattle.transfer.proofs.ToLaws.{found_none, opens_behind, opens_found, spans_behind, spans_look}
-use Rattle.transfer.proofs.RefusalLaws.{idle_found, not_behind, on_behind, on_found}
+use Rattle.transfer.proofs.RefusalLaws.{idle_found, not_behind, on_behind, on_found, room_found}
 use Rattle.transfer.proofs.opening.open_target.Goals as goal
 
 pub returns-in-Ok-Some-clause-target : goal.returns-in-Ok-Some-clause-target
@@ -26,6 +27,9 @@ returns-in-Ok-Some-clause-target g c = record {
       blames_done before now _ (to_quiet _ _ before now (of_platform _ _ _ output _) refl c.in-Ok-Some.ensures.blame.quiet);
   stops = tt;
   idle = idle_found g.Q.Platform c.args.to.now c.mount_session.new.platform c.in-Ok-Some.session c.mount_session.result (c.in-Ok-Some.is ∙ ap Ok c.in-Ok-Some.field-0-is) c.mount_session.ensures.finds;
+  room = let room = room_found g.Q.Platform _ _ _ c.in-Ok-Some.session c.mount_session.result (c.in-Ok-Some.is ∙ ap Ok c.in-Ok-Some.field-0-is) c.mount_session.ensures.finds in
+      let enough : 20 ≤ room_of c.in-Ok-Some.session = omega (arith, room) in
+      enough;
   on = on_found g.Q.Platform c.args.to.now c.mount_session.new.platform c.in-Ok-Some.session c.mount_session.result (c.in-Ok-Some.is ∙ ap Ok c.in-Ok-Some.field-0-is) c.mount_session.ensures.finds;
   opens_not = tt;
 }
@@ -48,6 +52,7 @@ returns-in-Ok-None-clause-target g c = record {
       blames_then _ _ _ _ (to_quiet _ _ before mid (of_platform _ _ _ output _) refl c.in-Ok-None.ensures.blame.quiet) (c.make_target.ensures.target.blame from output);
   stops = c.make_target.ensures.target.stops;
   idle = c.make_target.ensures.target.idle;
+  room = c.make_target.ensures.target.room;
   on = on_behind _ _ _ c.args.blocks c.args.order (λ (t : Target). t.session) (λ (t : Target). t.is_new) c.make_target.result c.mount_session.ensures.looks.image c.make_target.ensures.target.on;
   opens_not = let looks = c.mount_session.ensures.looks in
       not_behind _ _ _ _ _ c.make_target.result looks.image (omega (arith, looks.head, looks.capacity)) c.make_target.ensures.target.opens_not;
@@ -67,6 +72,7 @@ returns-in-Err-clause-target g c = record {
       to_stopped _ _ before now c.in-Err.stop (of_platform _ _ _ output _) refl c.in-Err.ensures.blame.fell c.in-Err.ensures.blame.cause;
   stops = mount_to _ _ _ c.in-Err.stop c.in-Err.ensures.stops;
   idle = tt;
+  room = tt;
   on = tt;
   opens_not = λ told. tt;
 }

@@ -74,6 +74,9 @@ returns-in_err-target-clause-refused g c =
     rw (halted c.from_residual.result c.in_err-target.field-0.0 c.from_residual.ensures.1) (refusing_unopened _ _ _ _ _ c.args.source.now.root c.in_err-target.field-0.0 (λ told. root_there _ _ _ c.requires.ready.is_open (c.requires.ready.mounted told).cell)
     c.in_err-target.ensures.target.stops c.in_err-target.ensures.target.opens_not)
 
+pub fill_target-requires-clause-room : goal.fill_target-requires-clause-room
+fill_target-requires-clause-room g c = c.in_ok-target.ensures.target.room
+
 pub returns-in_err-target-clause-moves : goal.returns-in_err-target-clause-moves
 returns-in_err-target-clause-moves g c = rw (halted c.from_residual.result c.in_err-target.field-0.0 c.from_residual.ensures.1) tt
 

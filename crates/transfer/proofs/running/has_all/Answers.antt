@@ -1,4 +1,4 @@
-use Rattle.std.proofs.Common.{◌≡◌, ◌∙◌, Some, refl, sym, ap, subst}
+use Rattle.std.proofs.Common.{◌≡◌, ◌∙◌, Some, false, true, inl, refl, sym, ap, subst}
 use Rattle.std.specs.Prelude.{Bool}
 use Rattle.transfer.proofs.WholeLaws.{sees_same}
 use Rattle.std.specs.FinMap as maps
@@ -81,4 +81,12 @@ returns-then-eq-clause-sees g c =
     c.list_target.ensures.image c.in_ok-others.ensures.listed c.in_ok-others.ensures.count (sym c.as_slice.ensures.value ∙ (bytes_eq-Decides _ _).0 (sym (c.if-eq.ensures))) c.has_same.ensures.same
 
 pub returns-clause-sees : goal.returns-clause-sees
-returns-clause-sees g c = record { others = _; listed = c.in_ok-others.ensures.listed; count = c.in_ok-others.ensures.count; same = λ never. absurd cc }
+returns-clause-sees g c = record {
+  others = _;
+  listed = c.in_ok-others.ensures.listed;
+  count = c.in_ok-others.ensures.count;
+  same = λ never. absurd cc;
+  unlike = λ apart. inl (λ same.
+      let never : false ≡ true = c.if-eq.ensures ∙ (bytes_eq-Decides _ _).1 (c.as_slice.ensures.value ∙ same) in
+      cc);
+}

@@ -1,4 +1,5 @@
-use Rattle.std.proofs.Common.{◌∙◌, Ok, refl, ap}
+use Rattle.std.proofs.Common.{◌≤◌, ◌∙◌, Ok, refl, ap, arith}
+use Rattle.device_session.specs.Reading.{room_of}
 use Rattle.sdbt_base.specs.Arrays.{closed}
 use Rattle.std.proofs.Common.{Some}
 use Rattle.device_course.proofs.MadeLaws.{made_kept, shut}
@@ -10,12 +11,15 @@ use Rattle.transfer.proofs.HaltLaws.{mount_from}
 use Rattle.transfer.proofs.MoveLaws.{at_mounted, moves_behind, moves_stopped}
 use Rattle.transfer.proofs.OpenLaws.{formatted_found, mount_sound}
 use Rattle.transfer.proofs.ToLaws.{found_none, spans_not}
-use Rattle.transfer.proofs.RefusalLaws.{refusing_behind, refusing_from, refusing_none}
+use Rattle.transfer.proofs.RefusalLaws.{refusing_behind, refusing_from, refusing_none, room_found}
 use Rattle.transfer.proofs.running.move_device.Goals as goal
 use Rattle.transfer.proofs.WholeLaws.{whole_found, whole_looked}
 
 pub move_session-requires : goal.move_session-requires
-move_session-requires g c = record { ready = ready_found g.P.Platform c.args.from.now c.mount_session.new.platform c.in-Ok-Some.source c.mount_session.result (c.in-Ok-Some.is ∙ ap Ok c.in-Ok-Some.field-0-is) c.mount_session.ensures.finds }
+move_session-requires g c =
+    let room = room_found g.P.Platform _ _ _ c.in-Ok-Some.source c.mount_session.result (c.in-Ok-Some.is ∙ ap Ok c.in-Ok-Some.field-0-is) c.mount_session.ensures.finds in
+    let enough : 20 ≤ room_of c.in-Ok-Some.source = omega (arith, room) in
+    record { ready = (ready_found g.P.Platform c.args.from.now c.mount_session.new.platform c.in-Ok-Some.source c.mount_session.result (c.in-Ok-Some.is ∙ ap Ok c.in-Ok-Some.field-0-is) c.mount_session.ensures.finds, enough) }
 
 pub returns-in-Ok-Some-clause-from : goal.returns-in-Ok-Some-clause-from
 returns-in-Ok-Some-clause-from g c =

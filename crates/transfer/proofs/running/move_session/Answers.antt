@@ -87,7 +87,7 @@ returns-clause-refused g c = refusing_from _ _ _ _ _ _
 pub returns-in_err-number-clause-moves : goal.returns-in_err-number-clause-moves
 returns-in_err-number-clause-moves g c = (
   rw (halted c.from_residual.result c.in_err-number.field-0.0 c.from_residual.ensures.1) tt,
-  λ told empty. absurd (never_empty (g.P.Platform.history c.args.from.now) (g.P.Platform.history c.fill.new.from) c.args.first ((c.fill.ensures.from no_draw).cell told) (c.requires.ready.mounted told) empty),
+  λ told empty. absurd (never_empty (g.P.Platform.history c.args.from.now) (g.P.Platform.history c.fill.new.from) c.args.first ((c.fill.ensures.from no_draw).cell told) (c.requires.ready.0.mounted told) empty),
 )
 
 pub returns-in-Ok-clause-moves : goal.returns-in-Ok-clause-moves
@@ -95,3 +95,6 @@ returns-in-Ok-clause-moves g c = (c.in_ok-number.ensures.moves, λ told empty. c
 
 pub returns-clause-moves : goal.returns-clause-moves
 returns-clause-moves g c = (tt, λ told empty. c.in_ok-number.ensures.moves)
+
+pub fill-requires : goal.fill-requires
+fill-requires g c = record { ready = c.requires.ready.0 }
