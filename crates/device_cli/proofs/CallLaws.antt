@@ -163,10 +163,10 @@ read_stops tells Known held image now session block bytes stops.Tape known withi
 read_stops tells Known held image now session block bytes stops.Ledger known within any = absurd any
 read_stops tells Known held image now session block bytes stops.BadRoot known within any = absurd any
 
--- a wrong place, or the root node
+-- a wrong node, or the root node
 wrong_one : {A B C : Type 0} → A ⊎ (B × C) → A ⊎ B
-wrong_one (inl place) = inl place
-wrong_one (inr node) = inr node.0
+wrong_one (inl node) = inl node
+wrong_one (inr counted) = inr counted.0
 
 pub write_stops : (tells Known : Type 0) (held : Option Session) (image : Image) (now : World) (session : Session) (block : ℕ) (content : List ℕ) (stop : DeviceStop) → (tells → Known)
     → OnMounted tells now.history.present held (λ s. block < blocks_of s) → (stop ≡ stops.Memory → now.head < now.capacity) → WritesAny Known image now.history.present session block (Err stop) → MayStop tells held now.history.present now.head now.capacity (Write block content) stop

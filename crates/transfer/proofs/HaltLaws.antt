@@ -15,6 +15,7 @@ use Rattle.session_calls.specs.Mounts.{IsMountStop}
 use Rattle.session_calls.specs.declared.stops.DeviceStop.{DeviceStop}
 use Rattle.session_calls.specs.declared.stops.DeviceStop.TheVariants as stops
 use Rattle.session_calls.proofs.DamageLaws.{wrong_page}
+use Rattle.session_calls.proofs.NodeLaws.{node_or}
 use Rattle.transfer.specs.Counts.{Counts}
 use Rattle.transfer.specs.Halts.{Blames}
 use Rattle.transfer.specs.Listing.{IsListStop}
@@ -47,7 +48,7 @@ write_to tells Mounted mounted image after session block stops.Memory any = tt
 write_to tells Mounted mounted image after session block stops.Tape any = tt
 write_to tells Mounted mounted image after session block stops.Ledger any = absurd any
 write_to tells Mounted mounted image after session block stops.BadRoot any = absurd any
-write_to tells Mounted mounted image after session block (stops.BadRecord addr) any = λ told. wrong_page (any (told, mounted told))
+write_to tells Mounted mounted image after session block (stops.BadRecord addr) any = λ told. wrong_page (node_or after addr (any (told, mounted told)))
 
 -- a listing
 pub list_from : (tells Mounted : Type 0) (mounted : tells → Mounted) (image : Image) (stop : DeviceStop) → IsListStop (tells × Mounted) image stop → HaltsFrom tells image (halts.From stop)

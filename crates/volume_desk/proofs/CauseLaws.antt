@@ -1,5 +1,5 @@
 -- Why a line is answered so, by its calls: what stopped a call for a block may stop the line that made the call; and which table there is behind a reply.
-use Rattle.std.proofs.Common.{◌≡◌, ℕ, List, Option, None, Some, Result, Ok, Err, inl, inr, refl, ap, subst, sym}
+use Rattle.std.proofs.Common.{◌≡◌, ◌⊎◌, ℕ, List, Option, None, Some, Result, Ok, Err, inl, inr, refl, ap, subst, sym}
 use Rattle.platform.specs.Image.{Image}
 use Rattle.platform.specs.History.{History}
 use Rattle.device_session.specs.Sessions.{Session}
@@ -10,7 +10,7 @@ use Rattle.session_calls.specs.Commits.{LeavesLedger}
 use Rattle.session_calls.specs.Damage.{IsMounted, IsWrongPage, MeetsDamage, ReadsAny, TrimsAny, WritesAny}
 use Rattle.session_calls.specs.declared.stops.DeviceStop.{DeviceStop}
 use Rattle.session_calls.specs.declared.stops.DeviceStop.TheVariants as stops
-use Rattle.session_calls.proofs.DamageLaws.{trim_meets, write_meets}
+use Rattle.session_calls.proofs.NodeLaws.{node_or}
 use Rattle.volume_table.specs.declared.volume.Volume.{Volume}
 use Rattle.volume_lines.specs.Lines.{Line, Create, Read, Write, Trim, Destroy, Commit, asked}
 use Rattle.volume_lines.specs.declared.lines.Line.{Line as Parsed}
@@ -23,6 +23,11 @@ use Rattle.volume_desk.specs.Done.{IsCleared}
 use Rattle.volume_desk.specs.Turns.{IsBlockAt, NoBlock, commit_reply, destroy_reply}
 
 -- ---- stops
+
+-- a wrong node, or the root node of a tree that is miscounted with more said of it
+wrong_one : {Node Counted More : Type 0} → Node ⊎ (Counted × More) → Node ⊎ Counted
+wrong_one (inl node) = inl node
+wrong_one (inr counted) = inr counted.0
 
 pub read_may : (Known : Type 0) (image after : Image) (session : Session) (at : ℕ) (bytes name : List ℕ) (block : ℕ) (stop : DeviceStop) → ReadsAny Known image after session at bytes (Err stop)
     → MayStop Known after (Read name block) stop
@@ -40,7 +45,7 @@ trim_may Known image after session at name block stops.Memory any = tt
 trim_may Known image after session at name block stops.Tape any = absurd any
 trim_may Known image after session at name block stops.Ledger any = absurd any
 trim_may Known image after session at name block stops.BadRoot any = absurd any
-trim_may Known image after session at name block (stops.BadRecord addr) any = trim_meets Known image after session at (Err (stops.BadRecord addr)) any
+trim_may Known image after session at name block (stops.BadRecord addr) any = λ known. wrong_one (any known)
 
 pub write_may : (Known : Type 0) (image after : Image) (session : Session) (at : ℕ) (name : List ℕ) (block : ℕ) (content : List ℕ) (stop : DeviceStop) → WritesAny Known image after session at (Err stop)
     → MayStop Known after (Write name block content) stop
@@ -49,7 +54,7 @@ write_may Known image after session at name block content stops.Memory any = tt
 write_may Known image after session at name block content stops.Tape any = tt
 write_may Known image after session at name block content stops.Ledger any = absurd any
 write_may Known image after session at name block content stops.BadRoot any = absurd any
-write_may Known image after session at name block content (stops.BadRecord addr) any = write_meets Known image after session at (Err (stops.BadRecord addr)) any
+write_may Known image after session at name block content (stops.BadRecord addr) any = λ known. wrong_one (any known)
 
 -- a line that may stop at whatever a call for a block comes to
 pub call_may : (Known : Type 0) (image : Image) (it : Line) (stop : DeviceStop) → Draws it → Changes it → ((addr : ℕ) → (Known → IsWrongPage image addr) → MeetsRecord Known image it addr) → IsOfCall stop → (Known → MeetsDamage image stop)
@@ -94,8 +99,8 @@ stops_known Known Other image blocks table it stop known (may, accepted) = (may_
 record_is_wrong : (Known : Type 0) (image : Image) (it : Line) (addr : ℕ) → MeetsRecord Known image it addr → Known → IsWrongPage image addr
 record_is_wrong Known image (Create name count) addr meets known = meets known
 record_is_wrong Known image (Read name block) addr meets known = inl (meets known)
-record_is_wrong Known image (Write name block content) addr meets known = meets known
-record_is_wrong Known image (Trim name block) addr meets known = meets known
+record_is_wrong Known image (Write name block content) addr meets known = node_or image addr (meets known)
+record_is_wrong Known image (Trim name block) addr meets known = node_or image addr (meets known)
 record_is_wrong Known image (Destroy name) addr meets known = meets known
 record_is_wrong Known image Commit addr meets known = absurd meets
 

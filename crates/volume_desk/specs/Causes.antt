@@ -3,7 +3,7 @@ use Rattle.std.specs.Prelude.{◌≡◌, ◌≤◌, ◌<◌, ◌⊎◌, ℕ, Lis
 use Rattle.platform.specs.Image.{Image}
 use Rattle.platform.specs.History.{History, moment}
 use Rattle.device_session.specs.Sessions.{Session}
-use Rattle.session_calls.specs.Damage.{IsMounted, IsWrongPage, IsWrongPlace}
+use Rattle.session_calls.specs.Damage.{IsMiscountedAt, IsMounted, IsWrongNode, IsWrongPage, IsWrongPlace}
 use Rattle.session_calls.specs.declared.stops.DeviceStop.{DeviceStop}
 use Rattle.session_calls.specs.declared.stops.DeviceStop.TheVariants as stops
 use Rattle.volume_table.specs.Tables.{Lacks}
@@ -100,10 +100,12 @@ abbrev pub Changes : Line → Type 0
 Changes (Read name block) = ⊥
 Changes _ = Unit {0}
 
--- it comes to the record at this address, which doesn't fit, where this is known: a read to a place of the tree, and each other line that looks for a block to such a one, or to the root node of a tree that is
--- miscounted
+-- it comes to the record at this address, which doesn't fit, where this is known: a read to a place of the tree; a write and a trim to a node's place, and never to that of a data record; a line that changes
+-- the table to a place of the tree; or all but a read to the root node of a tree that is miscounted
 abbrev pub MeetsRecord : Type 0 → Image → Line → ℕ → Type 0
 MeetsRecord Known image (Read name block) addr = Known → IsWrongPlace image addr
+MeetsRecord Known image (Write name block content) addr = Known → IsWrongNode image addr ⊎ IsMiscountedAt image addr
+MeetsRecord Known image (Trim name block) addr = Known → IsWrongNode image addr ⊎ IsMiscountedAt image addr
 MeetsRecord Known image Commit addr = ⊥
 MeetsRecord Known image _ addr = Known → IsWrongPage image addr
 
