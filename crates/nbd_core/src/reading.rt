@@ -1,5 +1,5 @@
 //! Reads.
-ghost use Rattle.std.specs.Prelude.{Some, ◌≡◌, ◌+◌, ◌*◌, ◌≤◌, ◌<◌, ℕ, IfErr, IfOk, IsTrue, length};
+ghost use Rattle.std.specs.Prelude.{Some, ◌≡◌, ◌+◌, ◌*◌, ◌≤◌, ◌<◌, ℕ, IfErr, IfOk, IsTrue, length, max};
 ghost use Rattle.device_session.specs.Open.{IsOpen, blocks_of};
 ghost use Rattle.session_calls.specs.Along.{Along, Drawn};
 ghost use Rattle.sdbt_base.specs.Counts.{Counts};
@@ -66,9 +66,10 @@ pub(crate) fn read<P: Platform>(
     }
 }
 
-/// Whether so many bytes are there, or could be added.
+/// Whether so many bytes are there, or could be added; no more are taken than these.
 fn has_room(reply: &mut Vec<u8>, count: usize) -> bool
-    ensures { IsTrue result → count ≤ length reply.new.items }
+    ensures there { IsTrue result → count ≤ length reply.new.items }
+    ensures most { length reply.new.items ≤ max count (length reply.old.items) }
 {
     count <= reply.len() || reply.resize(count, 0).is_ok()
 }

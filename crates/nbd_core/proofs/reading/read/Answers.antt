@@ -47,7 +47,7 @@ returns-in-Ok-clause-leads g c told entry held =
     let calls = (c.in-Ok.ensures.calls no_draw).along in
     let n : ℕ = c.args.request.now.length in
     let room : List ℕ = c.deref_mut.result.now in
-    let long : 16 + n ≤ length room = omega (arith, c.if-not-has_room.ensures refl, ap length c.deref_mut.ensures.value) in
+    let long : 16 + n ≤ length room = omega (arith, c.if-not-has_room.ensures.there refl, ap length c.deref_mut.ensures.value) in
     let out : List ℕ = c.read_range.new.out in
     let size : length out ≡ n = omega (arith, c.in-Ok.ensures.size) in (
       entry,
@@ -66,7 +66,7 @@ pub returns-in-Ok-clause-damage : goal.returns-in-Ok-clause-damage
 returns-in-Ok-clause-damage g c told mounted =
     let n : ℕ = c.args.request.now.length in
     let room : List ℕ = c.deref_mut.result.now in
-    let long : 16 + n ≤ length room = omega (arith, c.if-not-has_room.ensures refl, ap length c.deref_mut.ensures.value) in
+    let long : 16 + n ≤ length room = omega (arith, c.if-not-has_room.ensures.there refl, ap length c.deref_mut.ensures.value) in
     let out : List ℕ = c.read_range.new.out in
     let size : length out ≡ n = omega (arith, c.in-Ok.ensures.size) in
     let read = c.in-Ok.ensures.damage told mounted in
