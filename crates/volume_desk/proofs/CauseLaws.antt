@@ -1,5 +1,5 @@
 -- Why a line is answered so, by its calls: what stopped a call for a block may stop the line that made the call; and which table there is behind a reply.
-use Rattle.std.proofs.Common.{◌≡◌, ◌⊎◌, ℕ, List, Option, None, Some, Result, Ok, Err, inl, inr, refl, ap, subst, sym}
+use Rattle.std.proofs.Common.{◌≡◌, ◌<◌, ◌-◌, ◌⊎◌, ℕ, List, Option, None, Some, Result, Ok, Err, inl, inr, refl, ap, subst, sym}
 use Rattle.platform.specs.Image.{Image}
 use Rattle.platform.specs.History.{History}
 use Rattle.device_session.specs.Sessions.{Session}
@@ -18,7 +18,7 @@ use Rattle.volume_lines.specs.Replies as told
 use Rattle.volume_lines.specs.Replies.{Reply, said}
 use Rattle.volume_lines.specs.declared.replies.Reply.{Reply as Given}
 use Rattle.volume_lines.specs.declared.replies.Reply.TheVariants as given
-use Rattle.volume_desk.specs.Causes.{AnswersAlong, AnswersOver, Changes, Commits, Draws, HasBlock, IsAccepted, LacksBlock, MayStop, MeetsRecord, Sizes, StopsAny, TakesOver, TurnsTable}
+use Rattle.volume_desk.specs.Causes.{AnswersAlong, AnswersOver, Changes, Commits, Draws, HasBlock, IsAccepted, IsWrongStep, LacksBlock, MayStop, MeetsNode, MeetsRecord, Sizes, StopsAny, TakesOver, TurnsTable}
 use Rattle.volume_desk.specs.Done.{IsCleared}
 use Rattle.volume_desk.specs.Turns.{IsBlockAt, NoBlock, commit_reply, destroy_reply}
 
@@ -56,8 +56,25 @@ write_may Known image after session at name block content stops.Ledger any = abs
 write_may Known image after session at name block content stops.BadRoot any = absurd any
 write_may Known image after session at name block content (stops.BadRecord addr) any = λ known. wrong_one (any known)
 
--- a line that may stop at whatever a call for a block comes to
-pub call_may : (Known : Type 0) (image : Image) (it : Line) (stop : DeviceStop) → Draws it → Changes it → ((addr : ℕ) → (Known → IsWrongPage image addr) → MeetsRecord Known image it addr) → IsOfCall stop → (Known → MeetsDamage image stop)
+-- what an update of a block names
+pub write_names : (Known : Type 0) (image after : Image) (session : Session) (at : ℕ) (stop : DeviceStop) → WritesAny Known image after session at (Err stop) → Known → MeetsNode after stop
+write_names Known image after session at stops.Platform any known = tt
+write_names Known image after session at stops.Memory any known = tt
+write_names Known image after session at stops.Tape any known = tt
+write_names Known image after session at stops.Ledger any known = tt
+write_names Known image after session at stops.BadRoot any known = tt
+write_names Known image after session at (stops.BadRecord addr) any known = wrong_one (any known)
+
+pub trim_names : (Known : Type 0) (image after : Image) (session : Session) (at : ℕ) (stop : DeviceStop) → TrimsAny Known image after session at (Err stop) → Known → MeetsNode after stop
+trim_names Known image after session at stops.Platform any known = tt
+trim_names Known image after session at stops.Memory any known = tt
+trim_names Known image after session at stops.Tape any known = tt
+trim_names Known image after session at stops.Ledger any known = tt
+trim_names Known image after session at stops.BadRoot any known = tt
+trim_names Known image after session at (stops.BadRecord addr) any known = wrong_one (any known)
+
+-- a line that may stop at whatever an update of a block comes to
+pub call_may : (Known : Type 0) (image : Image) (it : Line) (stop : DeviceStop) → Draws it → Changes it → ((addr : ℕ) → (Known → IsWrongStep image addr) → MeetsRecord Known image it addr) → IsOfCall stop → (Known → MeetsNode image stop)
     → MayStop Known image it stop
 call_may Known image it stops.Platform draws changes meets of_call met = tt
 call_may Known image it stops.Tape draws changes meets of_call met = draws
@@ -97,11 +114,11 @@ stops_known Known Other image blocks table it stop known (may, accepted) = (may_
 
 -- a record that doesn't fit is a wrong page
 record_is_wrong : (Known : Type 0) (image : Image) (it : Line) (addr : ℕ) → MeetsRecord Known image it addr → Known → IsWrongPage image addr
-record_is_wrong Known image (Create name count) addr meets known = meets known
+record_is_wrong Known image (Create name count) addr meets known = node_or image addr (meets known)
 record_is_wrong Known image (Read name block) addr meets known = inl (meets known)
 record_is_wrong Known image (Write name block content) addr meets known = node_or image addr (meets known)
 record_is_wrong Known image (Trim name block) addr meets known = node_or image addr (meets known)
-record_is_wrong Known image (Destroy name) addr meets known = meets known
+record_is_wrong Known image (Destroy name) addr meets known = node_or image addr (meets known)
 record_is_wrong Known image Commit addr meets known = absurd meets
 
 pub may_meets : (Known : Type 0) (image : Image) (it : Line) (stop : DeviceStop) → MayStop Known image it stop → Known → MeetsDamage image stop
@@ -129,42 +146,43 @@ no_block_said table name block given.Uncommitted buffer none = absurd none
 no_block_said table name block (given.Committed number) buffer none = absurd none
 no_block_said table name block given.Bad buffer none = absurd none
 
-pub read_refused : (here : Sizes) (table : List Volume) (name : List ℕ) (block : ℕ) (reply : Given) (buffer : List ℕ) → NoBlock table name block reply → TurnsTable here table (Read name block) (said reply buffer) table
-read_refused here table name block reply buffer none = inl (no_block_said table name block reply buffer none, refl)
+pub read_refused : (here : Sizes) (needed : ℕ) (table : List Volume) (name : List ℕ) (block : ℕ) (reply : Given) (buffer : List ℕ) → NoBlock table name block reply → TurnsTable here needed table (Read name block) (said reply buffer) table
+read_refused here needed table name block reply buffer none = inl (no_block_said table name block reply buffer none, refl)
 
-pub write_refused : (here : Sizes) (table : List Volume) (name : List ℕ) (block : ℕ) (content : List ℕ) (reply : Given) (buffer : List ℕ) → NoBlock table name block reply
-    → TurnsTable here table (Write name block content) (said reply buffer) table
-write_refused here table name block content reply buffer none = inl (no_block_said table name block reply buffer none, refl)
+pub write_refused : (here : Sizes) (needed : ℕ) (table : List Volume) (name : List ℕ) (block : ℕ) (content : List ℕ) (reply : Given) (buffer : List ℕ) → NoBlock table name block reply
+    → TurnsTable here needed table (Write name block content) (said reply buffer) table
+write_refused here needed table name block content reply buffer none = inl (no_block_said table name block reply buffer none, refl)
 
-pub trim_refused : (here : Sizes) (table : List Volume) (name : List ℕ) (block : ℕ) (reply : Given) (buffer : List ℕ) → NoBlock table name block reply → TurnsTable here table (Trim name block) (said reply buffer) table
-trim_refused here table name block reply buffer none = inl (no_block_said table name block reply buffer none, refl)
+pub trim_refused : (here : Sizes) (needed : ℕ) (table : List Volume) (name : List ℕ) (block : ℕ) (reply : Given) (buffer : List ℕ) → NoBlock table name block reply → TurnsTable here needed table (Trim name block) (said reply buffer) table
+trim_refused here needed table name block reply buffer none = inl (no_block_said table name block reply buffer none, refl)
 
 -- there is one
 pub has_block : (table : List Volume) (name : List ℕ) (block at : ℕ) → IsBlockAt table name block at → HasBlock table name block
 has_block table name block at is = (is.v, is.named, is.below)
 
-pub read_done : (here : Sizes) (table : List Volume) (name : List ℕ) (block at : ℕ) (reply : Reply) (bytes : List ℕ) → reply ≡ told.Content bytes → IsBlockAt table name block at → TurnsTable here table (Read name block) reply table
-read_done here table name block at reply bytes same is =
-    let done : TurnsTable here table (Read name block) (told.Content bytes) table = inr (table, (has_block table name block at is, refl), inl (tt, refl)) in
-    subst (λ (r : Reply). TurnsTable here table (Read name block) r table) (sym same) done
+pub read_done : (here : Sizes) (needed : ℕ) (table : List Volume) (name : List ℕ) (block at : ℕ) (reply : Reply) (bytes : List ℕ) → reply ≡ told.Content bytes → IsBlockAt table name block at → TurnsTable here needed table (Read name block) reply table
+read_done here needed table name block at reply bytes same is =
+    let done : TurnsTable here needed table (Read name block) (told.Content bytes) table = inr (table, (has_block table name block at is, refl), inl (tt, refl)) in
+    subst (λ (r : Reply). TurnsTable here needed table (Read name block) r table) (sym same) done
 
 -- ---- a commit, and a destroy
-pub commit_turns : (here : Sizes) (table : List Volume) (reply : CommitReply) (answer : Given) (buffer : List ℕ) → answer ≡ commit_reply reply → TurnsTable here table Commit (said answer buffer) table
-commit_turns here table (commits.Committed number) answer buffer is =
-    let done : TurnsTable here table Commit (told.Committed number) table = inr (table, refl, inl (tt, refl)) in
-    subst (λ (r : Reply). TurnsTable here table Commit r table) (sym (ap (λ (a : Given). said a buffer) is)) done
-commit_turns here table (commits.Full needed free) answer buffer is =
-    let short : TurnsTable here table Commit told.Full table = inr (table, refl, inr (tt, refl, refl)) in
-    subst (λ (r : Reply). TurnsTable here table Commit r table) (sym (ap (λ (a : Given). said a buffer) is)) short
+pub commit_turns : (here : Sizes) (needed : ℕ) (table : List Volume) (reply : CommitReply) (answer : Given) (buffer : List ℕ) → answer ≡ commit_reply reply → ((wanted free : ℕ) → reply ≡ commits.Full wanted free → here.capacity - here.pages < needed)
+    → TurnsTable here needed table Commit (said answer buffer) table
+commit_turns here needed table (commits.Committed number) answer buffer is short =
+    let done : TurnsTable here needed table Commit (told.Committed number) table = inr (table, refl, inl (tt, refl)) in
+    subst (λ (r : Reply). TurnsTable here needed table Commit r table) (sym (ap (λ (a : Given). said a buffer) is)) done
+commit_turns here needed table (commits.Full wanted free) answer buffer is short =
+    let full : TurnsTable here needed table Commit told.Full table = inr (table, refl, inr (short wanted free refl, refl, refl)) in
+    subst (λ (r : Reply). TurnsTable here needed table Commit r table) (sym (ap (λ (a : Given). said a buffer) is)) full
 
-pub destroy_turns : (here : Sizes) (table left : List Volume) (name : List ℕ) (reply : CommitReply) (answer : Given) (buffer : List ℕ) → answer ≡ destroy_reply reply → IsAccepted here.blocks table (Destroy name) left
-    → TurnsTable here table (Destroy name) (said answer buffer) left
-destroy_turns here table left name (commits.Committed number) answer buffer is accepted =
-    let done : TurnsTable here table (Destroy name) (told.Destroyed number) left = inr (left, accepted, inl (tt, refl)) in
-    subst (λ (r : Reply). TurnsTable here table (Destroy name) r left) (sym (ap (λ (a : Given). said a buffer) is)) done
-destroy_turns here table left name (commits.Full needed free) answer buffer is accepted =
-    let done : TurnsTable here table (Destroy name) told.Uncommitted left = inr (left, accepted, inl (tt, refl)) in
-    subst (λ (r : Reply). TurnsTable here table (Destroy name) r left) (sym (ap (λ (a : Given). said a buffer) is)) done
+pub destroy_turns : (here : Sizes) (needed : ℕ) (table left : List Volume) (name : List ℕ) (reply : CommitReply) (answer : Given) (buffer : List ℕ) → answer ≡ destroy_reply reply → IsAccepted here.blocks table (Destroy name) left
+    → TurnsTable here needed table (Destroy name) (said answer buffer) left
+destroy_turns here needed table left name (commits.Committed number) answer buffer is accepted =
+    let done : TurnsTable here needed table (Destroy name) (told.Destroyed number) left = inr (left, accepted, inl (tt, refl)) in
+    subst (λ (r : Reply). TurnsTable here needed table (Destroy name) r left) (sym (ap (λ (a : Given). said a buffer) is)) done
+destroy_turns here needed table left name (commits.Full wanted free) answer buffer is accepted =
+    let done : TurnsTable here needed table (Destroy name) told.Uncommitted left = inr (left, accepted, inl (tt, refl)) in
+    subst (λ (r : Reply). TurnsTable here needed table (Destroy name) r left) (sym (ap (λ (a : Given). said a buffer) is)) done
 
 pub takes_some_any : (tells : Type 0) (before image : Image) (session now : Session) (here : Sizes) (table left : List Volume) (name buffer : List ℕ) (refused : Option Given) (reply : Given) → refused ≡ Some reply
     → TakesOver tells before image session now here table left name buffer (Ok refused) → AnswersOver tells before image session now here table left (Destroy name) buffer (Ok reply)

@@ -1,9 +1,10 @@
 -- Why a line is answered so, or the device stops at it, on any pages, forged ones too: by the table in memory, by the line's name and numbers, and by the pages that are free; and what a line that is done found or left.
-use Rattle.std.specs.Prelude.{◌≡◌, ◌≤◌, ◌<◌, ◌⊎◌, ℕ, List, Option, None, Some, Result, Ok, Err}
+use Rattle.std.specs.Prelude.{◌≡◌, ◌≤◌, ◌<◌, ◌-◌, ◌⊎◌, ℕ, List, Option, None, Some, Result, Ok, Err}
 use Rattle.platform.specs.Image.{Image}
 use Rattle.platform.specs.History.{History, moment}
+use Rattle.device_session.specs.Open.{needed_by}
 use Rattle.device_session.specs.Sessions.{Session}
-use Rattle.session_calls.specs.Damage.{IsMiscountedAt, IsMounted, IsWrongNode, IsWrongPage, IsWrongPlace}
+use Rattle.session_calls.specs.Damage.{IsMiscountedAt, IsMounted, IsWrongNode, IsWrongPlace}
 use Rattle.session_calls.specs.declared.stops.DeviceStop.{DeviceStop}
 use Rattle.session_calls.specs.declared.stops.DeviceStop.TheVariants as stops
 use Rattle.volume_table.specs.Tables.{Lacks}
@@ -67,19 +68,19 @@ IsDone (Destroy name) Uncommitted = Unit {0}
 IsDone Commit (Committed number) = Unit {0}
 IsDone _ _ = ⊥
 
--- pages may lack for it: it wants one, and none is free; or it commits
-abbrev pub LacksPages : Sizes → Line → Type 0
-LacksPages here (Create name count) = here.capacity ≤ here.pages
-LacksPages here (Write name block content) = here.capacity ≤ here.pages
-LacksPages here (Destroy name) = here.capacity ≤ here.pages
-LacksPages here Commit = Unit {0}
-LacksPages here _ = ⊥
+-- pages lack for it: it wants one, and none is free; or it commits, and fewer are free than the session's changes need
+abbrev pub LacksPages : Sizes → ℕ → Line → Type 0
+LacksPages here needed (Create name count) = here.capacity ≤ here.pages
+LacksPages here needed (Write name block content) = here.capacity ≤ here.pages
+LacksPages here needed (Destroy name) = here.capacity ≤ here.pages
+LacksPages here needed Commit = here.capacity - here.pages < needed
+LacksPages here needed _ = ⊥
 
--- a reply to the line, over this table, and the table behind it: the line is refused; or it is accepted, and done, or pages lack
-abbrev pub TurnsTable : Sizes → List Volume → Line → Reply → List Volume → Type 0
-TurnsTable here table it reply now =
+-- a reply to the line, over this table, and the table behind it: the line is refused; or it is accepted, and done, or pages lack. So many pages are needed by what the session had changed before the line
+abbrev pub TurnsTable : Sizes → ℕ → List Volume → Line → Reply → List Volume → Type 0
+TurnsTable here needed table it reply now =
     (IsRefused here.blocks table it reply × (now ≡ table))
-    ⊎ ((next : List Volume) × IsAccepted here.blocks table it next × ((IsDone it reply × (now ≡ next)) ⊎ (LacksPages here it × (reply ≡ Full) × (now ≡ table))))
+    ⊎ ((next : List Volume) × IsAccepted here.blocks table it next × ((IsDone it reply × (now ≡ next)) ⊎ (LacksPages here needed it × (reply ≡ Full) × (now ≡ table))))
 
 -- ---- stops
 
@@ -100,14 +101,20 @@ abbrev pub Changes : Line → Type 0
 Changes (Read name block) = ⊥
 Changes _ = Unit {0}
 
--- it comes to the record at this address, which doesn't fit, where this is known: a read to a place of the tree; a write and a trim to a node's place, and never to that of a data record; a line that changes
--- the table to a place of the tree; or all but a read to the root node of a tree that is miscounted
+-- an update names this address: a node's place stands there that doesn't fit, and never that of a data record; or the root node of a tree that is miscounted
+abbrev pub IsWrongStep : Image → ℕ → Type 0
+IsWrongStep image addr = IsWrongNode image addr ⊎ IsMiscountedAt image addr
+
+-- an update that stops at a record which doesn't fit names such a one
+abbrev pub MeetsNode : Image → DeviceStop → Type 0
+MeetsNode image (stops.BadRecord addr) = IsWrongStep image addr
+MeetsNode image _ = Unit {0}
+
+-- it comes to the record at this address, which doesn't fit, where this is known: a read to a place of the tree, and each other line to a node's, or to a root node, since it only updates blocks
 abbrev pub MeetsRecord : Type 0 → Image → Line → ℕ → Type 0
 MeetsRecord Known image (Read name block) addr = Known → IsWrongPlace image addr
-MeetsRecord Known image (Write name block content) addr = Known → IsWrongNode image addr ⊎ IsMiscountedAt image addr
-MeetsRecord Known image (Trim name block) addr = Known → IsWrongNode image addr ⊎ IsMiscountedAt image addr
 MeetsRecord Known image Commit addr = ⊥
-MeetsRecord Known image _ addr = Known → IsWrongPage image addr
+MeetsRecord Known image _ addr = Known → IsWrongStep image addr
 
 -- such a line may stop so, behind which there is this image
 abbrev pub MayStop : Type 0 → Image → Line → DeviceStop → Type 0
@@ -125,20 +132,20 @@ StopsAny Known image blocks table it stop = MayStop Known image it stop × ((nex
 -- ---- answers
 
 -- the one table of a line's answers on any pages: which replies it may have, and what it did where this is known; or which stops, behind which there is this image
-abbrev pub AnswersAny : Type 0 → ((Image → Session → Image → Session → Type 0) → Type 0) → ((Image → Session → Image → Session → Type 0) → Type 0) → Image → Sizes → List Volume → List Volume → Line → List ℕ → Result Given DeviceStop → Type 0
-AnswersAny Known Did HadLeft image here table table_now it buffer (Ok reply) =
-    TurnsTable here table it (said reply buffer) table_now × DoesAny (λ Claim. Known → Did Claim) (λ Claim. Known → HadLeft Claim) table (said reply buffer) it table_now
-AnswersAny Known Did HadLeft image here table table_now it buffer (Err stop) = StopsAny Known image here.blocks table it stop
+abbrev pub AnswersAny : Type 0 → ((Image → Session → Image → Session → Type 0) → Type 0) → ((Image → Session → Image → Session → Type 0) → Type 0) → Image → Sizes → ℕ → List Volume → List Volume → Line → List ℕ → Result Given DeviceStop → Type 0
+AnswersAny Known Did HadLeft image here needed table table_now it buffer (Ok reply) =
+    TurnsTable here needed table it (said reply buffer) table_now × DoesAny (λ Claim. Known → Did Claim) (λ Claim. Known → HadLeft Claim) table (said reply buffer) it table_now
+AnswersAny Known Did HadLeft image here needed table table_now it buffer (Err stop) = StopsAny Known image here.blocks table it stop
 
 -- those of calls for blocks: what it did is so of the session and the image from before, and of those behind
 abbrev pub AnswersOver : Type 0 → Image → Image → Session → Session → Sizes → List Volume → List Volume → Line → List ℕ → Result Given DeviceStop → Type 0
 AnswersOver tells before image session now here table table_now it buffer result =
-    AnswersAny (tells × IsMounted before session) (Across before session image now) (Across before session image now) image here table table_now it buffer result
+    AnswersAny (tells × IsMounted before session) (Across before session image now) (Across before session image now) image here (needed_by session) table table_now it buffer result
 
 -- those of a line, behind which this session goes on: what it did is so of that one; and what it left before a commit was so at a moment of the line
 abbrev pub AnswersAlong : Type 0 → History → History → Session → Option Session → Sizes → List Volume → List Volume → Line → List ℕ → Result Given DeviceStop → Type 0
 AnswersAlong tells old new session after here table table_now it buffer result =
-    AnswersAny tells (AcrossIf old.present session new.present after) (λ Claim. WasOver (moment old) (moment new) new (Claim old.present session)) new.present here table table_now it buffer result
+    AnswersAny tells (AcrossIf old.present session new.present after) (λ Claim. WasOver (moment old) (moment new) new (Claim old.present session)) new.present here (needed_by session) table table_now it buffer result
 
 -- the answer of which that speaks
 abbrev pub answer_in : Result Answered DeviceStop → Result Given DeviceStop

@@ -1,6 +1,6 @@
 use Rattle.std.proofs.Common.{Ok, Err, ap, refl, subst, sym, ◌∙◌, arith}
 use Rattle.sdbt_base.specs.Arrays.{content_of}
-use Rattle.device_session.specs.Open.{blocks_of}
+use Rattle.device_session.specs.Open.{blocks_of, needed_by}
 use Rattle.script_lang.specs.Arrays.{trimmed}
 use Rattle.volume_lines.specs.Lines.{Read}
 use Rattle.volume_lines.specs.Replies.{Reply}
@@ -49,7 +49,7 @@ pub returns-in-Err-clause-any : goal.returns-in-Err-clause-any
 returns-in-Err-clause-any g c =
     let here = (sizes (blocks_of c.args.session.now) (g.P.Platform.head c.args.platform.now) (g.P.Platform.capacity c.args.platform.now)) in
     refused_over g.P.Platform.tells (g.P.Platform.history c.args.platform.now).present c.args.session.now here c.args.table.now (Read c.args.name.now c.args.block) c.args.name.now c.args.block c.in-Err.reply c.args.buffer.now c.in-Err.ensures.none
-    (read_refused here c.args.table.now c.args.name.now c.args.block c.in-Err.reply c.args.buffer.now c.in-Err.ensures.none)
+    (read_refused here (needed_by c.args.session.now) c.args.table.now c.args.name.now c.args.block c.in-Err.reply c.args.buffer.now c.in-Err.ensures.none)
 
 pub returns-in-Ok-read_block-clause-any : goal.returns-in-Ok-read_block-clause-any
 returns-in-Ok-read_block-clause-any g c =

@@ -1,5 +1,5 @@
 use Rattle.std.proofs.Common.{◌≡◌, ◌≢◌, ◌≤◌, ℕ, [], ◌∷◌, Ok, Err, inl, inr, ap, refl, arith}
-use Rattle.device_session.specs.Open.{blocks_of}
+use Rattle.device_session.specs.Open.{blocks_of, needed_by}
 use Rattle.session_calls.specs.Along.{drawn_by}
 use Rattle.volume_lines.specs.Lines.{Write}
 use Rattle.volume_terms.specs.Turn.{Writes}
@@ -60,7 +60,7 @@ pub returns-in-Err-clause-any : goal.returns-in-Err-clause-any
 returns-in-Err-clause-any g c buffer =
     let here = (sizes (blocks_of c.args.session.now) (g.P.Platform.head c.args.platform.now) (g.P.Platform.capacity c.args.platform.now)) in
     refused_over g.P.Platform.tells (g.P.Platform.history c.args.platform.now).present c.args.session.now here c.args.table.now (Write c.args.name.now c.args.block c.args.content.now) c.args.name.now c.args.block c.in-Err.reply buffer c.in-Err.ensures.none
-    (write_refused here c.args.table.now c.args.name.now c.args.block c.args.content.now c.in-Err.reply buffer c.in-Err.ensures.none)
+    (write_refused here (needed_by c.args.session.now) c.args.table.now c.args.name.now c.args.block c.args.content.now c.in-Err.reply buffer c.in-Err.ensures.none)
 
 pub returns-then-head-capacity-clause-any : goal.returns-then-head-capacity-clause-any
 returns-then-head-capacity-clause-any g c buffer =

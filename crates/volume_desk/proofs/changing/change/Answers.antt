@@ -6,7 +6,7 @@ use Rattle.session_calls.specs.Along.{drawn_by}
 use Rattle.volume_table.specs.Tables.{IsInside}
 use Rattle.volume_desk.specs.Turns.{ChangesTo}
 use Rattle.session_calls.proofs.CallLaws.{calls_of, calls_stopped, calls_then, platform_quiet, tape_quiet}
-use Rattle.session_calls.proofs.DamageLaws.{write_meets}
+use Rattle.volume_desk.proofs.CauseLaws.{write_names}
 use Rattle.volume_desk.proofs.DeskLaws.{ok_follows, on_ok, write_sound}
 use Rattle.volume_desk.proofs.DoneLaws.{cleared}
 use Rattle.volume_desk.proofs.DrawingLaws.{one_then}
@@ -44,7 +44,7 @@ pub returns-in-Err-clause-leads : goal.returns-in-Err-clause-leads
 returns-in-Err-clause-leads g c told device array at = write_sound (g.P.Platform.history c.write_block.new.platform).present c.write_block.new.session device array 0 c.encode.new.out c.in-Err.stop (c.in-Err.ensures.leads told device array at)
 
 pub returns-in-Err-clause-damage : goal.returns-in-Err-clause-damage
-returns-in-Err-clause-damage g c told mounted = write_meets _ (g.P.Platform.history c.args.platform.now).present (g.P.Platform.history c.write_block.new.platform).present c.args.session.now 0 (Err c.in-Err.stop) c.in-Err.ensures.any (told, mounted)
+returns-in-Err-clause-damage g c told mounted = write_names _ (g.P.Platform.history c.args.platform.now).present (g.P.Platform.history c.write_block.new.platform).present c.args.session.now 0 c.in-Err.stop c.in-Err.ensures.any (told, mounted)
 
 pub returns-in-Ok-clause-left : goal.returns-in-Ok-clause-left
 returns-in-Ok-clause-left g c told mounted =

@@ -9,8 +9,8 @@ use Rattle.device_course.proofs.HeldLaws.{trim_all-more}
 use Rattle.session_calls.specs.Along.{Along}
 use Rattle.session_calls.proofs.AlongLaws.{along_start, along_then}
 use Rattle.session_calls.proofs.CallLaws.{calls_of, calls_stopped, calls_then, no_draw, platform_quiet}
-use Rattle.session_calls.proofs.DamageLaws.{trim_meets}
 use Rattle.volume_desk.specs.Done.{HasTrimmed}
+use Rattle.volume_desk.proofs.CauseLaws.{trim_names}
 use Rattle.volume_desk.proofs.DeskLaws.{trim_sound}
 use Rattle.volume_desk.proofs.DoneLaws.{trimmed_more, trimmed_none}
 use Rattle.volume_desk.proofs.changing.trim_range.Goals as goal
@@ -62,7 +62,7 @@ pub returns-in-Err-clause-leads : goal.returns-in-Err-clause-leads
 returns-in-Err-clause-leads g c told device array at = trim_sound (g.P.Platform.history c.trim_block.new.platform).present c.trim_block.new.session device (trim_all array (blocks_from c.args.volume.now.start c.loop-i.i)) (c.args.volume.now.start + c.loop-i.i) c.in-Err.stop (c.in-Err.ensures.leads told device _ (c.loop-i.invariant.trims told device array at))
 
 pub returns-in-Err-clause-damage : goal.returns-in-Err-clause-damage
-returns-in-Err-clause-damage g c told mounted = trim_meets _ (g.P.Platform.history c.loop-i.platform).present (g.P.Platform.history c.trim_block.new.platform).present c.loop-i.session (c.args.volume.now.start + c.loop-i.i) (Err c.in-Err.stop) c.in-Err.ensures.any (told, (c.loop-i.invariant.along no_draw).mounted told mounted)
+returns-in-Err-clause-damage g c told mounted = trim_names _ (g.P.Platform.history c.loop-i.platform).present (g.P.Platform.history c.trim_block.new.platform).present c.loop-i.session (c.args.volume.now.start + c.loop-i.i) c.in-Err.stop c.in-Err.ensures.any (told, (c.loop-i.invariant.along no_draw).mounted told mounted)
 
 pub returns-clause-calls : goal.returns-clause-calls
 returns-clause-calls g c drawn =

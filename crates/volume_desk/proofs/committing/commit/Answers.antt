@@ -11,7 +11,7 @@ use Rattle.volume_desk.specs.Done.{KeepsAll}
 use Rattle.volume_desk.specs.Turns.{StopsAt}
 use Rattle.session_calls.proofs.CarryLaws.{carries_committed, carries_going, carries_stopped}
 use Rattle.volume_desk.proofs.CauseLaws.{commit_may}
-use Rattle.volume_desk.proofs.DoneLaws.{commit_along, keeps_all, needs_behind, short_still}
+use Rattle.volume_desk.proofs.DoneLaws.{commit_along, keeps_all, needs_behind, short_pages, short_still}
 use Rattle.volume_desk.proofs.DrawingLaws.{commit_drew, short_head}
 use Rattle.volume_desk.proofs.TurnLaws.{array_held, commit_pages, commit_served, committed_to}
 use Rattle.volume_desk.proofs.committing.commit.Goals as goal
@@ -45,6 +45,7 @@ returns-in-Ok-clause-any g c table buffer =
     (λ number is. needs_behind g.P.Platform c.args.platform.now c.commit_session.new.platform c.args.tape.now c.commit_session.new.tape c.args.ledger.now c.commit_session.new.ledger c.args.session c.in-Ok.done.session c.in-Ok.done.reply number is c.in-Ok.ensures.answers)
     (λ needed free is. short_still g.P.Platform c.args.platform.now c.commit_session.new.platform c.args.tape.now c.commit_session.new.tape c.args.ledger.now c.commit_session.new.ledger c.args.session c.in-Ok.done.session c.in-Ok.done.reply needed free
     (λ image s. KeepsAll (g.P.Platform.history c.args.platform.now).present c.args.session image s) is c.in-Ok.ensures.answers (keeps_all (g.P.Platform.history c.args.platform.now).present c.args.session))
+    (λ needed free is. short_pages g.P.Platform c.args.platform.now c.commit_session.new.platform c.args.tape.now c.commit_session.new.tape c.args.ledger.now c.commit_session.new.ledger c.args.session c.in-Ok.done.session c.in-Ok.done.reply needed free is c.in-Ok.ensures.answers)
 
 pub returns-in-Err-clause-any : goal.returns-in-Err-clause-any
 returns-in-Err-clause-any g c table buffer = (commit_may g.P.Platform.tells (g.P.Platform.history c.commit_session.new.platform).present Commit c.args.ledger.now c.commit_session.new.ledger c.in-Err.stop tt tt tt c.in-Err.ensures.goes.unput, (table, refl))
