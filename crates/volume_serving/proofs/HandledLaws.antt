@@ -11,7 +11,7 @@ use Rattle.platform.specs.History.{Extends, History, moment}
 use Rattle.platform.proofs.Moments.{Extends-refl, image_at-now}
 use Rattle.device_course.specs.States.{IsLater, Outside}
 use Rattle.device_course.proofs.MadeLaws.{made_again, made_start, made_then, shut}
-use Rattle.device_session.specs.Open.{blocks_of}
+use Rattle.device_session.specs.Open.{blocks_of, needed_by}
 use Rattle.device_session.specs.Sessions.{Session}
 use Rattle.line_run.specs.Puts.{HasPut, IsBehind, no_line}
 use Rattle.line_run.specs.Stops.{Ending, IsOfLine}
@@ -332,7 +332,7 @@ still_of draws tape tape_now pages pages_now it undrawn unadded none = λ k. tal
 
 -- one in the grammar, by what the desk says of it
 pub served_says : (tells : Type 0) (blocks : ℕ) (old : World) (session now : Session) (table_now : List Volume) (new : Outside) (text : List ℕ) (it : Line) (reply : Reply) → old.session ≡ Some session → Spells text it → (tells → Extends old.outside.history new.history)
-    → (tells → IsMounted new.history.present now) → blocks_of now ≡ blocks_of session → TurnsTable (sizes blocks new.head new.capacity) old.table it reply table_now
+    → (tells → IsMounted new.history.present now) → blocks_of now ≡ blocks_of session → TurnsTable (sizes blocks new.head new.capacity) (needed_by session) old.table it reply table_now
     × DoesAny (λ Claim. tells → Claim old.outside.history.present session new.history.present now) (λ Claim. tells → WasOver (moment old.outside.history) (moment new.history) new.history (Claim old.outside.history.present session)) old.table reply it table_now
     → DrewFor (tally_of old.outside) it reply (tally_of new) → ((Draws it → ⊥) → tally_of new ≡ tally_of old.outside) → SaysOf tells blocks old now table_now new text reply
 served_says tells blocks old session now table_now new text it reply going spelled extends goes blocks_same any drew still = record {

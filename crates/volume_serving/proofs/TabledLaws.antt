@@ -1,10 +1,10 @@
 -- Replies over a table, and stops at a line, behind other lines and before more of them.
-use Rattle.std.proofs.Common.{◌≡◌, ◌≤◌, ◌∙◌, ℕ, List, [], ◌∷◌, ◌++◌, Option, Some, Ok, Err, inl, inr, length, refl, sym, subst, arith}
+use Rattle.std.proofs.Common.{◌≡◌, ◌≤◌, ◌<◌, ◌-◌, ◌∙◌, ℕ, List, [], ◌∷◌, ◌++◌, Option, Some, Ok, Err, inl, inr, length, refl, sym, subst, arith}
 use Rattle.platform.specs.Image.{Image}
 use Rattle.platform.specs.History.{Extends, History, image_at, moment}
 use Rattle.platform.proofs.Moments.{Extends-refl, Extends-trans, image_at-now}
 use Rattle.device_course.specs.States.{IsLater, Outside}
-use Rattle.device_session.specs.Open.{blocks_of}
+use Rattle.device_session.specs.Open.{blocks_of, needed_by}
 use Rattle.device_session.specs.Sessions.{Session}
 use Rattle.line_run.specs.Stops.{Ending, IsOfLine}
 use Rattle.line_run.specs.declared.stop.Stop.{Stop}
@@ -50,25 +50,25 @@ if_stopped_longer Claim lines more replies (stops.Device stop) line stopped = ne
 
 -- ---- with more pages
 
-lacks_later : (blocks pages pages_now capacity : ℕ) (it : Line) → pages ≤ pages_now → LacksPages (sizes blocks pages capacity) it → LacksPages (sizes blocks pages_now capacity) it
-lacks_later blocks pages pages_now capacity (Create name count) rises lacks = let full : capacity ≤ pages = lacks in omega (arith, rises, full)
-lacks_later blocks pages pages_now capacity (Read name block) rises lacks = absurd lacks
-lacks_later blocks pages pages_now capacity (Write name block content) rises lacks = let full : capacity ≤ pages = lacks in omega (arith, rises, full)
-lacks_later blocks pages pages_now capacity (Trim name block) rises lacks = absurd lacks
-lacks_later blocks pages pages_now capacity (Destroy name) rises lacks = let full : capacity ≤ pages = lacks in omega (arith, rises, full)
-lacks_later blocks pages pages_now capacity Commit rises lacks = tt
+lacks_later : (blocks pages pages_now capacity needed : ℕ) (it : Line) → pages ≤ pages_now → LacksPages (sizes blocks pages capacity) needed it → LacksPages (sizes blocks pages_now capacity) needed it
+lacks_later blocks pages pages_now capacity needed (Create name count) rises lacks = let full : capacity ≤ pages = lacks in omega (arith, rises, full)
+lacks_later blocks pages pages_now capacity needed (Read name block) rises lacks = absurd lacks
+lacks_later blocks pages pages_now capacity needed (Write name block content) rises lacks = let full : capacity ≤ pages = lacks in omega (arith, rises, full)
+lacks_later blocks pages pages_now capacity needed (Trim name block) rises lacks = absurd lacks
+lacks_later blocks pages pages_now capacity needed (Destroy name) rises lacks = let full : capacity ≤ pages = lacks in omega (arith, rises, full)
+lacks_later blocks pages pages_now capacity needed Commit rises lacks = let short : capacity - pages < needed = lacks in omega (arith, rises, short)
 
-turn_later : (blocks pages pages_now capacity : ℕ) (table next : List Volume) (it : Line) (reply : Reply) → pages ≤ pages_now → TurnsTable (sizes blocks pages capacity) table it reply next
-    → TurnsTable (sizes blocks pages_now capacity) table it reply next
-turn_later blocks pages pages_now capacity table next it reply rises (inl refused) = inl refused
-turn_later blocks pages pages_now capacity table next it reply rises (inr (done, accepted, inl is)) = inr (done, accepted, inl is)
-turn_later blocks pages pages_now capacity table next it reply rises (inr (done, accepted, inr (lacks, full, same))) =
-    inr (done, accepted, inr (lacks_later blocks pages pages_now capacity it rises lacks, full, same))
+turn_later : (blocks pages pages_now capacity needed : ℕ) (table next : List Volume) (it : Line) (reply : Reply) → pages ≤ pages_now → TurnsTable (sizes blocks pages capacity) needed table it reply next
+    → TurnsTable (sizes blocks pages_now capacity) needed table it reply next
+turn_later blocks pages pages_now capacity needed table next it reply rises (inl refused) = inl refused
+turn_later blocks pages pages_now capacity needed table next it reply rises (inr (done, accepted, inl is)) = inr (done, accepted, inl is)
+turn_later blocks pages pages_now capacity needed table next it reply rises (inr (done, accepted, inr (lacks, full, same))) =
+    inr (done, accepted, inr (lacks_later blocks pages pages_now capacity needed it rises lacks, full, same))
 
 on_later : (blocks pages pages_now capacity : ℕ) (DidSo Does : Pause → Line → Reply → Pause → Type 0) (here next : Pause) (line : List ℕ) (reply : Reply) → pages ≤ pages_now
     → ((it : Line) → DidSo here it reply next → Does here it reply next) → IsTurnOn (sizes blocks pages capacity) DidSo here line reply next → IsTurnOn (sizes blocks pages_now capacity) Does here line reply next
 on_later blocks pages pages_now capacity DidSo Does here next line reply rises follows (inl (it, spelled, turn, did)) =
-    inl (it, spelled, turn_later blocks pages pages_now capacity here.table next.table it reply rises turn, follows it did)
+    inl (it, spelled, turn_later blocks pages pages_now capacity (needed_by here.session) here.table next.table it reply rises turn, follows it did)
 on_later blocks pages pages_now capacity DidSo Does here next line reply rises follows (inr bad) = inr bad
 
 turns_later : (blocks pages pages_now capacity : ℕ) (DidSo Does : Pause → Line → Reply → Pause → Type 0) (here last : Pause) (lines : List (List ℕ)) (replies : List Reply) → pages ≤ pages_now

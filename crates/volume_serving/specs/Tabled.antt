@@ -2,7 +2,7 @@
 use Rattle.std.specs.Prelude.{◌≡◌, ◌≤◌, ◌⊎◌, ℕ, List, [], ◌∷◌, Option, Some, Ok, Err, OnOk}
 use Rattle.platform.specs.History.{Extends, History, image_at, moment}
 use Rattle.device_course.specs.States.{Outside}
-use Rattle.device_session.specs.Open.{blocks_of}
+use Rattle.device_session.specs.Open.{blocks_of, needed_by}
 use Rattle.device_session.specs.Sessions.{Session}
 use Rattle.line_run.specs.Stops.{Ending}
 use Rattle.line_run.specs.declared.stop.Stop.TheVariants as stops
@@ -54,7 +54,7 @@ Did tells history here it reply next = tells → LedTo history here next
 
 -- a reply to a line that began here, and where it ended, of which this is so; a line outside the grammar ends where it began
 abbrev pub IsTurnOn : Sizes → (Pause → Line → Reply → Pause → Type 0) → Pause → List ℕ → Reply → Pause → Type 0
-IsTurnOn within DidSo here line reply next = ((it : Line) × Spells line it × TurnsTable within here.table it reply next.table × DidSo here it reply next) ⊎ (IsBad line × (reply ≡ Bad) × (next ≡ here))
+IsTurnOn within DidSo here line reply next = ((it : Line) × Spells line it × TurnsTable within (needed_by here.session) here.table it reply next.table × DidSo here it reply next) ⊎ (IsBad line × (reply ≡ Bad) × (next ≡ here))
 
 -- these replies belong to the first of these lines, in their order, and each line began where the one before it ended: with its session, at its moment, over its table
 abbrev pub AreTurnsOn : Sizes → (Pause → Line → Reply → Pause → Type 0) → Pause → List (List ℕ) → List Reply → Pause → Type 0
