@@ -35,7 +35,9 @@ impl<R: Files, T: TpmCalls + Drop> InTpm<R, T> {
     }
 
     /// Why the last call on the cell failed that did.
-    pub fn failure(&self) -> Option<TpmFault> {
+    pub fn failure(&self) -> Option<TpmFault>
+        ensures { result ≡ self.now.failure }
+    {
         self.failure
     }
 }

@@ -1,5 +1,5 @@
 -- From which states a run goes on: behind its mount, and behind the look at its table.
-use Rattle.std.proofs.Common.{◌≡◌, ◌≢◌, ◌≤◌, ◌<◌, ◌^◌, ◌++◌, ℕ, List, [], Option, None, Some, Result, Ok, Err, inl, inr, refl, sym, subst, ◌∙◌, arith}
+use Rattle.std.proofs.Common.{◌≡◌, ◌≢◌, ◌≤◌, ◌<◌, ◌^◌, ◌++◌, ℕ, List, [], Option, None, Some, Result, Ok, Err, inl, inr, refl, sym, ap, subst, ◌∙◌, arith}
 use Rattle.std.specs.Prelude.{IfErr, IfOk, length}
 use Rattle.sdbt_base.specs.Arrays.{Device, Session as OpenSession, State, closed, mounted}
 use Rattle.sdbt_base.specs.Told.{Got}
@@ -16,7 +16,7 @@ use Rattle.device_terms.proofs.MomentLaws.{stays_then}
 use Rattle.device_course.specs.States.{IsAt, Outside}
 use Rattle.device_course.proofs.MadeLaws.{made_kept, made_since, shut}
 use Rattle.device_session.specs.Open.{blocks_of, needed_by}
-use Rattle.device_session.specs.Reading.{FindsContent}
+use Rattle.device_session.specs.Reading.{FindsContent, room_of}
 use Rattle.device_session.specs.Sessions.{Session}
 use Rattle.device_session.proofs.CountLaws.{needs_none}
 use Rattle.line_run.specs.Stops.{Ending}
@@ -163,6 +163,12 @@ pub found_fresh : {S : Type 0} (P : PlatformGhosts S) (platform platform_now : S
 found_fresh P platform platform_now session result is finds =
     let found : IsFound P 256 platform platform_now (Some session) = subst (λ (r : Result (Option Session) DeviceStop). IfOk r (IsFound P 256 platform platform_now)) is finds in
     needs_none session (P.head platform_now) found.0.is_open found.0.untouched
+
+-- and one with room for so many nodes
+pub found_room : {S : Type 0} (P : PlatformGhosts S) (nodes : ℕ) (platform platform_now : S) (session : Session) (result : Result (Option Session) DeviceStop) → result ≡ Ok (Some session) → IfOk result (IsFound P nodes platform platform_now) → room_of session ≡ nodes
+found_room P nodes platform platform_now session result is finds =
+    let found : IsFound P nodes platform platform_now (Some session) = subst (λ (r : Result (Option Session) DeviceStop). IfOk r (IsFound P nodes platform platform_now)) is finds in
+    ap (λ cache. cache.capacity) found.0.empty
 
 -- that found a session found a cell that can be served
 pub found_served : {S : Type 0} (P : PlatformGhosts S) (platform platform_now : S) (session : Session) (result : Result (Option Session) DeviceStop) → result ≡ Ok (Some session) → P.tells → length (P.history platform).present.recorded ≡ P.head platform → Looks P platform platform_now

@@ -4,6 +4,7 @@ ghost use Rattle.sdbt_base.specs.Arrays.{Device, Session as OpenSession, mounted
 ghost use Rattle.sdbt_base.specs.Counts.{counts};
 ghost use Rattle.device_course.specs.States.{IsAt, around};
 ghost use Rattle.device_session.specs.Open.{IsOpen, blocks_of, needed_by};
+ghost use Rattle.device_session.specs.Reading.{room_of};
 ghost use Rattle.session_calls.specs.Along.{Along, Drawn};
 ghost use Rattle.session_calls.specs.Damage.{IsMounted};
 ghost use Rattle.volume_table.specs.Tables.{IsTable};
@@ -94,6 +95,8 @@ fn serve_volumes<P: Platform, T: Tape, I: Source, O: Sink, L: Sink>(
 ) -> Result<(), Halt>
     requires ready { IsReady P.tells (around P.Platform T.Tape L.Sink platform.old tape.old ledger.old) first }
     requires fresh { needed_by first ≡ 0 }
+    // The session's cache has room for a node of each level.
+    requires room { 20 ≤ room_of first }
     ensures carries { Carries P.tells (around P.Platform T.Tape L.Sink platform.old tape.old ledger.old)
         (around P.Platform T.Tape L.Sink platform.new tape.new ledger.new) first None (IsOk result) }
     ensures blame { Blames (counts (P.faults platform.old) (T.faults tape.old) (I.faults input.old) (O.faults output.old) (L.faults ledger.old))

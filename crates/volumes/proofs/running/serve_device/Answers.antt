@@ -1,7 +1,7 @@
-use Rattle.std.proofs.Common.{ℕ, inl, refl, ◌∙◌, ap, Ok}
+use Rattle.std.proofs.Common.{ℕ, inl, refl, ◌∙◌, ap, Ok, arith}
 use Rattle.volume_desk.specs.Drawing.{tally}
 use Rattle.session_calls.proofs.SpanLaws.{spans_look, spans_mounted}
-use Rattle.volumes.proofs.StartLaws.{found_fresh, found_full, found_none, found_served, idle_since, serves_since, silent_none, silent_stop, since_mount}
+use Rattle.volumes.proofs.StartLaws.{found_fresh, found_full, found_none, found_room, found_served, idle_since, serves_since, silent_none, silent_stop, since_mount}
 use Rattle.volumes.proofs.EndLaws.{damage_behind, looked_behind, looked_none, looked_stop}
 use Rattle.volumes.proofs.running.serve_device.Goals as goal
 
@@ -57,3 +57,6 @@ returns-in-Ok-Some-clause-idle g c told =
 
 pub serve_volumes-requires-clause-fresh : goal.serve_volumes-requires-clause-fresh
 serve_volumes-requires-clause-fresh g c = found_fresh g.P.Platform c.args.platform.now c.mount_session.new.platform c.in-Ok-Some.session c.mount_session.result (c.in-Ok-Some.is ∙ ap Ok c.in-Ok-Some.field-0-is) c.mount_session.ensures.finds
+
+pub serve_volumes-requires-clause-room : goal.serve_volumes-requires-clause-room
+serve_volumes-requires-clause-room g c = omega (arith, found_room g.P.Platform _ _ _ c.in-Ok-Some.session c.mount_session.result (c.in-Ok-Some.is ∙ ap Ok c.in-Ok-Some.field-0-is) c.mount_session.ensures.finds)
