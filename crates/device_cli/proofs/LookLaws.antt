@@ -125,7 +125,7 @@ still_warm held session before is warm = has_room session before (warm_there hel
 
 -- what an update costs, and that it leaves the cache its room
 pub update_cost : (held : Option Session) (session now : Session) (head reads reads_now : ℕ) (before : Option ℕ) → held ≡ Some session → IfSome held (λ s. IsOpen s head) → IsWarmFor held before
-    → room_of now ≡ room_of session → reads_now ≤ reads + (2 * session.grove.level + 1) → (reads_now ≤ reads + 41) × IsWarmFor (Some now) None
+    → room_of now ≡ room_of session → reads_now ≤ reads + 2 * session.grove.level → (reads_now ≤ reads + 40) × IsWarmFor (Some now) None
 update_cost held session now head reads reads_now before is open' warm same few =
     let low = open_there held session head is open' in
     (omega (arith, few, low), omega (arith, same, still_warm held session before is warm))

@@ -1,14 +1,14 @@
--- How often a run reads a page or looks at the cell, at lines that neither go over the whole tree nor hand a new one over.
+-- How often a run reads a page or looks at the cell, at lines that don't go over the whole tree.
 use Rattle.std.specs.Prelude.{◌≡◌, ℕ, ◌+◌, ◌<◌, ◌≤◌, ◌==◌, if◌then◌else◌, List, [], ◌∷◌, Option, None, Some}
 use Rattle.script_lang.specs.Commands.{Command}
-use Rattle.script_lang.specs.Commands.{Erase, Format, Mount, Read, Write, Trim, Drop, Stat}
+use Rattle.script_lang.specs.Commands.{Commit, Erase, Format, Mount, Read, Write, Trim, Drop, Stat}
 use Rattle.script_lang.specs.Grammar.{Spells}
 use Rattle.device_session.specs.Open.{blocks_of}
 use Rattle.device_session.specs.Reading.{KeepsWayTo, room_of}
 use Rattle.device_session.specs.Sessions.{Session}
 use Rattle.device_cli.specs.World.{World}
 
--- the command makes, mounts or erases a device, reads, writes or trims a block, or tells of the session, or gives it up
+-- the command makes, mounts or erases a device, reads, writes or trims a block, commits, or tells of the session, or gives it up
 abbrev pub IsBounded : Command → Type 0
 IsBounded (Format blocks order) = Unit {0}
 IsBounded Erase = Unit {0}
@@ -16,6 +16,7 @@ IsBounded Mount = Unit {0}
 IsBounded (Read block) = Unit {0}
 IsBounded (Write block content) = Unit {0}
 IsBounded (Trim block) = Unit {0}
+IsBounded Commit = Unit {0}
 IsBounded Stat = Unit {0}
 IsBounded Drop = Unit {0}
 IsBounded _ = ⊥
@@ -31,14 +32,14 @@ most_for None block = 21
 most_for (Some before) block = if before == block then 1 else 21
 
 -- so many pages are read at most, and looks at the cell made, for any of these commands behind one that read this block: one look to make, mount or erase a device; two pages
--- for each of 20 levels and one more for an update; and none for what only tells of the session
+-- for each of 20 levels for an update; and none for a commit, or for what only tells of the session
 abbrev pub most_reads : Option ℕ → Command → ℕ
 most_reads before (Format blocks order) = 1
 most_reads before Mount = 1
 most_reads before Erase = 1
 most_reads before (Read block) = most_for before block
-most_reads before (Write block content) = 41
-most_reads before (Trim block) = 41
+most_reads before (Write block content) = 40
+most_reads before (Trim block) = 40
 most_reads before _ = 0
 
 -- the lines spell such commands, behind one that read this block; so much is read for them at most, and the last of them reads this block

@@ -246,6 +246,7 @@ impl Desk {
         ensures enough { StaysEnough self.old self.new result }
         ensures keeps { Keeps P.Platform T.Tape L.Sink self.old self.new platform.old platform.new tape.old tape.new ledger.old ledger.new result }
         ensures answered { P.tells → ServesAny P.Platform self.old self.new platform.old platform.new commands.Commit result }
+        ensures looks { P.tells → LooksFew P.Platform self.old self.new platform.old platform.new commands.Commit result }
     {
         let Some(session) = self.session.take() else {
             return Ok(Reply::Unmounted);

@@ -13,20 +13,21 @@ use Rattle.device_session.specs.Keys.{HoldsListed}
 use Rattle.device_terms.specs.Served.{IsServedImage}
 use Rattle.device_session.specs.Sessions.{Session}
 
--- what there is beside a session: the moments of the platform, how many pages it has and can have, the keys that were drawn, and what the ledger has got
+-- what there is beside a session: the moments of the platform, how many pages it has and can have, how often a page was read or the cell looked at, the keys that were drawn, and what the ledger has got
 pub record Outside : Type 0 where
   pub history : History
   pub head : ℕ
   pub capacity : ℕ
+  pub reads : ℕ
   pub drawn : Option (List (List ℕ))
   pub written : Option (List ℕ)
 
-abbrev pub outside : History → ℕ → ℕ → Option (List (List ℕ)) → Option (List ℕ) → Outside
-outside history head capacity drawn written = record { history = history; head = head; capacity = capacity; drawn = drawn; written = written }
+abbrev pub outside : History → ℕ → ℕ → ℕ → Option (List (List ℕ)) → Option (List ℕ) → Outside
+outside history head capacity reads drawn written = record { history = history; head = head; capacity = capacity; reads = reads; drawn = drawn; written = written }
 
 -- the same of a platform, a tape and a ledger
 abbrev pub around : {S R Q : Type 0} → PlatformGhosts S → TapeGhosts R → SinkGhosts Q → S → R → Q → Outside
-around P T L platform tape ledger = outside (P.history platform) (P.head platform) (P.capacity platform) (T.drawn tape) (L.written ledger)
+around P T L platform tape ledger = outside (P.history platform) (P.head platform) (P.capacity platform) (P.reads platform) (T.drawn tape) (L.written ledger)
 
 -- pages are only added, and no more than there is room for
 pub record IsLater (old new : Outside) : Type 0 where

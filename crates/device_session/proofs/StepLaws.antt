@@ -103,6 +103,7 @@ commits_nothing P T L platform tape ledger session result opened array cause =
       cause = cause;
       quiet = on_any result _ refl;
       grows = record { rises = omega arith; at_most = omega arith; capacity = refl; platform_faults = omega arith; tape_faults = omega arith; ledger_faults = omega arith };
+      unread = λ told. refl;
     }
 
 -- a commit for which there was no room
@@ -144,6 +145,7 @@ commits_stopped P T L platform platform_now tape tape_now ledger session now fau
       cause = cause;
       quiet = tt;
       grows = record { rises = adds.head; at_most = within; capacity = adds.capacity; platform_faults = adds.platform_faults; tape_faults = adds.tape_faults; ledger_faults = omega arith };
+      unread = adds.reads;
     }
 
 -- ---- a commit whose last step was taken or failed
@@ -239,6 +241,7 @@ commits_failed P T L platform mid new tape tape_now ledger ledger_now session no
   cause = failed_cause P T L platform mid new tape tape_now ledger ledger_now session prepared Was fault all cause;
   quiet = tt;
   grows = commit_grows P T L platform mid new tape tape_now ledger ledger_now session prepared Was all;
+  unread = λ told. all.swaps.reads told ∙ all.adds.reads told;
 }
 
 -- ---- the session after a commit
@@ -315,6 +318,7 @@ commits_done P T L platform mid new tape tape_now ledger ledger_now session now 
           let same : P.faults new ≡ P.faults platform = ap (λ (c : Counts). c.platform) quiet ∙ all.quiet.0 in
           λ k. counts (same k) (all.quiet.1 k) 0 0 (quiet k).ledger;
       grows = commit_grows P T L platform mid new tape tape_now ledger ledger_now session prepared Was all;
+      unread = λ told. all.swaps.reads told ∙ all.adds.reads told;
     }
 
 pub commits_raised : {S R W : Type 0} (P : PlatformGhosts S) (T : TapeGhosts R) (L : SinkGhosts W) (platform mid new : S) (tape tape_now : R) (ledger ledger_now : W) (session now : Session) (prepared : Prepared) (Was : Type 0) (number : ℕ)

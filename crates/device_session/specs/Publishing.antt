@@ -104,3 +104,5 @@ pub record Commits {S R W : Type 0} (P : PlatformGhosts S) (T : TapeGhosts R) (L
   pub cause : IfErr result (IsCommitCause P T platform platform_now tape tape_now ledger ledger_now (commit_counts P T L platform tape ledger) (commit_counts P T L platform_now tape_now ledger_now))
   pub quiet : OnOk result (commit_counts P T L platform_now tape_now ledger_now ≡ commit_counts P T L platform tape ledger)
   pub grows : GrowsBy P T L (needed_by session) platform platform_now tape tape_now ledger ledger_now
+  -- no page is read, and the cell isn't looked at
+  pub unread : P.tells → P.reads platform_now ≡ P.reads platform

@@ -13,7 +13,7 @@ use Rattle.device_session.proofs.GoingLaws.{forgets_nothing, forgets_nothing_the
 use Rattle.session_calls.specs.Along.{Along, Drawn}
 
 -- nothing happened
-pub along_start : {S : Type 0} (P : PlatformGhosts S) (platform : S) (drawn : Drawn) (session : Session) → IsOpen session (P.head platform) → Along P 0 platform platform drawn drawn session session
+pub along_start : {S : Type 0} (P : PlatformGhosts S) (platform : S) (drawn : Drawn) (session : Session) → IsOpen session (P.head platform) → Along P 0 0 platform platform drawn drawn session session
 along_start P platform drawn session there_open = record {
   is_open = there_open;
   mounted = λ told mounted. mounted;
@@ -24,15 +24,16 @@ along_start P platform drawn session there_open = record {
   rises = omega arith;
   adds = omega arith;
   needs = omega arith;
+  reads = λ told. omega arith;
   keeps = λ written. on_start P.tells drawn.keys written (Some session) (P.history platform) (Unit {0});
   through = λ told entry at. (entry, at);
   fell = record { platform = omega arith; tape = omega arith; input = omega arith; output = omega arith; ledger = omega arith };
 }
 
 -- one part after another
-pub along_then : {S : Type 0} (P : PlatformGhosts S) (some more : ℕ) (first second third : S) (drawn mid drawn_now : Drawn) (session between now : Session)
-    → Along P some first second drawn mid session between → Along P more second third mid drawn_now between now → Along P (some + more) first third drawn drawn_now session now
-along_then P some more first second third drawn mid drawn_now session between now a b = record {
+pub along_then : {S : Type 0} (P : PlatformGhosts S) (some more few others : ℕ) (first second third : S) (drawn mid drawn_now : Drawn) (session between now : Session)
+    → Along P some few first second drawn mid session between → Along P more others second third mid drawn_now between now → Along P (some + more) (few + others) first third drawn drawn_now session now
+along_then P some more few others first second third drawn mid drawn_now session between now a b = record {
   is_open = b.is_open;
   mounted = λ told mounted. b.mounted told (a.mounted told mounted);
   blocks = b.blocks ∙ a.blocks;
@@ -42,6 +43,7 @@ along_then P some more first second third drawn mid drawn_now session between no
   rises = omega (arith, a.rises, b.rises);
   adds = omega (arith, a.adds, b.adds);
   needs = omega (arith, a.needs, b.needs);
+  reads = λ told. omega (arith, a.reads told, b.reads told);
   keeps = λ written. on_then P.tells drawn.keys mid.keys drawn_now.keys written written written (Some session) (Some between) (P.history first) (P.history second) (P.history third) (Unit {0}) (Unit {0}) (IsListed (Some now) (P.history third).present) tt
       (a.keeps written) (b.keeps written) a.through;
   through = λ told entry at.

@@ -44,9 +44,9 @@ stays_at old new after entry next stays stands at =
     made_none old new after entry next stands during same at
 
 -- calls for blocks
-pub carries_along : {S R W : Type 0} (P : PlatformGhosts S) (T : TapeGhosts R) (L : SinkGhosts W) (updates : ℕ) (platform platform_now : S) (tape tape_now : R) (ledger : W) (session now : Session) → IsReady P.tells (around P T L platform tape ledger) session
-    → Along P updates platform platform_now (drawn_by T tape) (drawn_by T tape_now) session now → Carries P.tells (around P T L platform tape ledger) (around P T L platform_now tape_now ledger) session (Some now) (Unit {0})
-carries_along P T L updates platform platform_now tape tape_now ledger session now ready along = record {
+pub carries_along : {S R W : Type 0} (P : PlatformGhosts S) (T : TapeGhosts R) (L : SinkGhosts W) (updates most : ℕ) (platform platform_now : S) (tape tape_now : R) (ledger : W) (session now : Session) → IsReady P.tells (around P T L platform tape ledger) session
+    → Along P updates most platform platform_now (drawn_by T tape) (drawn_by T tape_now) session now → Carries P.tells (around P T L platform tape ledger) (around P T L platform_now tape_now ledger) session (Some now) (Unit {0})
+carries_along P T L updates most platform platform_now tape tape_now ledger session now ready along = record {
   ready = record { is_open = along.is_open; mounted = λ told. along.mounted told (ready.mounted told) };
   blocks = along.blocks;
   capacity = along.capacity;

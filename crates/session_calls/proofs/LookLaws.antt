@@ -35,12 +35,12 @@ use Rattle.session_calls.proofs.CellLaws.{mounted_still}
 use Rattle.session_calls.proofs.StateLaws.{at_array, with_array}
 
 -- a call that only looks goes on, whatever its answer
-pub look_along : {S : Type 0} (P : PlatformGhosts S) (updates : ℕ) (platform platform_now : S) (drawn : Drawn) (session now : Session)
-    → GoesOn P.tells (P.history platform).present (P.history platform_now).present (P.head platform_now) session now → needed_by now ≤ needed_by session + 41 * updates
+pub look_along : {S : Type 0} (P : PlatformGhosts S) (updates most : ℕ) (platform platform_now : S) (drawn : Drawn) (session now : Session)
+    → GoesOn P.tells (P.history platform).present (P.history platform_now).present (P.head platform_now) session now → needed_by now ≤ needed_by session + 41 * updates → (P.tells → P.reads platform_now ≤ P.reads platform + most)
     → (P.tells → StaysListed (P.history platform).present (P.history platform_now).present session now) → Looks P platform platform_now
     → (P.tells → (device : Device) (array : OpenSession) → IsAt (P.history platform).present (Some session) (mounted device array) → (next : State) × IsAt (P.history platform_now).present (Some now) next)
-    → Along P updates platform platform_now drawn drawn session now
-look_along P updates platform platform_now drawn session now goes_on needs listed looks leads = record {
+    → Along P updates most platform platform_now drawn drawn session now
+look_along P updates most platform platform_now drawn session now goes_on needs reads listed looks leads = record {
   is_open = goes_on.is_open;
   mounted = λ told mounted. mounted_still (Some session) session now (P.history platform) (P.history platform_now) refl mounted goes_on.root (looks.time told) (goes_on.follows told);
   blocks = ap (λ (r : Root). r.blocks) goes_on.root;
@@ -50,6 +50,7 @@ look_along P updates platform platform_now drawn session now goes_on needs liste
   rises = omega (arith, looks.head);
   adds = omega (arith, looks.head);
   needs = needs;
+  reads = reads;
   keeps = λ entries. on_look P.tells drawn.keys entries (Some session) (P.history platform) (P.history platform_now) (Unit {0}) _ looks.image looks.time (λ told keys kept h. listed told keys h);
   through = λ told entry at. with_array (P.history platform).present session entry at (λ state. (next : State) × IsAt (P.history platform_now).present (Some now) next)
       (λ device array there. leads told device array there);

@@ -118,7 +118,7 @@ pub write_along : {S R : Type 0} (P : PlatformGhosts S) (T : TapeGhosts R) (most
     → KeepsKeys P.tells (T.drawn tape) (T.drawn tape_now) (P.history platform) (P.history platform_now) (HoldsListed session (P.history platform).present) (HoldsListed now (P.history platform_now).present)
     → WriteGrows P T most platform platform_now tape tape_now
     → (P.tells → (device : Device) (array : OpenSession) → IsAt (P.history platform).present (Some session) (mounted device array) → WritesBlock (P.history platform_now).present now device array block bytes result)
-    → Along P 1 platform platform_now (drawn_by T tape) (drawn_by T tape_now) session now
+    → Along P 1 most platform platform_now (drawn_by T tape) (drawn_by T tape_now) session now
 write_along P T most platform platform_now tape tape_now session now block bytes result goes_on needs keeps grows leads = record {
   is_open = goes_on.is_open;
   mounted = λ told mounted. mounted_still (Some session) session now (P.history platform) (P.history platform_now) refl mounted goes_on.root (grows.time told) (goes_on.follows told);
@@ -129,6 +129,7 @@ write_along P T most platform platform_now tape tape_now session now block bytes
   rises = grows.by_one.rises;
   adds = grows.by_one.by_one;
   needs = omega (arith, needs);
+  reads = grows.reads;
   keeps = λ entries. on_update P.tells (T.drawn tape) (T.drawn tape_now) entries (Some session) session (P.history platform) (P.history platform_now) (Unit {0}) _ _ refl keeps grows.time (λ keys done. done);
   through = λ told entry at. with_array (P.history platform).present session entry at (λ state. (next : State) × IsAt (P.history platform_now).present (Some now) next)
       (λ device array there. write_leads (P.history platform_now).present now device array block bytes result (leads told device array there));

@@ -22,13 +22,12 @@ use Rattle.session_calls.specs.Blame.{HasCause, IsOfCall}
 use Rattle.session_calls.specs.declared.stops.DeviceStop.{DeviceStop}
 use Rattle.session_calls.specs.declared.stops.DeviceStop.TheVariants as stops
 
--- the session goes on, whatever the answer: a refused call leaves what a commit needs, and how many blocks are counted; two pages for each level are read at most, and one beside them. The counts of faults are as they were where the call was done, and where it stopped at a fault that of
+-- the session goes on, whatever the answer, with so many pages read at most: a refused call leaves what a commit needs, and how many blocks are counted. The counts of faults are as they were where the call was done, and where it stopped at a fault that of
 -- this object rose alone
-pub record Goes {S X : Type 0} (P : PlatformGhosts S) (updates : ℕ) (platform platform_now : S) (drawn drawn_now : Drawn) (session now : Session) (result : Result X DeviceStop) : Type 0 where
-  pub along : Along P updates platform platform_now drawn drawn_now session now
+pub record Goes {S X : Type 0} (P : PlatformGhosts S) (updates most : ℕ) (platform platform_now : S) (drawn drawn_now : Drawn) (session now : Session) (result : Result X DeviceStop) : Type 0 where
+  pub along : Along P updates most platform platform_now drawn drawn_now session now
   pub needs_still : OnErr result (needed_by now ≡ needed_by session)
   pub mapped_still : OnErr result (now.mapped ≡ session.mapped)
-  pub reads : P.tells → P.reads platform_now ≤ P.reads platform + (2 * session.grove.level + 1)
   pub stops : IfErr result IsOfCall
   pub quiet : OnOk result (counts (P.faults platform_now) drawn_now.faults 0 0 0 ≡ counts (P.faults platform) drawn.faults 0 0 0)
   pub cause : IfErr result (HasCause (counts (P.faults platform) drawn.faults 0 0 0) (counts (P.faults platform_now) drawn_now.faults 0 0 0))

@@ -22,7 +22,7 @@ pub fn read_block<P: Platform>(
     requires size { length out.old ≡ 4096 }
     requires open { IsOpen session.old (P.head platform.old) }
     requires within { block < blocks_of session.old }
-    ensures goes { (drawn : Drawn) → Goes P.Platform 0 platform.old platform.new drawn drawn session.old session.new result }
+    ensures goes { (drawn : Drawn) → Goes P.Platform 0 (session.old.grove.level + 1) platform.old platform.new drawn drawn session.old session.new result }
     ensures leads { P.tells → (device : Device) (array : OpenSession) → IsAt (P.history platform.old).present (Some session.old) (mounted device array)
         → ReadsBlock (P.history platform.new).present session.new device array block out.new result }
     ensures reads { ReadsPages P.Platform block platform.old platform.new session.old session.new result }

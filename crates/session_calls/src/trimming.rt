@@ -23,7 +23,7 @@ pub fn trim_block<P: Platform>(
 ) -> Result<(), DeviceStop>
     requires open { IsOpen session.old (P.head platform.old) }
     requires within { block < blocks_of session.old }
-    ensures goes { (drawn : Drawn) → Goes P.Platform 1 platform.old platform.new drawn drawn session.old session.new result }
+    ensures goes { (drawn : Drawn) → Goes P.Platform 1 (2 * session.old.grove.level) platform.old platform.new drawn drawn session.old session.new result }
     ensures leads { P.tells → (device : Device) (array : OpenSession) → IsAt (P.history platform.old).present (Some session.old) (mounted device array)
         → TrimsBlock (P.history platform.new).present session.new device array block result }
     ensures head { P.head platform.new ≡ P.head platform.old }

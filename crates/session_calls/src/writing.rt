@@ -26,7 +26,7 @@ pub fn write_block<P: Platform, T: Tape>(
     requires open { IsOpen session.old (P.head platform.old) }
     requires within { block < blocks_of session.old }
     requires free { P.head platform.old ≢ P.capacity platform.old }
-    ensures goes { Goes P.Platform 1 platform.old platform.new (drawn_by T.Tape tape.old) (drawn_by T.Tape tape.new) session.old session.new result }
+    ensures goes { Goes P.Platform 1 (2 * session.old.grove.level) platform.old platform.new (drawn_by T.Tape tape.old) (drawn_by T.Tape tape.new) session.old session.new result }
     ensures leads { P.tells → (device : Device) (array : OpenSession) → IsAt (P.history platform.old).present (Some session.old) (mounted device array)
         → WritesBlock (P.history platform.new).present session.new device array block content.now result }
     ensures adds { AddsBlock P.Platform T.Tape platform.old platform.new tape.old tape.new result }

@@ -23,7 +23,7 @@ use Rattle.transfer.specs.declared.halts.Halt.TheVariants as halts
 
 -- a platform without a tape and a ledger
 abbrev pub alone : {S : Type 0} → PlatformGhosts S → S → Outside
-alone P platform = outside (P.history platform) (P.head platform) (P.capacity platform) None None
+alone P platform = outside (P.history platform) (P.head platform) (P.capacity platform) (P.reads platform) None None
 
 -- the device that a session was opened on, where this one was there: the same; or, where none was, a new one of so many blocks and of this order, which was made
 abbrev pub IsOpened : Option Device → List (Option Device) → Device → ℕ → ℕ → Type 0

@@ -7,7 +7,7 @@ use Rattle.sdbt_base.specs.declared.sinks.Sink.{Ghosts as SinkGhosts}
 use Rattle.sdbt_base.specs.declared.sources.Source.{Ghosts as SourceGhosts}
 use Rattle.sdbt_base.specs.declared.tapes.Tape.{Ghosts as TapeGhosts}
 use Rattle.platform.specs.History.{History, image_at, moment}
-use Rattle.platform.specs.Mem.{mem_history, image_of_now, capacity_of, faults_of}
+use Rattle.platform.specs.Mem.{answered_of, mem_history, image_of_now, capacity_of, faults_of}
 use Rattle.platform.specs.declared.mem_platform.MemPlatform.{MemPlatform}
 use Rattle.power_loss.specs.Loss.{Tore}
 use Rattle.key_graph.specs.Chains.{KeyPremises}
@@ -35,7 +35,7 @@ in_memory T I O L platform tape input output ledger = record {
   input = input;
   output = output;
   ledger = ledger;
-  outside = outside (mem_history platform) (length (image_of_now platform).recorded) (capacity_of platform) (T.drawn tape) (L.written ledger);
+  outside = outside (mem_history platform) (length (image_of_now platform).recorded) (capacity_of platform) (answered_of platform) (T.drawn tape) (L.written ledger);
   left = I.left input;
   written = O.written output;
   counts = counts (faults_of platform) (T.faults tape) (I.faults input) (O.faults output) (L.faults ledger);

@@ -24,13 +24,12 @@ returns-in-Err-clause-leads g c told device array at =
 
 pub returns-in-Ok-clause-goes : goal.returns-in-Ok-clause-goes
 returns-in-Ok-clause-goes g c drawn = record {
-  along = look_along g.P.Platform 0 _ _ drawn _ _ c.in-Ok.ensures.goes_on (omega (arith, needed_read c.args.session.now c.read.new.self c.in-Ok.ensures.same.2)) c.in-Ok.ensures.listed c.in-Ok.ensures.looks
+  along = look_along g.P.Platform 0 (c.args.session.now.grove.level + 1) _ _ drawn _ _ c.in-Ok.ensures.goes_on (omega (arith, needed_read c.args.session.now c.read.new.self c.in-Ok.ensures.same.2)) c.in-Ok.ensures.reads.most c.in-Ok.ensures.listed c.in-Ok.ensures.looks
       (λ told device array at. read_leads _ _ device array c.args.block c.read.new.out (Ok tt)
       (let there = c.in-Ok.ensures.array told device array.contents at.there.session.0 in
       (at_array _ _ device array there.0 (c.in-Ok.ensures.same.1 ∙ at.there.session.1) (served_still _ _ (c.read.ensures.looks.time told) at.served), there.1)));
   needs_still = tt;
   mapped_still = tt;
-  reads = λ told. omega (arith, c.in-Ok.ensures.reads.most told);
   stops = tt;
   quiet = ap (λ (n : ℕ). counts n drawn.faults 0 0 0) c.in-Ok.ensures.cause.1;
   cause = tt;
@@ -38,14 +37,13 @@ returns-in-Ok-clause-goes g c drawn = record {
 
 pub returns-in-Err-clause-goes : goal.returns-in-Err-clause-goes
 returns-in-Err-clause-goes g c drawn = record {
-  along = look_along g.P.Platform 0 _ _ drawn _ _ c.in-Err.ensures.goes_on (omega (arith, needed_read c.args.session.now c.read.new.self c.in-Err.ensures.same.2)) c.in-Err.ensures.listed c.in-Err.ensures.looks
+  along = look_along g.P.Platform 0 (c.args.session.now.grove.level + 1) _ _ drawn _ _ c.in-Err.ensures.goes_on (omega (arith, needed_read c.args.session.now c.read.new.self c.in-Err.ensures.same.2)) c.in-Err.ensures.reads.most c.in-Err.ensures.listed c.in-Err.ensures.looks
       (λ told device array at. read_leads _ _ device array c.args.block c.read.new.out (Err c.stop_of_read.result)
       (let there = c.in-Err.ensures.array told device array.contents at.there.session.0 in
       read_refused _ _ device array c.args.block c.read.new.out c.in-Err.refusal c.stop_of_read.result c.stop_of_read.ensures there.0 there.1
       (c.in-Err.ensures.same.1 ∙ at.there.session.1) (served_still _ _ (c.read.ensures.looks.time told) at.served)));
   needs_still = needed_read c.args.session.now c.read.new.self c.in-Err.ensures.same.2;
   mapped_still = c.in-Err.ensures.same.0;
-  reads = λ told. omega (arith, c.in-Err.ensures.reads.most told);
   stops = read_of_call c.in-Err.refusal _ c.stop_of_read.ensures;
   quiet = tt;
   cause = read_blamed c.in-Err.refusal _ _ _ (counts (g.P.Platform.faults c.args.platform.now) drawn.faults 0 0 0) (counts (g.P.Platform.faults c.read.new.platform) drawn.faults 0 0 0) refl c.stop_of_read.ensures c.in-Err.ensures.cause;

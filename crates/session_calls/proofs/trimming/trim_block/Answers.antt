@@ -20,12 +20,11 @@ returns-in-Err-clause-leads g c told device array at =
 
 pub returns-in-Ok-clause-goes : goal.returns-in-Ok-clause-goes
 returns-in-Ok-clause-goes g c drawn = record {
-  along = look_along g.P.Platform 1 _ _ drawn _ _ c.in-Ok.ensures.goes_on (omega (arith, c.in-Ok.ensures.updates.needs)) c.in-Ok.ensures.listed c.in-Ok.ensures.looks
+  along = look_along g.P.Platform 1 (2 * c.args.session.now.grove.level) _ _ drawn _ _ c.in-Ok.ensures.goes_on (omega (arith, c.in-Ok.ensures.updates.needs)) c.in-Ok.ensures.reads.most c.in-Ok.ensures.listed c.in-Ok.ensures.looks
       (λ told device array at. trim_leads _ _ device array c.args.block (Ok tt)
       (trim_done _ _ device array c.args.block (is_touched c.args.session.now) at.there.session.1 (c.in-Ok.ensures.array told device array.contents at.there.session.0).array (served_still _ _ (c.trim.ensures.looks.time told) at.served)));
   needs_still = tt;
   mapped_still = tt;
-  reads = λ told. omega (arith, c.in-Ok.ensures.reads.most told);
   stops = tt;
   quiet = ap (λ (n : ℕ). counts n drawn.faults 0 0 0) c.in-Ok.ensures.cause.1;
   cause = tt;
@@ -33,13 +32,12 @@ returns-in-Ok-clause-goes g c drawn = record {
 
 pub returns-in-Err-clause-goes : goal.returns-in-Err-clause-goes
 returns-in-Err-clause-goes g c drawn = record {
-  along = look_along g.P.Platform 1 _ _ drawn _ _ c.in-Err.ensures.goes_on (omega (arith, c.in-Err.ensures.updates.needs)) c.in-Err.ensures.listed c.in-Err.ensures.looks
+  along = look_along g.P.Platform 1 (2 * c.args.session.now.grove.level) _ _ drawn _ _ c.in-Err.ensures.goes_on (omega (arith, c.in-Err.ensures.updates.needs)) c.in-Err.ensures.reads.most c.in-Err.ensures.listed c.in-Err.ensures.looks
       (λ told device array at. trim_leads _ _ device array c.args.block (Err c.stop_of_trim.result)
       (trim_refused _ _ device array c.args.block (is_touched c.args.session.now) c.in-Err.refusal c.stop_of_trim.result c.stop_of_trim.ensures (c.in-Err.ensures.array told device array.contents at.there.session.0).array
       (c.in-Err.ensures.updates.touched_still ∙ at.there.session.1) (served_still _ _ (c.trim.ensures.looks.time told) at.served)));
   needs_still = c.in-Err.ensures.updates.needs_still;
   mapped_still = c.in-Err.ensures.updates.mapped_still;
-  reads = λ told. omega (arith, c.in-Err.ensures.reads.most told);
   stops = trim_of_call c.in-Err.refusal _ c.stop_of_trim.ensures;
   quiet = tt;
   cause = trim_blamed c.in-Err.refusal _ _ _ (counts (g.P.Platform.faults c.args.platform.now) drawn.faults 0 0 0) (counts (g.P.Platform.faults c.trim.new.platform) drawn.faults 0 0 0) refl c.stop_of_trim.ensures c.in-Err.ensures.cause;

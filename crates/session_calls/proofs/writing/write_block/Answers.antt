@@ -26,7 +26,6 @@ returns-in-Ok-clause-goes g c = record {
       (λ told device array at. at_array _ _ device (written array c.args.block c.args.content.now) (c.in-Ok.ensures.array told device array.contents at.there.session.0).array c.in-Ok.ensures.touched (served_still _ _ (c.write.ensures.grows.time told) at.served));
   needs_still = tt;
   mapped_still = tt;
-  reads = λ told. omega (arith, c.in-Ok.ensures.grows.reads told);
   stops = tt;
   quiet = c.in-Ok.ensures.cause.2;
   cause = tt;
@@ -38,7 +37,6 @@ returns-in-Err-clause-goes g c = record {
       (λ told device array at. write_refused _ _ device array c.args.block c.args.content.now (padded c.args.content.now) c.in-Err.refusal _ c.stop_of_write.ensures (c.in-Err.ensures.array told device array.contents at.there.session.0).array (c.in-Err.ensures.updates.touched_still ∙ at.there.session.1) (served_still _ _ (c.write.ensures.grows.time told) at.served));
   needs_still = c.in-Err.ensures.updates.needs_still;
   mapped_still = c.in-Err.ensures.updates.mapped_still;
-  reads = λ told. omega (arith, c.in-Err.ensures.grows.reads told);
   stops = write_of_call c.in-Err.refusal _ c.stop_of_write.ensures;
   quiet = tt;
   cause = write_blamed c.in-Err.refusal _ _ _ _ _ (counts (g.P.Platform.faults c.args.platform.now) (g.T.Tape.faults c.args.tape.now) 0 0 0)

@@ -1,4 +1,4 @@
-use Rattle.std.proofs.Common.{◌≡◌, true, [], Option, Some, Err, refl, sym, ◌∙◌, ap, subst}
+use Rattle.std.proofs.Common.{◌≡◌, true, [], Option, None, Some, Err, refl, sym, ◌∙◌, ap, subst, arith}
 use Rattle.std.specs.Prelude.{IfSome}
 use Rattle.device_session.specs.Open.{IsOpen, is_touched}
 use Rattle.device_session.specs.Sessions.{Session}
@@ -8,6 +8,8 @@ use Rattle.script_lang.specs.Commands.{Commit}
 use Rattle.page_store.proofs.KeepingLaws.{drew_none}
 use Rattle.device_cli.specs.Causes.{number_behind}
 use Rattle.device_cli.proofs.ReplyLaws.{held_has, number_is}
+use Rattle.device_cli.specs.Looks.{IsWarmFor}
+use Rattle.device_cli.proofs.LookLaws.{still_warm}
 use Rattle.device_cli.proofs.CallLaws.{commit_stops, halts_commit, on_held, serves_number, serves_short}
 use Rattle.device_cli.proofs.ServedLaws.{gives_unmounted_commit}
 use Rattle.device_cli.proofs.ServingLaws.{serves_unmounted}
@@ -95,3 +97,24 @@ pub returns-in-Full-clause-any : goal.returns-in-Full-clause-any
 returns-in-Full-clause-any g c =
     let answers = rw c.in-Full.is at c.in_ok-done.ensures.answers in
     ((held_has c.args.self.now.session c.in-Some.session (λ (s : Session). is_touched s ≡ true) (sym c.take.ensures.value ∙ c.in-Some.is) answers.touched, λ told. tt), ap Some answers.same.0 ∙ sym (sym c.take.ensures.value ∙ c.in-Some.is))
+
+-- ---- what it reads
+
+pub returns-in_default-clause-looks : goal.returns-in_default-clause-looks
+returns-in_default-clause-looks g c told before warm look =
+    (omega arith, λ done. subst (λ (session : Option Session). IsWarmFor session None) (sym c.take.ensures.after) tt)
+
+pub returns-in-Committed-clause-looks : goal.returns-in-Committed-clause-looks
+returns-in-Committed-clause-looks g c told before warm look =
+    let goes = c.in_ok-done.ensures.goes in
+    (omega (arith, goes.unread told), λ done. omega (arith, goes.back.room, still_warm c.args.self.now.session c.in-Some.session before (sym c.take.ensures.value ∙ c.in-Some.is) warm))
+
+pub returns-in-Full-clause-looks : goal.returns-in-Full-clause-looks
+returns-in-Full-clause-looks g c told before warm look =
+    let goes = c.in_ok-done.ensures.goes in
+    (omega (arith, goes.unread told), λ done. omega (arith, goes.back.room, still_warm c.args.self.now.session c.in-Some.session before (sym c.take.ensures.value ∙ c.in-Some.is) warm))
+
+pub returns-in_err-done-clause-looks : goal.returns-in_err-done-clause-looks
+returns-in_err-done-clause-looks g c told before warm look =
+    let goes = c.in_err-done.ensures.goes in
+    (omega (arith, goes.unread told), rw (stopped g c) (λ done. absurd cc))
