@@ -54,7 +54,7 @@ IsReportOf tells head image records seized =
 abbrev pub IsRefused : ℕ → Image → List (List ℕ) → Type 0
 IsRefused head image records = IsBadCell head image.cell ⊎ HasBadRecord head records
 
--- the cell was looked at, once at most, and no page read; or the seizure isn't refused, and behind that look the cell was looked at once more, and each page read once at most, and
+-- one read was made at most, of the cell or of a page; or the seizure isn't refused, and behind one look at the cell it was looked at once more, and each page read once at most, and
 -- once more for each key by which a chain ends at it, from the key of the root record in the cell and those of the root records that these words are
 abbrev pub ReadsFewFor : ℕ → Image → List (List ℕ) → ℕ → ℕ → Type 0
 ReadsFewFor head image records reads reads_now =
