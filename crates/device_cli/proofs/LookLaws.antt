@@ -1,84 +1,150 @@
--- How the page reads of lines that only look add up.
-use Rattle.std.proofs.Common.{◌≡◌, ℕ, ◌+◌, ◌*◌, ◌<◌, ◌≤◌, ◌==◌, List, [], ◌∷◌, ◌++◌, Option, None, Some, Result, Ok, inl, inr, refl, sym, subst, arith, eqb-true}
-use Rattle.std.specs.Prelude.{IfSome}
+-- How what lines read adds up.
+use Rattle.std.proofs.Common.{◌≡◌, ℕ, zero, suc, length, ◌+◌, ◌*◌, ◌<◌, ◌≤◌, ◌==◌, List, [], ◌∷◌, ◌++◌, Option, None, Some, Result, Ok, Err, inl, inr, refl, sym, subst, arith, eqb-true}
+use Rattle.std.specs.Prelude.{IfSome, drop, slice_get}
+use Rattle.std.specs.Result.{result_ok}
 use Rattle.std.proofs.lemmas.Bool.{cases_Bool}
 use Rattle.platform.specs.declared.platforms.Platform.{Ghosts}
 use Rattle.device_session.specs.Open.{IsOpen, blocks_of}
 use Rattle.device_session.specs.Reading.{KeepsWayTo, room_of}
 use Rattle.session_calls.specs.Goes.{ReadsPages}
 use Rattle.session_calls.specs.declared.stops.DeviceStop.{DeviceStop}
-use Rattle.script_lang.specs.Commands.{Command}
+use Rattle.script_lang.specs.Commands.{Command, Format, Mount, Read, Write, Trim, Commit, Drop, Erase, Upgrade, Stat, Seize}
 use Rattle.script_lang.specs.Grammar.{Spells, IsBad}
+use Rattle.script_lang.specs.Replies.{Reply, said}
+use Rattle.script_lang.specs.declared.replies.Reply.{Reply as Given}
 use Rattle.script_lang.proofs.CommandLaws.{one_command}
 use Rattle.device_session.specs.Sessions.{Session}
+use Rattle.device_cli.specs.Replied.{outcome}
 use Rattle.device_cli.specs.World.{World}
-use Rattle.device_cli.specs.Looks.{IsBounded, IsWarmFor, AreBounded, LooksOn, block_read, most_for, most_reads}
+use Rattle.device_cli.specs.Looks.{IsBounded, IsWarmFor, AreBounded, LooksOn, block_read, is_refused, most_for, most_reads, most_told, reads_refused}
 
--- lines that look are such lines and then others
-record Parted (before : Option ℕ) (lines more : List (List ℕ)) (most : ℕ) (after : Option ℕ) : Type 0 where
+-- replies behind the first one, and so many more
+drop_next : {X : Type 0} (n : ℕ) (xs : List X) → drop n (drop 1 xs) ≡ drop (suc n) xs
+drop_next zero [] = refl
+drop_next (suc n) [] = refl
+drop_next n (x ∷ xs) = refl
+
+-- lines that have a bound are such lines and then others
+record Parted (before : Option ℕ) (lines more : List (List ℕ)) (replies : List Reply) (most : ℕ) (after : Option ℕ) : Type 0 where
   pub between : Option ℕ
   pub first : ℕ
   pub second : ℕ
-  pub front : AreBounded before lines first between
-  pub behind : AreBounded between more second after
+  pub front : AreBounded before lines replies first between
+  pub behind : AreBounded between more (drop (length lines) replies) second after
   pub sum : most ≡ first + second
 
-parted : (before after : Option ℕ) (lines more : List (List ℕ)) (most : ℕ) → AreBounded before (lines ++ more) most after → Parted before lines more most after
-parted before after [] more most h = record { between = before; first = 0; second = most; front = (refl, refl); behind = h; sum = omega arith }
-parted before after (line ∷ lines) more most (command, spells, look, others, rest, is) =
-    let p = parted (block_read command) after lines more others rest in
+parted : (before after : Option ℕ) (lines more : List (List ℕ)) (replies : List Reply) (most : ℕ) → AreBounded before (lines ++ more) replies most after → Parted before lines more replies most after
+parted before after [] more replies most h = record { between = before; first = 0; second = most; front = (refl, refl); behind = h; sum = omega arith }
+parted before after (line ∷ lines) more replies most (inl (bad, rest)) =
+    let p = parted before after lines more (drop 1 replies) most rest in
     record {
       between = p.between;
-      first = most_reads before command + p.first;
+      first = p.first;
       second = p.second;
-      front = (command, spells, look, p.first, p.front, refl);
-      behind = p.behind;
+      front = inl (bad, p.front);
+      behind = subst (λ (rs : List Reply). AreBounded p.between more rs p.second after) (drop_next (length lines) replies) p.behind;
+      sum = p.sum;
+    }
+parted before after (line ∷ lines) more replies most (inr (command, spells, look, others, rest, is)) =
+    let p = parted (block_read command) after lines more (drop 1 replies) others rest in
+    record {
+      between = p.between;
+      first = most_told before command (slice_get replies 0) + p.first;
+      second = p.second;
+      front = inr (command, spells, look, p.first, p.front, refl);
+      behind = subst (λ (rs : List Reply). AreBounded p.between more rs p.second after) (drop_next (length lines) replies) p.behind;
       sum = omega (arith, is, p.sum);
     }
 
+-- as many replies as lines, of more
+fronted : (before after : Option ℕ) (lines : List (List ℕ)) (replies others : List Reply) (most : ℕ) → length replies ≡ length lines → AreBounded before lines (replies ++ others) most after → AreBounded before lines replies most after
+fronted before after [] replies others most same h = h
+fronted before after (line ∷ lines) [] others most same h = absurd (omega (arith, same))
+fronted before after (line ∷ lines) (reply ∷ replies) others most same (inl (bad, rest)) = inl (bad, fronted before after lines replies others most (omega (arith, same)) rest)
+fronted before after (line ∷ lines) (reply ∷ replies) others most same (inr (command, spells, look, few, rest, is)) =
+    inr (command, spells, look, few, fronted (block_read command) after lines replies others few (omega (arith, same)) rest, is)
+
+dropped : (n : ℕ) (replies others : List Reply) → length replies ≡ n → drop n (replies ++ others) ≡ others
+dropped zero [] others same = refl
+dropped zero (reply ∷ replies) others same = absurd (omega (arith, same))
+dropped (suc n) [] others same = absurd (omega (arith, same))
+dropped (suc n) (reply ∷ replies) others same = dropped n replies others (omega (arith, same))
+
 -- no line
-pub looks_idle : (tells : Type 0) (old new : World) (Done : Type 0) → new.session ≡ old.session → (tells → new.reads ≤ old.reads) → LooksOn tells old new [] Done
+pub looks_idle : (tells : Type 0) (old new : World) (Done : Type 0) → new.session ≡ old.session → (tells → new.reads ≤ old.reads) → LooksOn tells old new [] [] Done
 looks_idle tells old new Done held same told before after most warm (none, is) =
     (omega (arith, same told, none), λ done. subst (λ (block : Option ℕ). IsWarmFor new.session block) (sym is) (subst (λ (session : Option Session). IsWarmFor session before) (sym held) warm))
 
 -- no line, before a stop
-pub looks_none : (tells : Type 0) (old new : World) (Done : Type 0) → (Done → ⊥) → (tells → new.reads ≤ old.reads) → LooksOn tells old new [] Done
+pub looks_none : (tells : Type 0) (old new : World) (Done : Type 0) → (Done → ⊥) → (tells → new.reads ≤ old.reads) → LooksOn tells old new [] [] Done
 looks_none tells old new Done never same told before after most warm (none, is) = (omega (arith, same told, none), λ done. absurd (never done))
 
--- lines, and then others
-pub looks_then : (tells : Type 0) (old mid new : World) (lines more : List (List ℕ)) (Was Done : Type 0) → Was → LooksOn tells old mid lines Was → LooksOn tells mid new more Done → LooksOn tells old new (lines ++ more) Done
-looks_then tells old mid new lines more Was Done was p q told before after most warm h =
-    let parts = parted before after lines more most h in
-    let one = p told before parts.between parts.first warm parts.front in
-    let two = q told parts.between after parts.second (one.1 was) parts.behind in
+-- lines that have their replies, and then others
+pub looks_then : (tells : Type 0) (old mid new : World) (lines more : List (List ℕ)) (replies others : List Reply) (Was Done : Type 0) → length replies ≡ length lines → Was
+    → LooksOn tells old mid lines replies Was → LooksOn tells mid new more others Done → LooksOn tells old new (lines ++ more) (replies ++ others) Done
+looks_then tells old mid new lines more replies others Was Done same was p q told before after most warm h =
+    let parts = parted before after lines more (replies ++ others) most h in
+    let one = p told before parts.between parts.first warm (fronted before parts.between lines replies others parts.first same parts.front) in
+    let two = q told parts.between after parts.second (one.1 was) (subst (λ (rs : List Reply). AreBounded parts.between more rs parts.second after) (dropped (length lines) replies others same) parts.behind) in
     (omega (arith, one.0, two.0, parts.sum), two.1)
 
 -- lines of which the last ones weren't served
-pub looks_longer : (tells : Type 0) (old new : World) (lines more : List (List ℕ)) (Was Done : Type 0) → (Done → ⊥) → LooksOn tells old new lines Was → LooksOn tells old new (lines ++ more) Done
-looks_longer tells old new lines more Was Done never p told before after most warm h =
-    let parts = parted before after lines more most h in
+pub looks_longer : (tells : Type 0) (old new : World) (lines more : List (List ℕ)) (replies : List Reply) (Was Done : Type 0) → (Done → ⊥) → LooksOn tells old new lines replies Was → LooksOn tells old new (lines ++ more) replies Done
+looks_longer tells old new lines more replies Was Done never p told before after most warm h =
+    let parts = parted before after lines more replies most h in
     let one = p told before parts.between parts.first warm parts.front in
     (omega (arith, one.0, parts.sum), λ done. absurd (never done))
 
-pub looks_weaker : (tells : Type 0) (old new : World) (lines : List (List ℕ)) (Was Done : Type 0) → (Done → Was) → LooksOn tells old new lines Was → LooksOn tells old new lines Done
-looks_weaker tells old new lines Was Done leads p told before after most warm h =
+pub looks_weaker : (tells : Type 0) (old new : World) (lines : List (List ℕ)) (replies : List Reply) (Was Done : Type 0) → (Done → Was) → LooksOn tells old new lines replies Was → LooksOn tells old new lines replies Done
+looks_weaker tells old new lines replies Was Done leads p told before after most warm h =
     let one = p told before after most warm h in
     (one.0, λ done. one.1 (leads done))
 
 -- a line that spells a command
-pub looks_line : (tells : Type 0) (old new : World) (line : List ℕ) (command : Command) (Done : Type 0) → Spells line command
-    → (tells → (before : Option ℕ) → IsWarmFor old.session before → IsBounded command → (new.reads ≤ old.reads + most_reads before command) × (Done → IsWarmFor new.session (block_read command)))
-    → LooksOn tells old new (line ∷ []) Done
-looks_line tells old new line command Done spells looks told before after most warm (other, reads, look, others, (none, last), is) =
+pub looks_line : (tells : Type 0) (old new : World) (line : List ℕ) (replies : List Reply) (command : Command) (Done : Type 0) → Spells line command
+    → (tells → (before : Option ℕ) → IsWarmFor old.session before → IsBounded command → (new.reads ≤ old.reads + most_told before command (slice_get replies 0)) × (Done → IsWarmFor new.session (block_read command)))
+    → LooksOn tells old new (line ∷ []) replies Done
+looks_line tells old new line replies command Done spells looks told before after most warm (inl (bad, rest)) = absurd (bad command spells)
+looks_line tells old new line replies command Done spells looks told before after most warm (inr (other, reads, look, others, (none, last), is)) =
     let same : other ≡ command = one_command line other command reads spells in
     let here = looks told before warm (subst IsBounded same look) in
-    let few : most ≡ most_reads before command + others = subst (λ (c : Command). most ≡ most_reads before c + others) same is in
+    let few : most ≡ most_told before command (slice_get replies 0) + others = subst (λ (c : Command). most ≡ most_told before c (slice_get replies 0) + others) same is in
     let block : after ≡ block_read command = subst (λ (c : Command). after ≡ block_read c) same last in
     (omega (arith, here.0, few, none), λ done. subst (λ (b : Option ℕ). IsWarmFor new.session b) (sym block) (here.1 done))
 
--- a line outside the grammar is none of these
-pub looks_bad : (tells : Type 0) (old new : World) (line : List ℕ) (Done : Type 0) → IsBad line → LooksOn tells old new (line ∷ []) Done
-looks_bad tells old new line Done bad told before after most warm (other, reads, look, others, rest, is) = absurd (bad other reads)
+-- a line outside the grammar
+pub looks_bad : (tells : Type 0) (old new : World) (line : List ℕ) (replies : List Reply) (Done : Type 0) → IsBad line → new.session ≡ old.session → (tells → new.reads ≤ old.reads) → LooksOn tells old new (line ∷ []) replies Done
+looks_bad tells old new line replies Done bad held same told before after most warm (inl (spelled, (none, is))) =
+    (omega (arith, same told, none), λ done. subst (λ (block : Option ℕ). IsWarmFor new.session block) (sym is) (subst (λ (session : Option Session). IsWarmFor session before) (sym held) warm))
+looks_bad tells old new line replies Done bad held same told before after most warm (inr (other, reads, look, others, rest, is)) = absurd (bad other reads)
+
+-- no more for a reply than for none
+refused_most : (before : Option ℕ) (command : Command) → reads_refused command ≤ most_reads before command
+refused_most before (Format blocks order) = omega arith
+refused_most before Mount = omega arith
+refused_most before (Read block) = omega arith
+refused_most before (Write block content) = omega arith
+refused_most before (Trim block) = omega arith
+refused_most before Commit = omega arith
+refused_most before Drop = omega arith
+refused_most before Erase = omega arith
+refused_most before Upgrade = omega arith
+refused_most before Stat = omega arith
+refused_most before Seize = omega arith
+
+told_most : (before : Option ℕ) (command : Command) (reply : Reply) → most_told before command (Some reply) ≤ most_reads before command
+told_most before command reply = elim (cases_Bool (is_refused reply)) [ inl refused ↦ rw refused (refused_most before command) | inr served ↦ rw served (omega arith) ]
+
+-- what is enough for a command that is refused is enough for it with any reply
+pub refused_told : (before : Option ℕ) (command : Command) (reply : Reply) → reads_refused command ≤ most_told before command (Some reply)
+refused_told before command reply = elim (cases_Bool (is_refused reply)) [ inl refused ↦ rw refused (omega arith) | inr served ↦ rw served (refused_most before command) ]
+
+-- a line whose reply was not put whole
+pub looks_cut : (tells : Type 0) (old new : World) (line : List ℕ) (reply : Reply) (Was Done : Type 0) → (Done → ⊥) → LooksOn tells old new (line ∷ []) (reply ∷ []) Was → LooksOn tells old new (line ∷ []) [] Done
+looks_cut tells old new line reply Was Done never p told before after most warm (inl (bad, rest)) = ((p told before after most warm (inl (bad, rest))).0, λ done. absurd (never done))
+looks_cut tells old new line reply Was Done never p told before after most warm (inr (command, spells, look, others, rest, is)) =
+    let here = p told before after (most_told before command (Some reply) + others) warm (inr (command, spells, look, others, rest, refl)) in
+    (omega (arith, here.0, is, told_most before command reply), λ done. absurd (never done))
 
 -- ---- one command
 
@@ -129,3 +195,9 @@ pub update_cost : (held : Option Session) (session now : Session) (head reads re
 update_cost held session now head reads reads_now before is open' warm same few =
     let low = open_there held session head is open' in
     (omega (arith, few, low), omega (arith, same, still_warm held session before is warm))
+
+-- a look is enough for a `format`, whatever it comes to
+pub format_told : (blocks order : ℕ) (before : Option ℕ) (result : Result Given DeviceStop) (buffer : List ℕ) (reads reads_now : ℕ) → reads_now ≤ reads + 1
+    → reads_now ≤ reads + most_told before (Format blocks order) (result_ok (outcome result buffer))
+format_told blocks order before (Ok reply) buffer reads reads_now few = omega (arith, few, refused_told before (Format blocks order) (said reply buffer))
+format_told blocks order before (Err stop) buffer reads reads_now few = few

@@ -24,7 +24,7 @@ use Rattle.device_cli.proofs.UpgradeLaws.{adds_device, leaves_device, root_most}
 use Rattle.script_lang.specs.Arrays.{needs_room}
 use Rattle.line_run.specs.Stops.{IsOfLine, Ending, IsSound}
 use Rattle.device_cli.specs.Looks.{LooksOn}
-use Rattle.device_cli.proofs.LookLaws.{looks_idle, looks_then, looks_longer, looks_weaker}
+use Rattle.device_cli.proofs.LookLaws.{looks_cut, looks_idle, looks_then, looks_longer, looks_weaker}
 use Rattle.device_cli.specs.World.{World, drew_by, is_full, needed_of, AreEnough, IsLater}
 use Rattle.device_course.specs.Marks.{Leaves, last_mark}
 use Rattle.device_course.specs.Course.{Made}
@@ -133,7 +133,7 @@ TurnsEach tells old new line reply = tells → (entry : State) (updates : ℕ) �
 -- a line with its reply
 pub Replied-line : (tells : Type 0) (old new : World) (last : DeviceStop → List ℕ) (line : List ℕ) (reply : Reply)
     → IsLater old new → DrewUntil old.drawn (line ∷ []) (reply ∷ []) new.drawn → SoOn tells old.history new.history old.session new.session (line ∷ []) (reply ∷ []) → TellsShort old new line reply → StaysEnough old new reply
-    → LooksOn tells old new (line ∷ []) (IsOk {T = Unit {0}} {E = Stop} (Ok tt)) → TurnsEach tells old new line reply → Replied tells ⊥ old new last (Ok tt) (line ∷ []) (line_of reply)
+    → LooksOn tells old new (line ∷ []) (reply ∷ []) (IsOk {T = Unit {0}} {E = Stop} (Ok tt)) → TurnsEach tells old new line reply → Replied tells ⊥ old new last (Ok tt) (line ∷ []) (line_of reply)
 Replied-line tells old new last line reply later drew so full enough looks turned = record {
   replies = reply ∷ [];
   part = [];
@@ -167,7 +167,7 @@ Replied-line tells old new last line reply later drew so full enough looks turne
 
 -- a line whose reply was put in part
 pub Replied-part : (tells : Type 0) (old new : World) (last : DeviceStop → List ℕ) (line : List ℕ) (reply : Reply) (n : ℕ)
-    → IsLater old new → DrewUntil old.drawn (line ∷ []) [] new.drawn → (tells → Extends old.history new.history) → LooksOn tells old new (line ∷ []) (IsOk {T = Unit {0}} {E = Stop} (Err stops.Sink)) → TurnsEach tells old new line reply
+    → IsLater old new → DrewUntil old.drawn (line ∷ []) [] new.drawn → (tells → Extends old.history new.history) → LooksOn tells old new (line ∷ []) [] (IsOk {T = Unit {0}} {E = Stop} (Err stops.Sink)) → TurnsEach tells old new line reply
     → Replied tells ⊥ old new last (Err stops.Sink) (line ∷ []) (take n (line_of reply))
 Replied-part tells old new last line reply n later drew extends looks turned = record {
   replies = [];
@@ -253,7 +253,7 @@ left_more (device.BadRecord addr) _ changes more upgrade less = omega arith
 -- a line that the device stopped at
 pub Replied-stop : (tells : Type 0) (old new : World) (line : List ℕ) (command : Command) (stop : DeviceStop) → Spells line command → IsLater old new → DrewUntil old.drawn (line ∷ []) [] new.drawn → (tells → Extends old.history new.history) → LeavesFew tells old.history.present stop command (needed_of old.session) old.head new.head
     → IsEndingAt tells ⊥ new [] (line ∷ []) (Err (stops.Device stop))
-    → LooksOn tells old new (line ∷ []) (IsOk {T = Unit {0}} {E = Stop} (Err (stops.Device stop)))
+    → LooksOn tells old new (line ∷ []) [] (IsOk {T = Unit {0}} {E = Stop} (Err (stops.Device stop)))
     → (tells → IsServedImage new.history.present) → (tells → (entry : State) → Stood old entry → Halts old new entry command stop)
     → Replied tells ⊥ old new no_line (Err (stops.Device stop)) (line ∷ []) []
 Replied-stop tells old new line command stop spells later drew extends added damage looks served halts = record {
@@ -413,7 +413,7 @@ Replied-then tells old mid new last ending lines more put others p q =
       full = λ updates paid. AreShort-append new.head new.capacity updates lines more p.replies q.replies p.many
           (AreShort-later mid new updates lines p.replies q.later (p.full updates paid)) (q.full (updates_of updates p.replies) (p.enough updates paid));
       enough = λ updates paid. enough_then ending new.session updates p.replies q.replies (q.enough (updates_of updates p.replies) (p.enough updates paid));
-      looks = looks_then tells old mid new lines more _ _ refl p.looks q.looks;
+      looks = looks_then tells old mid new lines more p.replies q.replies _ _ p.many refl p.looks q.looks;
       answered = λ told entry updates rep paid.
           let first = p.answered told entry updates rep paid in
           let met = standing entry old.head updates in
@@ -470,7 +470,7 @@ Replied-longer tells old new last stop lines more put line p = record {
   later = p.later;
   full = λ updates enough. AreShort-longer new.head new.capacity updates lines more p.replies (p.full updates enough);
   enough = λ updates enough. tt;
-  looks = looks_longer tells old new lines more _ _ (λ ok. absurd cc) p.looks;
+  looks = looks_longer tells old new lines more p.replies _ _ (λ ok. absurd cc) p.looks;
   answered = λ told entry updates rep enough. let first = p.answered told entry updates rep enough in record {
     now = first.now;
     answers = AnswersOn-longer old.capacity (standing entry old.head updates) first.now lines more p.replies first.answers;
@@ -519,7 +519,7 @@ stopped tells old new last stop lines put p behind many damage answered = record
   later = p.later;
   full = p.full;
   enough = λ updates enough. tt;
-  looks = looks_weaker tells old new lines _ _ (λ ok. absurd cc) p.looks;
+  looks = looks_weaker tells old new lines p.replies _ _ (λ ok. absurd cc) p.looks;
   answered = λ told entry updates rep enough. answered (standing entry old.head updates) (p.answered told entry updates rep enough);
 }
 
@@ -541,12 +541,12 @@ Handled-cut tells old new last lines a b p = let cut = Replied-cut tells old new
 -- a line whose reply was put, whole or in part
 pub Handled-line : (tells : Type 0) (old new : World) (last : DeviceStop → List ℕ) (line : List ℕ) (reply : Reply) (ending : Ending) (a b : Option (List ℕ))
     → IsLater old new → DrewUntil old.drawn (line ∷ []) (reply ∷ []) new.drawn → DrewUntil old.drawn (line ∷ []) [] new.drawn → SoOn tells old.history new.history old.session new.session (line ∷ []) (reply ∷ []) → TellsShort old new line reply
-    → StaysEnough old new reply → LooksOn tells old new (line ∷ []) (IsOk ending) → TurnsEach tells old new line reply → HasPut (line_of reply) ending a b
+    → StaysEnough old new reply → LooksOn tells old new (line ∷ []) (reply ∷ []) (IsOk ending) → TurnsEach tells old new line reply → HasPut (line_of reply) ending a b
     → Handled tells ⊥ old new last ending (line ∷ []) a b
 Handled-line tells old new last line reply (Ok done) a b later drew cut so full enough looks turned put =
     record { put = line_of reply; got = put; replied = Replied-line tells old new last line reply later drew so full enough looks turned }
 Handled-line tells old new last line reply (Err stops.Sink) a b later drew cut so full enough looks turned (n, put) =
-    record { put = take n (line_of reply); got = put; replied = Replied-part tells old new last line reply n later cut (λ told. (so told).0) looks turned }
+    record { put = take n (line_of reply); got = put; replied = Replied-part tells old new last line reply n later cut (λ told. (so told).0) (looks_cut tells old new line reply _ _ (λ ok. absurd cc) looks) turned }
 Handled-line tells old new last line reply (Err stops.Source) a b later drew cut so full enough looks turned put = absurd put
 Handled-line tells old new last line reply (Err stops.Limit) a b later drew cut so full enough looks turned put = absurd put
 Handled-line tells old new last line reply (Err (stops.Device stop)) a b later drew cut so full enough looks turned put = absurd put
@@ -616,7 +616,7 @@ halts_by old new drawn drawn_now entry command (device.BadRecord addr) h = h
 pub Handled-stop : (tells : Type 0) (old new : World) (line : List ℕ) (command : Command) (stop : DeviceStop) (written : Option (List ℕ)) → Spells line command
     → IsLater old new → DrewUntil old.drawn (line ∷ []) [] new.drawn → (tells → Extends old.history new.history) → LeavesFew tells old.history.present stop command (needed_of old.session) old.head new.head
     → MayStop tells old.session new.history.present new.head new.capacity command stop
-    → LooksOn tells old new (line ∷ []) (IsOk {T = Unit {0}} {E = Stop} (Err (stops.Device stop)))
+    → LooksOn tells old new (line ∷ []) [] (IsOk {T = Unit {0}} {E = Stop} (Err (stops.Device stop)))
     → (tells → IsServedImage new.history.present) → (tells → (entry : State) → Stood old entry → Halts old new entry command stop)
     → Handled tells ⊥ old new no_line (Err (stops.Device stop)) (line ∷ []) written written
 Handled-stop tells old new line command stop written spells later drew extends added may looks served halts = record {

@@ -1,8 +1,9 @@
 -- How often a run reads a page or looks at the cell, at lines that don't go over the whole tree.
-use Rattle.std.specs.Prelude.{◌≡◌, ℕ, ◌+◌, ◌<◌, ◌≤◌, ◌==◌, if◌then◌else◌, List, [], ◌∷◌, Option, None, Some}
+use Rattle.std.specs.Prelude.{◌≡◌, ◌⊎◌, ℕ, ◌+◌, ◌<◌, ◌≤◌, ◌==◌, Bool, true, false, if◌then◌else◌, List, [], ◌∷◌, Option, None, Some, drop, slice_get}
 use Rattle.script_lang.specs.Commands.{Command}
 use Rattle.script_lang.specs.Commands.{Commit, Erase, Format, Mount, Read, Write, Trim, Drop, Stat}
-use Rattle.script_lang.specs.Grammar.{Spells}
+use Rattle.script_lang.specs.Grammar.{IsBad, Spells}
+use Rattle.script_lang.specs.Replies.{Reply, Unmounted, AlreadyMounted, Range, Full}
 use Rattle.device_session.specs.Open.{blocks_of}
 use Rattle.device_session.specs.Reading.{KeepsWayTo, room_of}
 use Rattle.device_session.specs.Sessions.{Session}
@@ -42,11 +43,30 @@ most_reads before (Write block content) = 40
 most_reads before (Trim block) = 40
 most_reads before _ = 0
 
--- the lines spell such commands, behind one that read this block; so much is read for them at most, and the last of them reads this block
-abbrev pub AreBounded : Option ℕ → List (List ℕ) → ℕ → Option ℕ → Type 0
-AreBounded before [] most after = (most ≡ 0) × (after ≡ before)
-AreBounded before (line ∷ lines) most after =
-    (command : Command) × Spells line command × IsBounded command × (others : ℕ) × AreBounded (block_read command) lines others after × (most ≡ most_reads before command + others)
+-- the reply says that nothing was looked for: no session is open, or one is, the device has no such block, or too few pages are free
+abbrev pub is_refused : Reply → Bool
+is_refused Unmounted = true
+is_refused AlreadyMounted = true
+is_refused Range = true
+is_refused Full = true
+is_refused _ = false
+
+-- so much is read at most for a command with this reply, or with none: nothing where it is refused so, but that a `format` looks at the cell first
+abbrev pub reads_refused : Command → ℕ
+reads_refused (Format blocks order) = 1
+reads_refused _ = 0
+
+abbrev pub most_told : Option ℕ → Command → Option Reply → ℕ
+most_told before command None = most_reads before command
+most_told before command (Some reply) = if is_refused reply then reads_refused command else most_reads before command
+
+-- the lines spell such commands, or nothing, behind one that read this block, and the first of them have these replies; so much is read for them at most, and the last command of them reads this block
+abbrev pub AreBounded : Option ℕ → List (List ℕ) → List Reply → ℕ → Option ℕ → Type 0
+AreBounded before [] replies most after = (most ≡ 0) × (after ≡ before)
+AreBounded before (line ∷ lines) replies most after =
+    (IsBad line × AreBounded before lines (drop 1 replies) most after)
+    ⊎ ((command : Command) × Spells line command × IsBounded command × (others : ℕ) × AreBounded (block_read command) lines (drop 1 replies) others after
+    × (most ≡ most_told before command (slice_get replies 0) + others))
 
 -- the cache has room for a node of each level, and keeps each node on the way to the block that was read last, if one was
 abbrev pub IsWarmFor : Option Session → Option ℕ → Type 0
@@ -54,8 +74,8 @@ IsWarmFor None block = Unit {0}
 IsWarmFor (Some session) None = 20 ≤ room_of session
 IsWarmFor (Some session) (Some block) = (20 ≤ room_of session) × (block < blocks_of session → KeepsWayTo session block)
 
--- where the lines are such, no more is read than this; and where all are done, the cache is ready for the next one
-abbrev pub LooksOn : Type 0 → World → World → List (List ℕ) → Type 0 → Type 0
-LooksOn tells old new lines Done =
-    tells → (before after : Option ℕ) (most : ℕ) → IsWarmFor old.session before → AreBounded before lines most after
+-- where the lines are such, with these replies, no more is read than this; and where all are done, the cache is ready for the next one
+abbrev pub LooksOn : Type 0 → World → World → List (List ℕ) → List Reply → Type 0 → Type 0
+LooksOn tells old new lines replies Done =
+    tells → (before after : Option ℕ) (most : ℕ) → IsWarmFor old.session before → AreBounded before lines replies most after
     → (new.reads ≤ old.reads + most) × (Done → IsWarmFor new.session after)

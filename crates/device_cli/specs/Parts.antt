@@ -1,5 +1,6 @@
 -- What a part of a run gives, whether it serves a command, a line, or a piece of the input.
 use Rattle.std.specs.Prelude.{◌≡◌, ℕ, ◌+◌, ◌≤◌, List, Option, Result, IsOk, IfOk, OnOk}
+use Rattle.std.specs.Result.{result_ok}
 use Rattle.sdbt_base.specs.Arrays.{State}
 use Rattle.sdbt_base.specs.declared.sinks.Sink.{Ghosts as SinkGhosts}
 use Rattle.sdbt_base.specs.declared.tapes.Tape.{Ghosts as TapeGhosts}
@@ -13,7 +14,7 @@ use Rattle.root_codec.specs.declared.root.Root.{Root}
 use Rattle.device_core.specs.Upgrading.{IsOn, needed_of_root}
 use Rattle.device_course.specs.Keys.{KeepsOn}
 use Rattle.device_course.specs.States.{IsListed}
-use Rattle.device_cli.specs.Looks.{IsBounded, IsWarmFor, block_read, most_reads}
+use Rattle.device_cli.specs.Looks.{IsBounded, IsWarmFor, block_read, most_told}
 use Rattle.device_cli.specs.Pages.{updates_after}
 use Rattle.device_cli.specs.Replied.{Serves, outcome}
 use Rattle.device_cli.specs.Represents.{Represents}
@@ -86,6 +87,6 @@ SeesAny P desk now platform platform_now result = (entry : State) → Represents
     → IfOk (outcome result now.buffer) (Saw (P.history platform_now) (moment (P.history platform)) entry.device (P.head platform))
 
 -- where a command is one of those with a bound, no more is read than this; and where it is done, the cache is ready for the next one
-abbrev pub LooksFew : {S X E : Type 0} → PlatformGhosts S → Desk → Desk → S → S → Command → Result X E → Type 0
+abbrev pub LooksFew : {S : Type 0} → PlatformGhosts S → Desk → Desk → S → S → Command → Result Given DeviceStop → Type 0
 LooksFew P desk now platform platform_now command result = (before : Option ℕ) → IsWarmFor desk.session before → IsBounded command
-    → (P.reads platform_now ≤ P.reads platform + most_reads before command) × (IsOk result → IsWarmFor now.session (block_read command))
+    → (P.reads platform_now ≤ P.reads platform + most_told before command (result_ok (outcome result now.buffer))) × (IsOk result → IsWarmFor now.session (block_read command))

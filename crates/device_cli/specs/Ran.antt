@@ -103,9 +103,10 @@ pub record AnswersScript (tells : Type 0) (old new : World) (status : ℕ) (left
   -- and on any image each was so at a moment of the run, with the session that the line before it left: `data` is what a look-up comes to, behind `ok` look-ups come to what the update made, and
   -- `range` comes by the numbers alone; so a line that comes to a record which doesn't fit has none of these, and ends the run
   pub so : tells → (end : ℕ) × (last : Option Session) × AreSo tells new.history (moment old.history) None lines replies end last
-  -- where the lines format, mount, read, write, trim, ask, drop or erase, no more is read than this: the cell once before the first line, and once for each line that formats, mounts or erases;
-  -- one page for a read of the block that was read just before, and 21 for one of another; and 41 for a write or a trim
-  pub looks : tells → (most : ℕ) (last : Option ℕ) → AreBounded None lines most last → new.reads ≤ old.reads + (1 + most)
+  -- where the lines format, mount, read, write, trim, commit, ask, drop or erase, or spell nothing, no more is read than this: the cell once before the first line, and once for each line that formats, mounts
+  -- or erases; one page for a read of the block that was read just before, and 21 for one of another; 40 for a write or a trim; and nothing for a line that is refused since no session is open, or one
+  -- is, by its numbers, or for want of pages
+  pub looks : tells → (most : ℕ) (last : Option ℕ) → AreBounded None lines replies most last → new.reads ≤ old.reads + (1 + most)
   -- over an image that stands for a device which can be served, from that device on without a session
   pub answered : tells → (there : Option Device) → StandsFor old.history.present there → IsServedImage old.history.present
       → AnswersFrom old new status (closed there) lines replies part

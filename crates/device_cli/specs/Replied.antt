@@ -115,7 +115,7 @@ pub record Replied (tells Before : Type 0) (old new : World) (last : DeviceStop 
   pub later : IsLater old new
   pub full : (updates : ℕ) → AreEnough old.session updates → AreShort new.head new.capacity updates lines replies
   pub enough : (updates : ℕ) → AreEnough old.session updates → OnOk ending (AreEnough new.session (updates_of updates replies))
-  pub looks : LooksOn tells old new lines (IsOk ending)
+  pub looks : LooksOn tells old new lines replies (IsOk ending)
   pub answered : tells → (entry : State) (updates : ℕ) → Stood old entry → AreEnough old.session updates → Answered old new ending (standing entry old.head updates) lines replies part
 
 -- the same of what an output has got

@@ -31,7 +31,7 @@ use Rattle.page_store.proofs.KeepingLaws.{drew_none}
 use Rattle.device_cli.proofs.DrawingLaws.{refused_drew}
 use Rattle.device_cli.proofs.ReplyLaws.{refused_any}
 use Rattle.device_cli.proofs.EnoughLaws.{enough_refused, pages_refused}
-use Rattle.device_cli.proofs.LookLaws.{warm_less}
+use Rattle.device_cli.proofs.LookLaws.{format_told, warm_less}
 use Rattle.device_cli.proofs.desk.Desk.format.Goals as goal
 
 -- what the looking for a device ended with
@@ -212,7 +212,8 @@ returns-then-not-is_in_limits-clause-drew g c = refused_drew (g.T.Tape.drawn c.a
 -- ---- the cell is looked at once
 
 pub returns-then-not-is_in_limits-clause-looks : goal.returns-then-not-is_in_limits-clause-looks
-returns-then-not-is_in_limits-clause-looks g c told before warm look = ((c.refuse_format.ensures.reads told).by_one, λ done. warm_less c.args.self.now.session before warm)
+returns-then-not-is_in_limits-clause-looks g c told before warm look =
+    (format_told c.args.blocks c.args.order before c.refuse_format.result c.args.self.now.buffer _ _ (c.refuse_format.ensures.reads told).by_one, λ done. warm_less c.args.self.now.session before warm)
 
 pub returns-in-Ok-clause-looks : goal.returns-in-Ok-clause-looks
 returns-in-Ok-clause-looks g c told before warm look = ((c.format.ensures.spends.0 told).by_one, λ done. warm_less c.args.self.now.session before warm)

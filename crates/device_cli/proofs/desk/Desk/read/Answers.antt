@@ -161,7 +161,7 @@ returns-clause-looks g c told before warm look =
     let along = (c.in_ok-read_block.ensures.goes (no_draw None)).along in
     let within : c.args.block < blocks_of c.in-Some.session = omega (arith, c.if-block-blocks.false, c.blocks-2.ensures) in
     let there = warm_there _ c.in-Some.session before c.in-Some.is warm in (
-      read_cost P c.args.block c.args.platform.now c.read_block.new.platform c.in-Some.session c.read_block.new.session _ before told (open_there _ c.in-Some.session _ c.in-Some.is c.requires.ready) within there c.in_ok-read_block.ensures.reads,
+      rw c.reply_with_content.ensures.value (read_cost P c.args.block c.args.platform.now c.read_block.new.platform c.in-Some.session c.read_block.new.session _ before told (open_there _ c.in-Some.session _ c.in-Some.is c.requires.ready) within there c.in_ok-read_block.ensures.reads),
       λ done. warm_after P c.args.block c.args.platform.now c.read_block.new.platform c.in-Some.session c.read_block.new.session before told along.is_open.level there along.forgets.capacity c.in_ok-read_block.ensures.reads,
     )
 
