@@ -1,6 +1,6 @@
 //! Reading replies back.
 
-ghost use Rattle.std.specs.Prelude.{◌≡◌, ◌≢◌, [], ◌++◌, codes, false, flat_map, ◌<◌, ◌↔◌, ◌^◌, ℕ, List, Some, IfSome, IfNone, IsSomeAnd, IsTrue, take, ◌≤◌};
+ghost use Rattle.std.specs.Prelude.{◌≡◌, ◌≢◌, [], ◌++◌, codes, true, flat_map, ◌<◌, ◌↔◌, ◌^◌, ℕ, List, Some, IfSome, IfNone, IsSomeAnd, IsTrue, take, ◌≤◌};
 ghost use Rattle.script_lang.specs.Replies as replies;
 ghost use Rattle.script_lang.specs.Replies.{Reply as Answer, said, FitsBlock, text_of, line_of, is_refusal, IsReply, IsFront, IsTrimmed, IsWords, hex_or_dash};
 ghost use Rattle.text_lines.specs.Lines.{HasNone};
@@ -31,8 +31,8 @@ pub fn read_reply(line: &[u8], buffer: &mut [u8; BLOCK]) -> Option<Reply>
 #[tactic(auto, unfolding(crate::specs::Replies::text_of))]
 pub fn is_refusal_text(text: &[u8]) -> bool
     ensures answers { (answer : Answer) → text.now ≡ text_of answer → result ≡ is_refusal answer }
-    // An empty text is no reply's.
-    ensures empty { text.now ≡ [] → result ≡ false }
+    // And no other text is.
+    ensures only { IsTrue result → (answer : Answer) × (text.now ≡ text_of answer) × (is_refusal answer ≡ true) }
 {
     is_text(text, b"bad")
         || is_text(text, b"unmounted")

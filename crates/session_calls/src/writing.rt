@@ -1,4 +1,4 @@
-ghost use Rattle.std.specs.Prelude.{◌<◌, ◌≤◌, ◌≢◌, Some, OnOk, length};
+ghost use Rattle.std.specs.Prelude.{◌*◌, ◌<◌, ◌≤◌, ◌≢◌, Some, OnOk, length};
 ghost use Rattle.sdbt_base.specs.Arrays.{Device, Session as OpenSession, mounted, padded};
 ghost use Rattle.device_session.specs.Damage.{HasPut};
 ghost use Rattle.device_session.specs.Open.{IsOpen, blocks_of};

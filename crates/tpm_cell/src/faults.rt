@@ -1,4 +1,7 @@
 //! Why an index can't be a cell, and why one failed.
+ghost use Rattle.std.specs.Prelude.{◌≡◌};
+ghost use Rattle.std.specs.Option.{option_map};
+ghost use Rattle.tpm_cell.specs.Texts.{reason_text, word_text};
 
 use std::error::Error;
 use std::{fmt, io};
@@ -31,12 +34,16 @@ pub enum CellRefusal {
 }
 
 impl fmt::Display for TpmFault {
+    ghost use Rattle.tpm_cell.specs.Texts.{fault_text};
+
+    ghost output = { fault_text };
+
     fn fmt<W: fmt::Write>(&self, f: &mut fmt::Formatter<W>) -> fmt::Result {
         match self {
             TpmFault::Io(error) => write!(f, "{error}"),
             TpmFault::Reply(Failure::Code(code)) => match reason_of(*code) {
-                Some(reason) => write!(f, "reply {code:#x}, {reason}"),
-                None => write!(f, "reply {code:#x}"),
+                Some(reason) => write!(f, "reply 0x{code:x}, {reason}"),
+                None => write!(f, "reply 0x{code:x}"),
             },
             TpmFault::Reply(Failure::Malformed) => write!(f, "no reply of a TPM"),
             TpmFault::Unkept => write!(f, "the index does not hold what was written to it"),
@@ -45,13 +52,17 @@ impl fmt::Display for TpmFault {
 }
 
 impl fmt::Display for CellRefusal {
+    ghost use Rattle.tpm_cell.specs.Texts.{refusal_text};
+
+    ghost output = { refusal_text };
+
     fn fmt<W: fmt::Write>(&self, f: &mut fmt::Formatter<W>) -> fmt::Result {
         match self {
             CellRefusal::Io(error) => write!(f, "{error}"),
             CellRefusal::NoDevice => write!(f, "no character device"),
             CellRefusal::Absent(handle) => write!(
                 f,
-                "no such index: define it by tpm2_nvdefine {handle:#x} -C o -s 128 -a 'authread|authwrite|no_da'"
+                "no such index: define it by tpm2_nvdefine 0x{handle:x} -C o -s 128 -a 'authread|authwrite|no_da'"
             ),
             CellRefusal::Unusable(Fault::Size(size)) => {
                 write!(f, "an index of {size} bytes, and not of 128")
@@ -75,7 +86,9 @@ impl Error for TpmFault {}
 impl Error for CellRefusal {}
 
 // What a code of the TPM means (part 2, TPM_RC), where it says more than that the TPM is to be asked again.
-fn reason_of(code: u32) -> Option<&'static str> {
+fn reason_of(code: u32) -> Option<&'static str>
+    ensures { option_map (λ text. text.now) result ≡ reason_text code }
+{
     match code {
         0x100 => Some("the TPM is not started up"),
         0x101 => Some("the TPM is in failure mode"),
@@ -87,7 +100,9 @@ fn reason_of(code: u32) -> Option<&'static str> {
 }
 
 // The word that the tools of tpm2-tools have for an attribute.
-fn word_of(attribute: Attribute) -> &'static str {
+fn word_of(attribute: Attribute) -> &'static str
+    ensures { result.now ≡ word_text attribute }
+{
     match attribute {
         Attribute::AuthWrite => "authwrite",
         Attribute::WriteLocked => "writelocked",
