@@ -1,4 +1,4 @@
-use Rattle.std.proofs.Common.{◌≡◌, ℕ, List, [], ◌∷◌, inl, inr, refl, ap}
+use Rattle.std.proofs.Common.{◌≡◌, ℕ, List, [], ◌∷◌, inl, inr, refl, ap, arith}
 use Rattle.platform.specs.History.{Extends}
 use Rattle.platform.proofs.Moments.{Extends-refl}
 use Rattle.script_lang.specs.Commands.{asked}
@@ -24,7 +24,7 @@ returns-in_default-clause-handled g c text kept =
     let old : World = world_by P g.T.Tape c.args.desk.now.session c.args.platform.now c.args.tape.now in
     Handled-line P.tells old old no_line text Bad c.put_reply.result (written c.args.output.now) (written c.put_reply.new.output)
     (IsLater-refl old (g.met.P.Platform.has_room c.args.platform.now)) (until_line old.drawn old.drawn text Bad [] (inl (c.in_default.ensures.none text kept, refl)) (drew_none old.drawn old.drawn refl))
-    (until_none old.drawn old.drawn (text ∷ []) refl) (so_line P.tells old.history old.history old.session old.session text Bad (λ told. Extends-refl old.history) (λ told. inl (c.in_default.ensures.none text kept, refl, refl, refl))) (λ updates enough e. absurd cc) (λ updates enough. enough) (looks_bad P.tells old old text _ _ (c.in_default.ensures.none text kept) refl (λ told. omega arith))
+    (until_none old.drawn old.drawn (text ∷ []) refl) (so_line P.tells old.history old.history old.session old.session text Bad (λ told. Extends-refl old.history) (λ told. inl (c.in_default.ensures.none text kept, refl, refl, refl))) (λ updates enough e. absurd cc) (λ updates enough. enough) (looks_bad P.tells old old text (Bad ∷ []) _ (c.in_default.ensures.none text kept) refl (λ told. omega arith))
     (λ told entry updates rep enough. turned_bad old entry updates text (c.in_default.ensures.none text kept) rep) c.put_reply.ensures.put
 
 -- what is said is that no page was free only where that was given

@@ -167,8 +167,9 @@ returns-clause-looks g c told before warm look =
 
 pub returns-in_err-read_block-clause-looks : goal.returns-in_err-read_block-clause-looks
 returns-in_err-read_block-clause-looks g c told before warm look =
-    let within : c.args.block < blocks_of c.in-Some.session = omega (arith, c.if-block-blocks.false, c.blocks-2.ensures) in (
+    let within : c.args.block < blocks_of c.in-Some.session = omega (arith, c.if-block-blocks.false, c.blocks-2.ensures) in
+    rw (stopped g c) (
       read_cost g.P.Platform c.args.block c.args.platform.now c.read_block.new.platform c.in-Some.session c.read_block.new.session _ before told (open_there _ c.in-Some.session _ c.in-Some.is c.requires.ready) within
           (warm_there _ c.in-Some.session before c.in-Some.is warm) c.in_err-read_block.ensures.reads,
-      rw (stopped g c) (λ done. absurd cc),
+      λ done. absurd cc,
     )

@@ -153,4 +153,4 @@ returns-in_err-trim_block-clause-looks g c told before warm look =
     let P = g.P.Platform in
     let goes = (c.in_err-trim_block.ensures.goes (no_draw None)) in
     let cost = update_cost _ c.in-Some.session c.trim_block.new.session _ (P.reads c.args.platform.now) (P.reads c.trim_block.new.platform) before c.in-Some.is c.requires.ready warm goes.along.forgets.capacity (goes.along.reads told) in
-    (cost.0, rw (stopped g c) (λ done. absurd cc))
+    rw (stopped g c) (cost.0, λ done. absurd cc)

@@ -206,4 +206,4 @@ returns-in_err-write_block-clause-looks g c told before warm look =
     let P = g.P.Platform in
     let goes = c.in_err-write_block.ensures.goes in
     let cost = update_cost _ c.in-Some.session c.write_block.new.session _ (P.reads c.args.platform.now) (P.reads c.write_block.new.platform) before c.in-Some.is c.requires.before.ready warm goes.along.forgets.capacity (goes.along.reads told) in
-    (cost.0, rw (stopped g c) (λ done. absurd cc))
+    rw (stopped g c) (cost.0, λ done. absurd cc)
