@@ -16,7 +16,7 @@ use Rattle.session_calls.specs.declared.stops.DeviceStop.TheVariants as device
 use Rattle.nbd_core.specs.Halts.{Blames, IsDueTo, OfCommit, commit_halt, commit_outcome, outcome_after}
 use Rattle.nbd_core.specs.Stops.{TellsTake}
 use Rattle.nbd_core.specs.Requests.{DataEnd}
-use Rattle.nbd_core.specs.Turns.{ComesTo, EndsAs, IsByHead, IsOfBlocks, MayCome, MayHalt}
+use Rattle.nbd_core.specs.Turns.{ComesTo, EndsAs, EndsByHead, IsByHead, IsOfBlocks, MayCome, MayHalt}
 use Rattle.nbd_core.specs.declared.serving.Performed.{Performed}
 use Rattle.device_session.specs.declared.refusals.CommitReply.{CommitReply}
 use Rattle.device_session.specs.declared.refusals.CommitReply.TheVariants as replies
@@ -199,6 +199,10 @@ flush_may refused halts.Unfinished none ends = ends
 pub flush_may_halt : {X : Type 0} (kind : RequestKind) (refused : Option Outcome) (result : Result X Halt) → kind ≡ kinds.Flush → refused ≡ None → IfErr result (DataEnd None 0 []) → IfErr result (MayHalt kind refused)
 flush_may_halt kind refused (Ok x) flush none ends = tt
 flush_may_halt kind refused (Err halt) flush none ends = subst (λ (k : RequestKind). MayHalt k refused halt) (sym flush) (flush_may refused halt none ends)
+
+pub ends_both : (kind : RequestKind) (refused : Option Outcome) (result : Result Performed Halt) → IfOk result (λ done. ComesTo kind refused done.outcome) → IfErr result (MayHalt kind refused) → EndsByHead kind refused result
+ends_both kind refused (Ok done) comes halted = comes
+ends_both kind refused (Err halt) comes halted = halted
 
 -- ---- a commit
 

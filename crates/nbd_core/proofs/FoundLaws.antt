@@ -12,7 +12,7 @@ use Rattle.session_calls.specs.Along.{Along, Drawn}
 use Rattle.session_calls.specs.Damage.{ReadsAny}
 use Rattle.session_calls.specs.declared.stops.DeviceStop.{DeviceStop}
 use Rattle.session_calls.proofs.AlongLaws.{pages_still}
-use Rattle.session_calls.proofs.DamageLaws.{read_meets}
+use Rattle.nbd_core.proofs.MeetLaws.{read_stops}
 use Rattle.nbd_core.specs.Found.{FindsByte, FindsBytes, FindsSame, ReadsFound}
 
 -- ---- the bytes of lists
@@ -108,7 +108,7 @@ pub reads_part : (Known : Type 0) (image after : Image) (session now : Session) 
 reads_part Known image after session now block place content bytes result any known same then' = record {
   same = same;
   found = by result any;
-  met = read_meets Known image after session block content result any known;
+  met = read_stops Known image after session block content result any known;
 }
   where
     by : (r : Result (Unit {0}) DeviceStop) → ReadsAny Known image after session block content r → OnOk r (FindsBytes image session place bytes)
@@ -116,9 +116,9 @@ reads_part Known image after session now block place content bytes result any kn
     by (Err stop) found = tt
 
 -- a call that adds no page, and leaves the tree
-pub same_of_call : {S : Type 0} (P : PlatformGhosts S) (platform platform_now : S) (drawn drawn_now : Drawn) (session now : Session) → length (P.history platform).present.recorded ≡ P.head platform → length (P.history platform_now).present.recorded ≡ P.head platform_now → P.tells
-    → Along P 0 platform platform_now drawn drawn_now session now → now.grove ≡ session.grove → FindsSame (P.history platform).present (P.history platform_now).present session now
-same_of_call P platform platform_now drawn drawn_now session now many many_now told along grove = record {
+pub same_of_call : {S : Type 0} (P : PlatformGhosts S) (most : ℕ) (platform platform_now : S) (drawn drawn_now : Drawn) (session now : Session) → length (P.history platform).present.recorded ≡ P.head platform → length (P.history platform_now).present.recorded ≡ P.head platform_now → P.tells
+    → Along P 0 most platform platform_now drawn drawn_now session now → now.grove ≡ session.grove → FindsSame (P.history platform).present (P.history platform_now).present session now
+same_of_call P most platform platform_now drawn drawn_now session now many many_now told along grove = record {
   pages = pages_still (P.history platform) (P.history platform_now) (P.head platform) (P.head platform_now) (along.cell told).extends many many_now (omega (arith, along.rises, along.adds));
   grove = grove;
 }

@@ -1,7 +1,6 @@
 -- Blocks of which look-ups find behind a call what they found before, and those that a trim or a write changed.
 use Rattle.std.proofs.Common.{◌≡◌, ◌≢◌, ◌<◌, ◌≤◌, ◌+◌, ◌-◌, ◌*◌, ◌++◌, ◌⊎◌, ◌∙◌, ℕ, List, [], None, Some, Result, Ok, Err, false, inl, inr, length, length-append, take, drop, get_or, refl, sym, ap, subst, arith}
 use Rattle.std.specs.Prelude.{◌/◌, ◌%◌, All, Contains, IfErr, OnOk, slice_get}
-use Rattle.session_calls.specs.Damage.{MeetsDamage}
 use Rattle.session_calls.specs.declared.stops.DeviceStop.{DeviceStop}
 use Rattle.std.proofs.lemmas.Bool.{cases_lt}
 use Rattle.std.proofs.lemmas.List.{take_all}
@@ -16,6 +15,8 @@ use Rattle.device_session.specs.Damage.{HasPut, HasTaken, IsFound}
 use Rattle.device_session.specs.Open.{blocks_of}
 use Rattle.device_session.specs.Reading.{FindsContent, KeepsBlock}
 use Rattle.device_session.specs.Sessions.{Session}
+use Rattle.nbd_lang.specs.declared.requests.RequestKind.TheVariants as kinds
+use Rattle.nbd_core.specs.Meets.{MayMeet, MeetsAt}
 use Rattle.nbd_core.specs.Found.{FindsByte, FindsBytes, FindsSame, HasTrimmed, HasWritten, WritesFound}
 use Rattle.nbd_core.proofs.FoundLaws.{finds_all, finds_in, finds_nothing, finds_then}
 
@@ -233,7 +234,7 @@ written_all image after session now offset count n bytes size all written = reco
 
 -- ---- calls for blocks
 
-pub writes_found : (image after : Image) (session now : Session) (place : ℕ) (bytes : List ℕ) (result : Result (Unit {0}) DeviceStop) {Put : Type 0} → IfErr result (MeetsDamage after) → OnOk result Put → (Put → HasWritten image after session now place bytes)
+pub writes_found : (image after : Image) (session now : Session) (place : ℕ) (bytes : List ℕ) (result : Result (Unit {0}) DeviceStop) {Put : Type 0} → IfErr result (MeetsAt (MayMeet kinds.Write after place (length bytes))) → OnOk result Put → (Put → HasWritten image after session now place bytes)
     → WritesFound image after session now place bytes result
 writes_found image after session now place bytes (Ok done) meets put then' = then' put
 writes_found image after session now place bytes (Err stop) meets put then' = meets

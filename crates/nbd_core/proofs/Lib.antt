@@ -10,6 +10,8 @@ pub mod SpanLaws
 pub mod StatusLaws
 pub mod ServedLaws
 pub mod ArrayLaws
+pub mod ReadLaws
+pub mod MeetLaws
 pub mod TurnLaws
 pub mod FoundLaws
 pub mod KeptLaws

@@ -33,7 +33,9 @@ use Rattle.nbd_core.specs.Exchanges.{Exchange, sent_of, told_of}
 use Rattle.nbd_core.specs.Served.{Answered, AnswerEnd, AwaitsMore, EndsByDisconnect, EndsFrom, FitsExchange, IsAhead, IsCommit, IsCutOff, IsGoodbye, IsReplyTo, Served, ServedEnd, bytes_told, sent_bytes, replied_bytes}
 use Rattle.nbd_core.specs.Short.{AreShort, updates_in}
 use Rattle.nbd_core.specs.Near.{HasAdded, left_by, needed_for}
+use Rattle.nbd_core.specs.Reads.{HasRead, reads_in}
 use Rattle.nbd_core.proofs.NearLaws.{added, commit_needed, left_more, near_of}
+use Rattle.nbd_core.proofs.ReadLaws.{read_more, reads_push}
 use Rattle.nbd_core.proofs.ShortLaws.{short_less, short_push, updates_push}
 use Rattle.nbd_core.specs.Turns.{BeginsWith, ComesTo, DrawsKeys, Finishes, Halted, Halts, HaltsAt, IsOfCommit, MayHalt, Turns}
 use Rattle.nbd_lang.specs.declared.replies.Outcome.{Outcome}
@@ -82,6 +84,7 @@ pub record Replied (From : Held → Type 0) (tells : Type 0) (before mid : Outsi
   pub damage : tells → ToldTrue size before.history mid.history exchanges (moment mid.history) session
   pub short : AreShort size (mid.capacity - mid.head) 0 exchanges
   pub needs : needed_by session ≤ 41 * updates_in size 0 exchanges
+  pub reads : tells → mid.reads ≤ before.reads + reads_in size exchanges
   pub led : (entry : Held) → From entry → LedTo before.capacity before mid session entry (map sent_of exchanges) (map told_of exchanges)
 
 pub replied_nothing : (From : Held → Type 0) (tells : Type 0) (here : Outside) (session : Session) (size : ℕ) (left : Option (List ℕ)) (old : Room) (written : Option (List ℕ)) → ((entry : Held) → From entry → IsHeld here.history.present here.head session entry) → needed_by session ≡ 0
@@ -97,6 +100,7 @@ replied_nothing From tells here session size left old written held fresh mounted
   damage = λ told. told_nothing size here.history session (mounted told) fresh;
   short = tt;
   needs = omega (arith, fresh);
+  reads = λ told. omega arith;
   led = λ entry from. led_start here.capacity here session entry (held entry from);
 }
 
@@ -147,6 +151,7 @@ replied_more From tells before mid_outside after session next size a b c d old m
             (short_less size (mid_outside.capacity - mid_outside.head) (after.capacity - after.head) 0 exchanges (omega (arith, room, rises)) so_far.short)
             (answered.ends.6 (updates_in size 0 exchanges) so_far.needs).short;
         needs = omega (arith, (answered.ends.6 (updates_in size 0 exchanges) so_far.needs).needs, updates_push size 0 exchanges exchange);
+        reads = λ told_so. omega (arith, so_far.reads told_so, answered.reads told_so, reads_push size exchanges exchange);
         led = λ entry from.
             let led = so_far.led entry from in
             subst (λ (l : List Reply). LedTo before.capacity before after next entry (map sent_of (exchanges ++ exchange ∷ [])) l) (sym (map-append told_of exchanges (exchange ∷ [])))
@@ -167,9 +172,9 @@ served_by : (From : Held → Type 0) (tells : Type 0) (before there after : Outs
     → Replied From tells before there session size a b old mid w0 w1 exchanges → Came b c mid now.left AwaitsRequest rest → Got w1 part w2 → ServedEnd size rest part c now.ahead result
     → IfErr result (λ halt. halt ≡ halts.Client stops.Limit → now.left ≡ 0) → (tells → Extends there.history after.history)
     → after.capacity ≡ there.capacity → there.head ≤ after.head → (result ≡ Err halts.Unfinished → after.capacity - after.head < needed_by session)
-    → ((entry : Held) → From entry → (last : Held) → IsHeld there.history.present there.head session last → Ending before.capacity there after (EndsFrom before.capacity size rest now.ahead part after.head result) last)
-    → Served From tells before after size a c old now w0 w2 result
-served_by From tells before there after session size a b c old mid now w0 w1 w2 exchanges rest part result so_far next got ends limit on room rises lacks made = record {
+    → (tells → HasRead size rest (before.reads + reads_in size exchanges) after.reads) → ((entry : Held) → From entry → (last : Held) → IsHeld there.history.present there.head session last → Ending before.capacity there after (EndsFrom before.capacity size rest now.ahead part after.head result) last)
+    → Served From tells 0 before after size a c old now w0 w2 result
+served_by From tells before there after session size a b c old mid now w0 w1 w2 exchanges rest part result so_far next got ends limit on room rises lacks read made = record {
   exchanges = exchanges;
   came = flat_map sent_bytes exchanges ++ rest;
   put = so_far.put ++ part;
@@ -184,6 +189,7 @@ served_by From tells before there after session size a b c old mid now w0 w1 w2 
   limit = limit;
   damage = λ told. (moment there.history, session, told_later size before.history there.history after.history exchanges (moment there.history) session (on told) (so_far.damage told));
   short = short_less size (there.capacity - there.head) (after.capacity - after.head) 0 exchanges (omega (arith, room, rises)) so_far.short;
+  reads = λ told. read_more size rest (before.reads + reads_in size exchanges) (before.reads + 0 + reads_in size exchanges) after.reads (omega arith) (read told);
   unfinished = λ is. omega (arith, lacks is, so_far.needs);
   led = λ entry from.
       let led = so_far.led entry from in
@@ -207,14 +213,15 @@ nothing_ahead capacity here session last Is held is = record {
 
 -- without a head that is whole
 pub served_stopped : (From : Held → Type 0) (tells : Type 0) (before there : Outside) (session : Session) (size : ℕ) (a b c : Option (List ℕ)) (old mid now : Room) (w0 w1 : Option (List ℕ)) (exchanges : List Exchange) (halt : Halt)
-    → Replied From tells before there session size a b old mid w0 w1 exchanges → HeadCame b c mid now (Err halt) → Served From tells before there size a c old now w0 w1 (Err halt)
+    → Replied From tells before there session size a b old mid w0 w1 exchanges → HeadCame b c mid now (Err halt) → Served From tells 0 before there size a c old now w0 w1 (Err halt)
 served_stopped From tells before there session size a b c old mid now w0 w1 exchanges halt so_far head = by halt head.limit head.ends
   where
-    stop : (h : Halt) → (h ≢ halts.Unfinished) → (h ≡ halts.Client stops.Limit → now.left ≡ 0) → ServedEnd size head.came [] c now.ahead (Err h) → ((last : Held) → last.pages ≡ there.head → EndsFrom before.capacity size head.came now.ahead [] there.head (Err h) last []) → Served From tells before there size a c old now w0 w1 (Err h)
+    stop : (h : Halt) → (h ≢ halts.Unfinished) → (h ≡ halts.Client stops.Limit → now.left ≡ 0) → ServedEnd size head.came [] c now.ahead (Err h) → ((last : Held) → last.pages ≡ there.head → EndsFrom before.capacity size head.came now.ahead [] there.head (Err h) last []) → Served From tells 0 before there size a c old now w0 w1 (Err h)
     stop h other limit ends none = served_by From tells before there there session size a b c old mid now w0 w1 w1 exchanges head.came [] (Err h) so_far head.takes (Got-nothing w1) ends limit (λ told. Extends-refl there.history) refl (omega arith) (λ is. absurd (other (halt_same h halts.Unfinished is)))
+        (λ told. inl (so_far.reads told))
         (λ entry from last held. nothing_ahead before.capacity there session last (EndsFrom before.capacity size head.came now.ahead [] there.head (Err h)) held (none last held.pages))
 
-    by : (h : Halt) → (h ≡ halts.Client stops.Limit → now.left ≡ 0) → HeadEnd c now.ahead head.came (Err h) → Served From tells before there size a c old now w0 w1 (Err h)
+    by : (h : Halt) → (h ≡ halts.Client stops.Limit → now.left ≡ 0) → HeadEnd c now.ahead head.came (Err h) → Served From tells 0 before there size a c old now w0 w1 (Err h)
     by (halts.Client stops.Source) limit ends = stop (halts.Client stops.Source) (λ e. cc) limit (refl, ends) (λ last pages. record { to = refl; near = inl (sym pages) })
     by (halts.Client stops.Limit) limit ends = stop (halts.Client stops.Limit) (λ e. cc) limit (refl, ends) (λ last pages. record { to = refl; near = inl (sym pages) })
     by (halts.Client stops.Broken) limit ends = stop (halts.Client stops.Broken) (λ e. cc) limit (refl, ends) (λ last pages. record { to = refl; near = inl (sym pages) })
@@ -229,9 +236,9 @@ served_stopped From tells before there session size a b c old mid now w0 w1 exch
 
 -- where the input ended between two requests
 pub served_over : (From : Held → Type 0) (tells : Type 0) (before there : Outside) (session : Session) (size : ℕ) (a b c : Option (List ℕ)) (old mid now : Room) (w0 w1 : Option (List ℕ)) (exchanges : List Exchange)
-    → Replied From tells before there session size a b old mid w0 w1 exchanges → HeadCame b c mid now (Ok None) → Served From tells before there size a c old now w0 w1 (Ok tt)
+    → Replied From tells before there session size a b old mid w0 w1 exchanges → HeadCame b c mid now (Ok None) → Served From tells 0 before there size a c old now w0 w1 (Ok tt)
 served_over From tells before there session size a b c old mid now w0 w1 exchanges so_far head =
-    served_by From tells before there there session size a b c old mid now w0 w1 w1 exchanges head.came [] (Ok tt) so_far head.takes (Got-nothing w1) (refl, inl head.ends) tt (λ told. Extends-refl there.history) refl (omega arith) (λ is. absurd cc)
+    served_by From tells before there there session size a b c old mid now w0 w1 w1 exchanges head.came [] (Ok tt) so_far head.takes (Got-nothing w1) (refl, inl head.ends) tt (λ told. Extends-refl there.history) refl (omega arith) (λ is. absurd cc) (λ told. inl (so_far.reads told))
     (λ entry from last held. nothing_ahead before.capacity there session last (EndsFrom before.capacity size head.came now.ahead [] there.head (Ok tt)) held (record { to = inl (head.ends.0, refl); near = sym held.pages }))
 
 -- a disconnect isn't refused
@@ -320,17 +327,18 @@ goodbye_limit (Err halts.NoDevice) left ends = absurd ends
 
 pub served_goodbye : (From : Held → Type 0) (tells : Type 0) (before there after : Outside) (session : Session) (size : ℕ) (a b c : Option (List ℕ)) (old mid now : Room) (w0 w1 : Option (List ℕ)) (exchanges : List Exchange) (request : Request) (result : Result (Unit {0}) Halt)
     → ((entry : Held) → From entry → tells) → there.capacity ≡ before.capacity → (tells → Extends there.history after.history) → after.capacity ≡ there.capacity → there.head ≤ after.head
-    → (result ≡ Err halts.Unfinished → after.capacity - after.head < needed_by session) → IfErr result (λ halt. after.head ≤ there.head + left_by halt (needed_by session)) → request.kind ≡ kinds.Disconnect
-    → Replied From tells before there session size a b old mid w0 w1 exchanges → HeadCame b c mid now (Ok (Some request)) → EndsByDisconnect result → Finishes tells there after session result → Served From tells before after size a c old now w0 w1 result
-served_goodbye From tells before there after session size a b c old mid now w0 w1 exchanges request result told same on room rises lacks adds is so_far head ends finishes =
+    → (result ≡ Err halts.Unfinished → after.capacity - after.head < needed_by session) → IfErr result (λ halt. after.head ≤ there.head + left_by halt (needed_by session)) → (tells → after.reads ≡ there.reads) → request.kind ≡ kinds.Disconnect
+    → Replied From tells before there session size a b old mid w0 w1 exchanges → HeadCame b c mid now (Ok (Some request)) → EndsByDisconnect result → Finishes tells there after session result → Served From tells 0 before after size a c old now w0 w1 result
+served_goodbye From tells before there after session size a b c old mid now w0 w1 exchanges request result told same on room rises lacks adds unread is so_far head ends finishes =
     let bye : IsGoodbye head.came now.ahead = (request, is, head.ends.1) in
     served_by From tells before there after session size a b c old mid now w0 w1 w1 exchanges head.came [] result so_far head.takes (Got-nothing w1) (goodbye_end size head.came now.ahead c result bye ends) (goodbye_limit result now.left ends) on room rises lacks
+    (λ told_so. inl (omega (arith, so_far.reads told_so, unread told_so)))
     (λ entry from last held. goodbye_ends before.capacity size tells there after session head.came now.ahead last result (told entry from) same rises bye head.ends.0 ends adds held finishes)
 
 -- in a request: without its reply, or with a part of it
 pub served_halted : (From : Held → Type 0) (tells : Type 0) (before there after : Outside) (session : Session) (size : ℕ) (a b c d : Option (List ℕ)) (old mid read now : Room) (w0 w1 w2 : Option (List ℕ)) (exchanges : List Exchange) (request : Request) (halt : Halt)
     → ((entry : Held) → From entry → tells) → there.capacity ≡ before.capacity → (tells → Extends there.history after.history) → after.capacity ≡ there.capacity → there.head ≤ after.head → request.kind ≢ kinds.Disconnect
-    → Replied From tells before there session size a b old mid w0 w1 exchanges → HeadCame b c mid read (Ok (Some request)) → Answered tells there after session size request c d read now w1 w2 (Err halt) → Served From tells before after size a d old now w0 w2 (Err halt)
+    → Replied From tells before there session size a b old mid w0 w1 exchanges → HeadCame b c mid read (Ok (Some request)) → Answered tells there after session size request c d read now w1 w2 (Err halt) → Served From tells 0 before after size a d old now w0 w2 (Err halt)
 served_halted From tells before there after session size a b c d old mid read now w0 w1 w2 exchanges request halt told same on room rises other so_far head answered = by halt answered.limit answered.ends
   where
     rest : List ℕ
@@ -339,19 +347,22 @@ served_halted From tells before there after session size a b c d old mid read no
     takes : Came b d mid now.left AwaitsRequest rest
     takes = whole_came b c d mid read now.left request (answered.gone ++ now.ahead) head answered.came
 
+    reads : tells → HasRead size rest (before.reads + reads_in size exchanges) after.reads
+    reads told_so = inr (request, answered.gone ++ now.ahead, head.ends.0, refl, omega (arith, so_far.reads told_so, answered.reads told_so))
+
     none : (h : Halt) → (h ≢ halts.Unfinished) → (h ≡ halts.Client stops.Limit → now.left ≡ 0) → w2 ≡ w1 → ServedEnd size rest [] d now.ahead (Err h) → IsLate h → h ≢ halts.Client stops.Sink → Halts tells there after session request.kind h
-        → ((n : ℕ) → needed_by session ≤ 41 * n → after.head ≤ there.head + left_by h (needed_for size request n)) → Served From tells before after size a d old now w0 w2 (Err h)
-    none h finished limit same_put ends late no_sink halts_so adds = served_by From tells before there after session size a b d old mid now w0 w1 w2 exchanges rest [] (Err h) so_far takes (subst (Got w1 []) (sym same_put) (Got-nothing w1)) ends limit on room rises (λ is. absurd (finished (halt_same h halts.Unfinished is)))
+        → ((n : ℕ) → needed_by session ≤ 41 * n → after.head ≤ there.head + left_by h (needed_for size request n)) → Served From tells 0 before after size a d old now w0 w2 (Err h)
+    none h finished limit same_put ends late no_sink halts_so adds = served_by From tells before there after session size a b d old mid now w0 w1 w2 exchanges rest [] (Err h) so_far takes (subst (Got w1 []) (sym same_put) (Got-nothing w1)) ends limit on room rises (λ is. absurd (finished (halt_same h halts.Unfinished is))) reads
         (λ entry from last held. halted_end before.capacity size there after rest now.ahead last request.kind h same (λ of. (request, answered.gone ++ now.ahead, of, refl)) late no_sink
         (added size there.head after.head rest (answered.gone ++ now.ahead) request last h head.ends.0 refl held.pages rises (adds last.updates held.needs)) (halts_so (told entry from) last held))
 
-    by : (h : Halt) → (h ≡ halts.Client stops.Limit → now.left ≡ 0) → AnswerEnd tells there after session size request d answered.gone now.ahead w1 w2 (Err h) → Served From tells before after size a d old now w0 w2 (Err h)
+    by : (h : Halt) → (h ≡ halts.Client stops.Limit → now.left ≡ 0) → AnswerEnd tells there after session size request d answered.gone now.ahead w1 w2 (Err h) → Served From tells 0 before after size a d old now w0 w2 (Err h)
     by (halts.Client stops.Sink) limit (whole, reply, is, part, turns, damage) =
         let sent : RequestSent = record { head = request; bytes = answered.gone } in
         let exchange : Exchange = record { sent = sent; reply = reply } in
         let fits : FitsExchange size exchange = record { sent = record { head = head.ends.0; bytes = whole }; other = other; reply = is } in
         let cut : IsCutOff size rest now.ahead (take part.0 (reply_bytes reply)) = record { exchange = exchange; fits = fits; is = sym (append_assoc (request_head request) answered.gone now.ahead); count = part.0; put = refl } in
-        served_by From tells before there after session size a b d old mid now w0 w1 w2 exchanges rest (take part.0 (reply_bytes reply)) (Err (halts.Client stops.Sink)) so_far takes part.1 cut limit on room rises (λ is. absurd cc)
+        served_by From tells before there after session size a b d old mid now w0 w1 w2 exchanges rest (take part.0 (reply_bytes reply)) (Err (halts.Client stops.Sink)) so_far takes part.1 cut limit on room rises (λ is. absurd cc) reads
         (λ entry from last held.
         let turned = turns (told entry from) last held in
         record { ahead = turned.next ∷ []; made = turned.made; is = record { to = (cut, turned.next, refl, subst (λ (n : ℕ). Turn n last sent reply turned.next) same turned.turn); near = sym turned.pages } })
@@ -453,6 +464,6 @@ pub answered_on : (tells : Type 0) (before after : Outside) (session : Session) 
     → Answered tells before after session size request a c old new written written_now result → Answered tells before after session other request a c old new written written_now result
 answered_on tells before after session size other request a c old new written written_now result same answered = subst (λ (n : ℕ). Answered tells before after session n request a c old new written written_now result) same answered
 
-pub late_of : (From : Held → Type 0) (tells : Type 0) (before after : Outside) (size : ℕ) (a c : Option (List ℕ)) (old new : Room) (written written_now : Option (List ℕ)) (result : Result (Unit {0}) Halt) → Served From tells before after size a c old new written written_now result → IfErr result IsLate
+pub late_of : (From : Held → Type 0) (tells : Type 0) (before after : Outside) (size : ℕ) (a c : Option (List ℕ)) (old new : Room) (written written_now : Option (List ℕ)) (result : Result (Unit {0}) Halt) → Served From tells 0 before after size a c old new written written_now result → IfErr result IsLate
 late_of From tells before after size a c old new written written_now (Ok done) served = tt
 late_of From tells before after size a c old new written written_now (Err halt) served = late_served size served.rest served.part c new.ahead halt served.ends

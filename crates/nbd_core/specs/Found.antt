@@ -6,8 +6,9 @@ use Rattle.device_session.specs.Damage.{IsFound}
 use Rattle.device_session.specs.Open.{blocks_of}
 use Rattle.device_session.specs.Reading.{FindsContent, KeepsBlock}
 use Rattle.device_session.specs.Sessions.{Session}
-use Rattle.session_calls.specs.Damage.{MeetsDamage}
 use Rattle.session_calls.specs.declared.stops.DeviceStop.{DeviceStop}
+use Rattle.nbd_lang.specs.declared.requests.RequestKind.TheVariants as kinds
+use Rattle.nbd_core.specs.Meets.{MayMeet, MeetsAt}
 
 -- look-ups find this byte at this place: it stands there in the content that one of its block comes to
 pub record FindsByte (image : Image) (session : Session) (place byte : ℕ) : Type 0 where
@@ -29,7 +30,7 @@ pub record FindsSame (image after : Image) (session now : Session) : Type 0 wher
 pub record ReadsFound (image after : Image) (session now : Session) (place : ℕ) (bytes : List ℕ) (result : Result (Unit {0}) DeviceStop) : Type 0 where
   pub same : FindsSame image after session now
   pub found : OnOk result (FindsBytes image session place bytes)
-  pub met : IfErr result (MeetsDamage after)
+  pub met : IfErr result (MeetsAt (MayMeet kinds.Read after place (length bytes)))
 
 -- a trim that was done: behind it look-ups find none of these blocks, and of each other one of the device
 -- what they found before
@@ -49,7 +50,8 @@ pub record HasWritten (image after : Image) (session now : Session) (offset : �
   pub beside : (place : ℕ) → IsBeside offset (length bytes) place → (byte : ℕ) × FindsByte image session place byte × FindsByte after now place byte
   pub others : (other : ℕ) → other < blocks_of session → (IsTouched offset (length bytes) other → ⊥) → KeepsBlock image.readable after.readable session now other
 
--- what a write of bytes comes to: it has written them, or it met a page that doesn't fit, if it stopped at one
+-- what a write of bytes comes to: it has written them, or it met what doesn't fit where such a write does, if it
+-- stopped at that
 abbrev pub WritesFound : Image → Image → Session → Session → ℕ → List ℕ → Result (Unit {0}) DeviceStop → Type 0
 WritesFound image after session now place bytes (Ok done) = HasWritten image after session now place bytes
-WritesFound image after session now place bytes (Err stop) = MeetsDamage after stop
+WritesFound image after session now place bytes (Err stop) = MeetsAt (MayMeet kinds.Write after place (length bytes)) stop

@@ -7,11 +7,13 @@ pub mod Requests
 pub mod Serving
 pub mod Turns
 pub mod Exchanges
+pub mod Meets
 pub mod Found
 pub mod Damages
 pub mod Ample
 pub mod Short
 pub mod Near
+pub mod Reads
 pub mod Served
 pub mod Arrays
 pub mod Running

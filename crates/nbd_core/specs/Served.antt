@@ -24,6 +24,7 @@ use Rattle.nbd_core.specs.Room.{Room, Came, IsShorter}
 use Rattle.nbd_core.specs.Requests.{AwaitsRequest, IsBrokenRequest, DataEnd}
 use Rattle.nbd_core.specs.Short.{AreShort, Spends, updates_in}
 use Rattle.nbd_core.specs.Near.{IsNear, left_by, needed_for}
+use Rattle.nbd_core.specs.Reads.{HasRead, reads_for, reads_in}
 use Rattle.nbd_core.specs.Turns.{Turns, Halts, BeginsWith, ComesTo, DrawsKeys, IsOfCommit, MayHalt, OnArray}
 use Rattle.nbd_core.specs.declared.stop.Stop.TheVariants as stops
 use Rattle.nbd_core.specs.declared.halts.Halt.{Halt}
@@ -56,11 +57,13 @@ AnswerEnd tells before after session size request left gone ahead written writte
     (written_now ≡ written) × DataEnd left (bytes_behind request.kind request.length) (gone ++ ahead) halt × MayHalt request.kind (refusal size request) halt
     × Halts tells before after session request.kind halt × ((n : ℕ) → needed_by session ≤ 41 * n → after.head ≤ before.head + left_by halt (needed_for size request n))
 
+-- a request came to such an end; whichever it was, no more pages were read than it reads at most
 pub record Answered (tells : Type 0) (before after : Outside) (session : Session) (size : ℕ) (request : Request) (left left_now : Option (List ℕ)) (old new : Room) (written written_now : Option (List ℕ)) (result : Result Session Halt) : Type 0 where
   pub gone : List ℕ
   pub came : Came left left_now old new.left (IsShorter (bytes_behind request.kind request.length)) (gone ++ new.ahead)
   pub ends : AnswerEnd tells before after session size request left_now gone new.ahead written written_now result
   pub limit : IfErr result (λ halt. halt ≡ halts.Client stops.Limit → new.left ≡ 0)
+  pub reads : tells → after.reads ≤ before.reads + reads_for size request
 
 pub record FitsExchange (size : ℕ) (exchange : Exchange) : Type 0 where
   pub sent : FitsSent exchange.sent
@@ -135,8 +138,10 @@ pub record EndsFrom (capacity size : ℕ) (rest tail part : List ℕ) (now : ℕ
 -- the run may have begun from the replies are those of the array, and each moment of the run has one
 -- of the devices that they lead through; and with enough pages free each request is done. A reply that
 -- tells of damage, which none does from such a state, was put where a page didn't fit its place; and one
--- that tells of want of pages says what is true of those that are free at the end
-pub record Served (From : Held → Type 0) (tells : Type 0) (before after : Outside) (size : ℕ) (left left_now : Option (List ℕ)) (old new : Room) (written written_now : Option (List ℕ)) (result : Result (Unit {0}) Halt) : Type 0 where
+-- that tells of want of pages says what is true of those that are free at the end. No more pages were read
+-- than these requests read at most, and the last one that came without a reply, beside so many looks at the
+-- cell before them
+pub record Served (From : Held → Type 0) (tells : Type 0) (looks : ℕ) (before after : Outside) (size : ℕ) (left left_now : Option (List ℕ)) (old new : Room) (written written_now : Option (List ℕ)) (result : Result (Unit {0}) Halt) : Type 0 where
   pub exchanges : List Exchange
   pub came : List ℕ
   pub put : List ℕ
@@ -152,6 +157,7 @@ pub record Served (From : Held → Type 0) (tells : Type 0) (before after : Outs
   pub led : (entry : Held) → From entry → OnArray before after entry (map sent_of exchanges) (map told_of exchanges) (EndsFrom before.capacity size rest new.ahead part after.head result)
   pub damage : tells → (end : ℕ) × (last : Session) × ToldTrue size before.history after.history exchanges end last
   pub short : AreShort size (after.capacity - after.head) 0 exchanges
+  pub reads : tells → HasRead size rest (before.reads + looks + reads_in size exchanges) after.reads
   pub unfinished : result ≡ Err halts.Unfinished → after.capacity - after.head < 41 * updates_in size 0 exchanges
   pub complete : (entry : Held) → From entry → size ≡ size_of entry → HasRoom before.capacity size entry exchanges → Completes size exchanges result
 

@@ -1,5 +1,5 @@
 -- What requests make of a session's array, and of the device below it.
-use Rattle.std.specs.Prelude.{◌≡◌, ◌⊎◌, ◌-◌, ℕ, List, [], ◌∷◌, ◌++◌, Option, None, Some, Result, Ok, Err, IfOk, IfSome}
+use Rattle.std.specs.Prelude.{◌≡◌, ◌⊎◌, ◌≤◌, ◌+◌, ◌-◌, ℕ, List, [], ◌∷◌, ◌++◌, Option, None, Some, Result, Ok, Err, IfOk, IfSome}
 use Rattle.sdbt_base.specs.Arrays.{session_on}
 use Rattle.platform.specs.declared.platforms.Platform.{Ghosts as PlatformGhosts}
 use Rattle.page_store.specs.Stands.{Stands}
@@ -100,6 +100,11 @@ abbrev pub IsByHead : RequestKind → Option Outcome → Result Outcome Halt →
 IsByHead kind refused (Ok outcome) = ComesTo kind refused outcome
 IsByHead kind refused (Err halt) = MayHalt kind refused halt
 
+-- the same of what was performed
+abbrev pub EndsByHead : RequestKind → Option Outcome → Result Performed Halt → Type 0
+EndsByHead kind refused (Ok done) = ComesTo kind refused done.outcome
+EndsByHead kind refused (Err halt) = MayHalt kind refused halt
+
 -- these bytes begin with a request that its head doesn't refuse, of such a kind
 abbrev pub BeginsWith : ℕ → (RequestKind → Type 0) → List ℕ → Type 0
 BeginsWith size Is bytes = (request : Request) × (more : List ℕ) × (refusal size request ≡ None) × Is request.kind × (bytes ≡ request_head request ++ more)
@@ -163,9 +168,10 @@ pub record OnArray (old new : Outside) (entry : Held) (asked : List RequestSent)
   pub led : Led (Turn old.capacity) device_of (MadeBetween old.history new.history) entry asked replies ahead
   pub ends : IsEnd (last_of entry led.states) ahead
 
--- no page was added, and from each of these states the device stayed
-pub record Stayed (From : Held → Type 0) (old new : Outside) : Type 0 where
+-- no page was added or read, beside so many looks at the cell; and from each of these states the device stayed
+pub record Stayed (From : Held → Type 0) (tells : Type 0) (looks : ℕ) (old new : Outside) : Type 0 where
   pub pages : new.head ≡ old.head
+  pub reads : tells → new.reads ≤ old.reads + looks
   pub made : (entry : Held) → From entry → MadeBetween old.history new.history entry.device [] entry.device
 
 -- the device that the image stands for, with a session just mounted on it

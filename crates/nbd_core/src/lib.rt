@@ -59,7 +59,7 @@ pub fn run_nbd<P: Platform, T: Tape, I: Source, O: Sink, L: Sink>(
 
     // The bytes put are the greeting, answers to the options that came and replies to the requests. These are
     // replies of an array of bytes, the device's, and each moment leaves a device that they led through; on any
-    // pages each reply says what is true of these.
+    // pages each reply says what is true of these, and no more is read than two looks at the cell and what the requests read at most.
     ensures serves { map string_bytes words.now ≡ [] → Serving P.tells result
         (handed P.Platform T.Tape I.Source O.Sink L.Sink platform.old tape.old input.old output.old ledger.old)
         (handed P.Platform T.Tape I.Source O.Sink L.Sink platform.new tape.new input.new output.new ledger.new) }

@@ -10,6 +10,8 @@ ghost use Rattle.session_calls.specs.Damage.{IsMounted};
 ghost use Rattle.nbd_core.specs.Damages.{SaysTrue};
 ghost use Rattle.nbd_core.specs.Found.{FindsBytes, FindsSame, ReadsFound};
 ghost use Rattle.nbd_core.specs.Halts.{Blames};
+ghost use Rattle.nbd_core.specs.Meets.{HasMet};
+ghost use Rattle.nbd_core.specs.Reads.{reads_at};
 ghost use Rattle.nbd_terms.specs.Turn.{Reads};
 ghost use Rattle.session_calls.specs.Calling.{Calls};
 ghost use Rattle.nbd_core.specs.Serving.{IsWithin, bytes_of_reply};
@@ -33,8 +35,9 @@ pub(crate) fn read<P: Platform>(
 ) -> Result<Outcome, Halt>
     requires open { IsOpen session.old (P.head platform.old) }
     requires within { IsWithin request.now (blocks_of session.old) }
-    ensures along { (drawn : Drawn) → Along P.Platform 0 platform.old platform.new drawn drawn
-        session.old session.new }
+    ensures along { (drawn : Drawn) → Along P.Platform 0
+        (reads_at RequestKind.Read request.now.offset request.now.length)
+        platform.old platform.new drawn drawn session.old session.new }
     ensures blame { (rest : Counts)
         → Blames (record rest { platform = P.faults platform.old })
         (record rest { platform = P.faults platform.new }) result }
@@ -49,7 +52,8 @@ pub(crate) fn read<P: Platform>(
     ensures damage { P.tells → IsMounted (P.history platform.old).present session.old
         → FindsSame (P.history platform.old).present (P.history platform.new).present
         session.old session.new
-        × IfOk result (SaysTrue (P.history platform.new).present
+        × IfOk result (SaysTrue (HasMet RequestKind.Read (P.history platform.new).present
+        request.now.offset request.now.length)
         (FindsBytes (P.history platform.old).present session.old request.now.offset
         (bytes_of_reply RequestKind.Read request.now.length Outcome.Done reply.new.items))
         (FindsSame (P.history platform.old).present (P.history platform.new).present
@@ -84,7 +88,8 @@ fn read_range<P: Platform>(
 ) -> Result<(), DeviceStop>
     requires open { IsOpen session.old (P.head platform.old) }
     requires within { at + length out.old ≤ 4096 * blocks_of session.old }
-    ensures calls { (drawn : Drawn) → Calls P.Platform 0 platform.old platform.new drawn drawn
+    ensures calls { (drawn : Drawn) → Calls P.Platform 0
+        (reads_at RequestKind.Read at (length out.old)) platform.old platform.new drawn drawn
         session.old session.new result }
     ensures size { length out.new ≡ length out.old }
     ensures reads { P.tells → (device : Device) (array : OpenSession)
@@ -119,7 +124,7 @@ fn read_part<P: Platform>(
     requires size { length out.old ≡ part.count }
     requires open { IsOpen session.old (P.head platform.old) }
     requires within { part.block < blocks_of session.old }
-    ensures calls { (drawn : Drawn) → Calls P.Platform 0 platform.old platform.new drawn drawn
+    ensures calls { (drawn : Drawn) → Calls P.Platform 0 21 platform.old platform.new drawn drawn
         session.old session.new result }
     ensures size { length out.new ≡ length out.old }
     ensures reads { P.tells → (device : Device) (array : OpenSession)

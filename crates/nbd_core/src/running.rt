@@ -46,7 +46,7 @@ pub(crate) fn run<P: Platform, T: Tape, I: Source, O: Sink, L: Sink>(
     ensures looked { Looked P.tells (P.history platform.old).present
         (Untouched P.tells tape.old tape.new input.old input.new output.old output.new ledger.old ledger.new
         (P.head platform.old) (P.head platform.new) (P.history platform.old) (P.history platform.new)) result }
-    ensures talks { Talks P.tells
+    ensures talks { Talks P.tells 2
         (around P.Platform T.Tape L.Sink platform.old tape.old ledger.old)
         (around P.Platform T.Tape L.Sink platform.new tape.new ledger.new)
         (I.left input.old) (I.left input.new) (O.written output.old) (O.written output.new) result }
@@ -89,7 +89,7 @@ fn serve_device<P: Platform, T: Tape, I: Source, O: Sink, L: Sink>(
         (counts_of P.Platform T.Tape I.Source O.Sink L.Sink platform.new tape.new input.new output.new ledger.new)
         result }
     ensures halts { P.tells → IfErr result IsLate }
-    ensures talks { Talks P.tells
+    ensures talks { Talks P.tells 1
         (around P.Platform T.Tape L.Sink platform.old tape.old ledger.old)
         (around P.Platform T.Tape L.Sink platform.new tape.new ledger.new)
         (I.left input.old) (I.left input.new) (O.written output.old) (O.written output.new) result }
@@ -138,7 +138,7 @@ fn serve_client<P: Platform, T: Tape, I: Source, O: Sink, L: Sink>(
     ensures halts { IfErr result IsLate }
     ensures says { Says
         (IsFrom P.tells (around P.Platform T.Tape L.Sink platform.old tape.old ledger.old) session)
-        P.tells
+        P.tells 0
         (around P.Platform T.Tape L.Sink platform.old tape.old ledger.old)
         (around P.Platform T.Tape L.Sink platform.new tape.new ledger.new)
         (4096 * blocks_of session) (I.left input.old) (I.left input.new)

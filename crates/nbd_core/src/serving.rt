@@ -4,6 +4,7 @@ ghost use Rattle.nbd_core.specs.Ample.{blocks_of_range, unless_refused};
 ghost use Rattle.nbd_core.specs.Damages.{AnswersTrue, PerformsTrue, SaysTrue};
 ghost use Rattle.nbd_core.specs.Found.{FindsSame};
 ghost use Rattle.nbd_core.specs.Near.{left_by, needed_at, needed_for};
+ghost use Rattle.nbd_core.specs.Reads.{reads_at, reads_for};
 ghost use Rattle.nbd_core.specs.Short.{FlushSpends, Spends};
 ghost use Rattle.nbd_core.specs.Stops.{TellsPut};
 ghost use Rattle.sdbt_base.specs.Told.{Got, GotPart};
@@ -19,7 +20,7 @@ ghost use Rattle.nbd_terms.specs.Turn.{Answers};
 ghost use Rattle.nbd_core.specs.Halts.{Blames, commit_outcome};
 ghost use Rattle.nbd_core.specs.Requests.{DataCame, DataEnd, HeadCame};
 ghost use Rattle.nbd_core.specs.Served.{Answered, EndsByDisconnect, Served};
-ghost use Rattle.nbd_core.specs.Turns.{ComesTo, Finishes, Flushed, IsByHead, IsFrom, LeadsOn, MayCome, MayHalt, Performs};
+ghost use Rattle.nbd_core.specs.Turns.{EndsByHead, Finishes, Flushed, IsByHead, IsFrom, LeadsOn, MayCome, Performs};
 ghost use Rattle.session_calls.specs.Blame.{counts_of};
 ghost use Rattle.session_calls.specs.Carrying.{Carries, IsReady};
 ghost use Rattle.nbd_core.specs.Serving.{goes_on, performed, bytes_of_reply};
@@ -88,7 +89,7 @@ pub(crate) fn serve<P: Platform, T: Tape, I: Source, O: Sink, L: Sink>(
         result }
     ensures served { Served
         (IsFrom P.tells (around P.Platform T.Tape L.Sink platform.old tape.old ledger.old) first)
-        P.tells
+        P.tells 0
         (around P.Platform T.Tape L.Sink platform.old tape.old ledger.old)
         (around P.Platform T.Tape L.Sink platform.new tape.new ledger.new)
         (4096 * blocks_of first) (I.left input.old) (I.left input.new)
@@ -223,8 +224,8 @@ fn perform<P: Platform, T: Tape, I: Source, L: Sink>(
         (record { head = request.now; bytes = gone }) desk.new.reply.items result) result }
     ensures room { IfOk result (λ done. request.now.kind ≡ RequestKind.Read → done.outcome ≡ Outcome.Done
         → 16 + request.now.length ≤ length desk.new.reply.items) }
-    ensures comes { IfOk result (λ done. ComesTo request.now.kind (refusal (4096 * blocks_of first) request.now) done.outcome) }
-    ensures halted { IfErr result (MayHalt request.now.kind (refusal (4096 * blocks_of first) request.now)) }
+    ensures ends { EndsByHead request.now.kind (refusal (4096 * blocks_of first) request.now) result }
+    ensures reads { P.tells → P.reads platform.new ≤ P.reads platform.old + reads_for (4096 * blocks_of first) request.now }
     ensures adds { (n : ℕ) → needed_by first ≤ 41 * n → IfErr result
         (λ halt. P.head platform.new ≤ P.head platform.old
         + left_by halt (needed_for (4096 * blocks_of first) request.now n)) }
@@ -275,6 +276,7 @@ fn serve_blocks<P: Platform, T: Tape, I: Source>(
     requires kind { (request.now.kind ≢ RequestKind.Disconnect) × (refused ≡ None → request.now.kind ≢ RequestKind.Flush) }
     ensures along { Along P.Platform
         (unless_refused refused (blocks_of_range request.now.kind request.now.offset request.now.length))
+        (unless_refused refused (reads_at request.now.kind request.now.offset request.now.length))
         platform.old platform.new (drawn_by T.Tape tape.old) (drawn_by T.Tape tape.new)
         session.old session.new }
     ensures blame { (rest : Counts)
@@ -346,11 +348,11 @@ fn flush<P: Platform, T: Tape, L: Sink>(
     ensures flushes { Flushed P.tells
         (around P.Platform T.Tape L.Sink platform.old tape.old ledger.old)
         (around P.Platform T.Tape L.Sink platform.new tape.new ledger.new) session result }
-    ensures says { IfOk result (λ done. SaysTrue (P.history platform.new).present
-        (needed_by done.session ≡ 0)
+    ensures says { IfOk result (λ done. SaysTrue ⊥ (needed_by done.session ≡ 0)
         (FindsSame (P.history platform.old).present (P.history platform.new).present
         session done.session) done.outcome) }
     ensures comes { IfOk result (λ done. MayCome RequestKind.Flush done.outcome) }
+    ensures reads { P.tells → P.reads platform.new ≡ P.reads platform.old }
     ensures adds { IfErr result (λ halt. P.head platform.new ≤ P.head platform.old
         + left_by halt (needed_by session)) }
     ensures spends { IfOk result (λ done. FlushSpends (needed_by session)
@@ -392,6 +394,7 @@ fn finish<P: Platform, T: Tape, L: Sink>(
         → Blames (record rest { platform = P.faults platform.old; tape = T.faults tape.old; ledger = L.faults ledger.old })
         (record rest { platform = P.faults platform.new; tape = T.faults tape.new; ledger = L.faults ledger.new }) result }
     ensures ends { EndsByDisconnect result }
+    ensures reads { P.tells → P.reads platform.new ≡ P.reads platform.old }
     ensures short { result ≡ Err Halt.Unfinished
         → P.capacity platform.new - P.head platform.new < needed_by session }
     ensures adds { IfErr result (λ halt. P.head platform.new ≤ P.head platform.old

@@ -9,6 +9,8 @@ ghost use Rattle.session_calls.specs.Damage.{IsMounted};
 ghost use Rattle.nbd_core.specs.Damages.{SaysTrue};
 ghost use Rattle.nbd_core.specs.Found.{FindsSame, HasTrimmed};
 ghost use Rattle.nbd_core.specs.Halts.{Blames};
+ghost use Rattle.nbd_core.specs.Meets.{HasMet};
+ghost use Rattle.nbd_core.specs.Reads.{reads_at};
 ghost use Rattle.nbd_core.specs.Serving.{IsWithin};
 ghost use Rattle.nbd_core.specs.Turns.{LeadsOn, MayCome};
 
@@ -29,6 +31,7 @@ pub(crate) fn trim<P: Platform>(
     requires within { IsWithin request.now (blocks_of session.old) }
     ensures along { (drawn : Drawn) → Along P.Platform
         (length (covered_blocks request.now.offset request.now.length))
+        (reads_at RequestKind.Trim request.now.offset request.now.length)
         platform.old platform.new drawn drawn session.old session.new }
     ensures blame { (rest : Counts)
         → Blames (record rest { platform = P.faults platform.old })
@@ -41,7 +44,8 @@ pub(crate) fn trim<P: Platform>(
         (covered_blocks request.now.offset request.now.length) outcome next) result }
     // On any pages: look-ups find the blocks no more, or there is damage.
     ensures damage { P.tells → IsMounted (P.history platform.old).present session.old
-        → IfOk result (SaysTrue (P.history platform.new).present
+        → IfOk result (SaysTrue (HasMet RequestKind.Trim (P.history platform.new).present
+        request.now.offset request.now.length)
         (HasTrimmed (P.history platform.old).present (P.history platform.new).present
         session.old session.new (covered_blocks request.now.offset request.now.length))
         (FindsSame (P.history platform.old).present (P.history platform.new).present

@@ -15,6 +15,7 @@ ghost use Rattle.nbd_core.specs.Found.{WritesFound};
 ghost use Rattle.nbd_core.specs.Halts.{Blames, outcome_after};
 ghost use Rattle.session_calls.specs.Calling.{Calls};
 ghost use Rattle.nbd_core.specs.Serving.{IsWithin};
+ghost use Rattle.nbd_core.specs.Reads.{reads_at};
 ghost use Rattle.nbd_core.specs.Requests.{DataCame};
 ghost use Rattle.nbd_core.specs.Turns.{EndsAs, LeadsOn, MayHalt};
 
@@ -41,7 +42,8 @@ pub(crate) fn write<P: Platform, T: Tape, I: Source>(
     requires open { IsOpen session.old (P.head platform.old) }
     requires within { IsWithin request.now (blocks_of session.old) }
     ensures along { Along P.Platform
-        (length (touched_blocks request.now.offset request.now.length)) platform.old platform.new
+        (length (touched_blocks request.now.offset request.now.length))
+        (reads_at RequestKind.Write request.now.offset request.now.length) platform.old platform.new
         (drawn_by T.Tape tape.old) (drawn_by T.Tape tape.new) session.old session.new }
     ensures blame { (rest : Counts)
         → Blames (record rest { platform = P.faults platform.old; tape = T.faults tape.old; input = I.faults input.old })
@@ -53,7 +55,7 @@ pub(crate) fn write<P: Platform, T: Tape, I: Source>(
         request.now.offset gone (touched_blocks request.now.offset request.now.length)
         outcome next) result
         × WritesTrue P.Platform platform.old platform.new session.old session.new
-        request.now.offset gone result) result }
+        request.now.offset request.now.length gone result) result }
     ensures ends { EndsAs RequestKind.Write result }
     ensures short { IfOk result (λ outcome. outcome ≡ Outcome.NoSpace
         → P.capacity platform.new - P.head platform.new
@@ -92,7 +94,8 @@ fn write_range<P: Platform, T: Tape, I: Source>(
     requires within { at + count ≤ 4096 * blocks_of session.old }
     requires free { P.head platform.old + length (touched_blocks at count)
         ≤ P.capacity platform.old }
-    ensures along { Along P.Platform (length (touched_blocks at count)) platform.old platform.new
+    ensures along { Along P.Platform (length (touched_blocks at count))
+        (reads_at RequestKind.Write at count) platform.old platform.new
         (drawn_by T.Tape tape.old) (drawn_by T.Tape tape.new) session.old session.new }
     ensures blame { (rest : Counts)
         → Blames (record rest { platform = P.faults platform.old; tape = T.faults tape.old; input = I.faults input.old })
@@ -103,8 +106,8 @@ fn write_range<P: Platform, T: Tape, I: Source>(
         → IfOk result (WroteRange (P.history platform.new).present (P.head platform.old)
         (P.head platform.new) (needed_by session.old) session.new device array at gone
         (touched_blocks at count)))
-        × WritesTrue P.Platform platform.old platform.new session.old session.new at gone
-        result) result }
+        × WritesTrue P.Platform platform.old platform.new session.old session.new at count
+        gone result) result }
     ensures ends { EndsAs RequestKind.Write result }
     ensures room { IfOk result (λ outcome. outcome ≢ Outcome.NoSpace) }
 {
@@ -187,8 +190,10 @@ fn write_part<P: Platform, T: Tape>(
     requires open { IsOpen session.old (P.head platform.old) }
     requires within { part.block < blocks_of session.old }
     requires free { P.head platform.old ≢ P.capacity platform.old }
-    ensures calls { Calls P.Platform 1 platform.old platform.new (drawn_by T.Tape tape.old)
-        (drawn_by T.Tape tape.new) session.old session.new result }
+    ensures calls { Calls P.Platform 1
+        (reads_at RequestKind.Write (4096 * part.block + part.start) part.count)
+        platform.old platform.new (drawn_by T.Tape tape.old) (drawn_by T.Tape tape.new)
+        session.old session.new result }
     ensures writes { P.tells → (device : Device) (array : OpenSession)
         → IsAt (P.history platform.old).present (Some session.old) (mounted device array)
         → WritesPart (P.history platform.new).present session.new device array

@@ -54,7 +54,7 @@ returns-in-Ok-clause-serves g c none = record {
   status_is = refl;
   no_device = λ told is. absurd cc;
   talks = c.in-Ok.ensures.talks;
-  complete = completes _ _ _ _ _ _ _ _ _ _ _ c.in-Ok.ensures.talks refl c.in-Ok.ensures.blame c.in-Ok.ensures.looked;
+  complete = completes _ _ _ _ _ _ _ _ _ _ _ _ c.in-Ok.ensures.talks refl c.in-Ok.ensures.blame c.in-Ok.ensures.looked;
 }
 
 pub returns-in-Err-clause-serves : goal.returns-in-Err-clause-serves
@@ -63,7 +63,7 @@ returns-in-Err-clause-serves g c none = record {
   status_is = c.status.ensures;
   no_device = c.in-Err.ensures.looked.empty_only;
   talks = c.in-Err.ensures.talks;
-  complete = completes _ _ _ _ _ _ _ _ _ _ _ c.in-Err.ensures.talks c.status.ensures c.in-Err.ensures.blame c.in-Err.ensures.looked;
+  complete = completes _ _ _ _ _ _ _ _ _ _ _ _ c.in-Err.ensures.talks c.status.ensures c.in-Err.ensures.blame c.in-Err.ensures.looked;
 }
 
 pub returns-in-Ok-clause-exits : goal.returns-in-Ok-clause-exits
@@ -72,7 +72,7 @@ returns-in-Ok-clause-exits g c = record {
   refused = (λ two. absurd (omega (arith, two)), λ other. absurd (other (no_words string_bytes c.args.words.now (eqb-true _ _ (sym c.if-not-is_empty.ensures)))));
   blame = blamed_none _ _ c.in-Ok.ensures.blame;
   taken =
-      let took = talks_taken _ _ _ _ _ _ _ _ c.in-Ok.ensures.talks in
+      let took = talks_taken _ _ _ _ _ _ _ _ _ c.in-Ok.ensures.talks in
       (took.bytes, took.gave, record { most = took.most; limit = λ twelve. absurd (omega (arith, twelve)); nothing = λ two. absurd (omega (arith, two)) });
 }
 
@@ -90,7 +90,7 @@ returns-in-Err-clause-exits g c = record {
       let now = counts_of P T I O L c.run.new.platform c.run.new.tape c.run.new.input c.run.new.output c.run.new.ledger in
       subst (λ (n : ℕ). IsBlamedAt n before now) (sym c.status.ensures) (blamed before now c.in-Err.halt c.in-Err.ensures.blame);
   taken =
-      let took = talks_taken _ _ _ _ _ _ _ _ c.in-Err.ensures.talks in (
+      let took = talks_taken _ _ _ _ _ _ _ _ _ c.in-Err.ensures.talks in (
         took.bytes,
         took.gave,
         record {

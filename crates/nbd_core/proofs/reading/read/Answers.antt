@@ -1,23 +1,30 @@
-use Rattle.std.proofs.Common.{◌≡◌, ◌≤◌, ◌+◌, ◌∙◌, ℕ, List, ap, arith, length, length-take, refl, take}
+use Rattle.std.proofs.Common.{◌≡◌, ◌≤◌, ◌+◌, ◌∙◌, ℕ, List, ap, arith, length, length-take, refl, sym, take}
 use Rattle.byte_arrays.specs.Arrays.{bytes_at}
 use Rattle.nbd_terms.specs.Bytes.{array_of}
 use Rattle.nbd_lang.specs.declared.requests.RequestKind.TheVariants.{Read}
 use Rattle.session_calls.proofs.AlongLaws.{along_start}
-use Rattle.session_calls.proofs.CallLaws.{draws_none, no_draw, platform_quiet}
+use Rattle.session_calls.proofs.CallLaws.{along_more, draws_none, no_draw, platform_quiet}
 use Rattle.nbd_core.proofs.BlameLaws.{blame_done, blame_platform, platform_halts, stop_comes}
 use Rattle.nbd_core.proofs.DamageLaws.{stop_after}
 use Rattle.nbd_core.proofs.FoundLaws.{bytes_as, same_start}
+use Rattle.nbd_core.specs.Reads.{reads_at}
 use Rattle.nbd_core.proofs.TurnLaws.{held_still, read_halted, read_room}
 use Rattle.nbd_core.proofs.reading.read.Goals as goal
 
 pub returns-then-not-has_room-clause-along : goal.returns-then-not-has_room-clause-along
-returns-then-not-has_room-clause-along g c drawn = along_start g.P.Platform _ drawn _ c.requires.open
+returns-then-not-has_room-clause-along g c drawn = along_more g.P.Platform 0 0 0 _ _ _ drawn drawn _ _ (omega arith) (omega arith) (along_start g.P.Platform _ drawn _ c.requires.open)
 
 pub returns-in-Ok-clause-along : goal.returns-in-Ok-clause-along
-returns-in-Ok-clause-along g c drawn = (c.in-Ok.ensures.calls drawn).along
+returns-in-Ok-clause-along g c drawn =
+    let size : length c.read_range.new.out ≡ c.args.request.now.length = omega (arith, c.in-Ok.ensures.size) in
+    let same = ap (λ (n : ℕ). reads_at Read c.args.request.now.offset n) (sym c.in-Ok.ensures.size ∙ size) in
+    along_more g.P.Platform 0 0 _ _ _ _ drawn drawn _ _ (omega arith) (omega (arith, same)) (c.in-Ok.ensures.calls drawn).along
 
 pub returns-in-Err-clause-along : goal.returns-in-Err-clause-along
-returns-in-Err-clause-along g c drawn = (c.in-Err.ensures.calls drawn).along
+returns-in-Err-clause-along g c drawn =
+    let size : length c.read_range.new.out ≡ c.args.request.now.length = omega (arith, c.in-Err.ensures.size) in
+    let same = ap (λ (n : ℕ). reads_at Read c.args.request.now.offset n) (sym c.in-Err.ensures.size ∙ size) in
+    along_more g.P.Platform 0 0 _ _ _ _ drawn drawn _ _ (omega arith) (omega (arith, same)) (c.in-Err.ensures.calls drawn).along
 
 pub returns-then-not-has_room-clause-blame : goal.returns-then-not-has_room-clause-blame
 returns-then-not-has_room-clause-blame g c rest = blame_done _ _ _ refl

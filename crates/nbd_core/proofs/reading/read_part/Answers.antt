@@ -4,19 +4,19 @@ use Rattle.byte_arrays.specs.Arrays.{bytes_at}
 use Rattle.nbd_terms.specs.Bytes.{array_of}
 use Rattle.byte_arrays.proofs.ArrayLaws.{length-bytes_at}
 use Rattle.nbd_core.proofs.ArrayLaws.{reads_stopped, reads_whole}
-use Rattle.session_calls.proofs.CallLaws.{calls_of, no_draw}
-use Rattle.session_calls.proofs.DamageLaws.{read_meets}
+use Rattle.session_calls.proofs.CallLaws.{calls_more, calls_of, no_draw}
+use Rattle.nbd_core.proofs.MeetLaws.{read_stops}
 use Rattle.nbd_core.proofs.FoundLaws.{finds_all, finds_part, reads_part, same_of_call}
 use Rattle.nbd_core.proofs.reading.read_part.Goals as goal
 
 pub returns-then-is_whole-clause-calls : goal.returns-then-is_whole-clause-calls
-returns-then-is_whole-clause-calls g c drawn = calls_of g.P.Platform 0 _ _ drawn drawn _ _ _ (c.read_block.ensures.goes drawn)
+returns-then-is_whole-clause-calls g c drawn = calls_more g.P.Platform 0 0 _ 21 _ _ drawn drawn _ _ _ (omega arith) (omega (arith, c.requires.open.level)) (calls_of g.P.Platform 0 _ _ _ drawn drawn _ _ _ (c.read_block.ensures.goes drawn))
 
 pub returns-in-Err-clause-calls : goal.returns-in-Err-clause-calls
-returns-in-Err-clause-calls g c drawn = calls_of g.P.Platform 0 _ _ drawn drawn _ _ _ (c.in-Err.ensures.goes drawn)
+returns-in-Err-clause-calls g c drawn = calls_more g.P.Platform 0 0 _ 21 _ _ drawn drawn _ _ _ (omega arith) (omega (arith, c.requires.open.level)) (calls_of g.P.Platform 0 _ _ _ drawn drawn _ _ _ (c.in-Err.ensures.goes drawn))
 
 pub returns-clause-calls : goal.returns-clause-calls
-returns-clause-calls g c drawn = calls_of g.P.Platform 0 _ _ drawn drawn _ _ _ (c.in-Ok.ensures.goes drawn)
+returns-clause-calls g c drawn = calls_more g.P.Platform 0 0 _ 21 _ _ drawn drawn _ _ _ (omega arith) (omega (arith, c.requires.open.level)) (calls_of g.P.Platform 0 _ _ _ drawn drawn _ _ _ (c.in-Ok.ensures.goes drawn))
 
 pub copy_from_slice-requires : goal.copy_from_slice-requires
 copy_from_slice-requires g c = c.requires.size ∙ sym (length-bytes_at _ _ c.args.part.count) ∙ ap length (sym (c.bytes_of.ensures (λ n. c.read_block-2.new.out) refl))
@@ -41,7 +41,7 @@ returns-then-is_whole-clause-damage g c told mounted =
     let call = c.read_block.ensures in
     reads_part _ (g.P.Platform.history c.args.platform.now).present (g.P.Platform.history c.read_block.new.platform).present c.args.session.now c.read_block.new.session
     c.args.part.block (4096 * c.args.part.block + c.args.part.start) c.read_block.new.out c.read_block.new.out c.read_block.result call.any (told, mounted)
-    (same_of_call g.P.Platform _ _ no_draw no_draw _ _ (counts c.args.platform.now) (counts c.read_block.new.platform) told (call.goes no_draw).along call.same.1)
+    (same_of_call g.P.Platform _ _ _ no_draw no_draw _ _ (counts c.args.platform.now) (counts c.read_block.new.platform) told (call.goes no_draw).along call.same.1)
     (λ finds. finds_all _ _ c.args.part.block c.args.part.start _ finds (c.read_block.auto.out ∙ c.requires.size ∙ c.if-is_whole.ensures.0 refl) (omega (arith, c.args.part.inside, c.if-is_whole.ensures.0 refl)))
 
 pub returns-in-Err-clause-damage : goal.returns-in-Err-clause-damage
@@ -49,9 +49,9 @@ returns-in-Err-clause-damage g c told mounted =
     let counts = g.met.P.Platform.counts_pages told in
     let call = c.in-Err.ensures in
     record {
-      same = same_of_call g.P.Platform _ _ no_draw no_draw _ _ (counts c.args.platform.now) (counts c.read_block-2.new.platform) told (call.goes no_draw).along call.same.1;
+      same = same_of_call g.P.Platform _ _ _ no_draw no_draw _ _ (counts c.args.platform.now) (counts c.read_block-2.new.platform) told (call.goes no_draw).along call.same.1;
       found = tt;
-      met = read_meets _ (g.P.Platform.history c.args.platform.now).present (g.P.Platform.history c.read_block-2.new.platform).present
+      met = read_stops _ (g.P.Platform.history c.args.platform.now).present (g.P.Platform.history c.read_block-2.new.platform).present
           c.args.session.now c.args.part.block c.read_block-2.new.out (Err c.in-Err.stop) call.any (told, mounted);
     }
 
@@ -61,7 +61,7 @@ returns-clause-damage g c told mounted =
     let call = c.in-Ok.ensures in
     let part = c.args.part in
     record {
-      same = same_of_call g.P.Platform _ _ no_draw no_draw _ _ (counts c.args.platform.now) (counts c.read_block-2.new.platform) told (call.goes no_draw).along call.same.1;
+      same = same_of_call g.P.Platform _ _ _ no_draw no_draw _ _ (counts c.args.platform.now) (counts c.read_block-2.new.platform) told (call.goes no_draw).along call.same.1;
       found = finds_part _ _ part.block part.start part.count c.read_block-2.new.out _ (call.any (told, mounted)) (omega arith) part.inside
           (c.copy_from_slice.ensures.after ∙ c.bytes_of.ensures (λ n. c.read_block-2.new.out) refl);
       met = tt;

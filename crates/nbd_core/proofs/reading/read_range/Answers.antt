@@ -1,4 +1,4 @@
-use Rattle.std.proofs.Common.{List, [], ap, arith, inl, length, refl, sym, subst, ℕ, ◌*◌, ◌+◌, ◌∙◌, ◌≡◌}
+use Rattle.std.proofs.Common.{List, [], ap, arith, inl, inr, length, refl, sym, subst, ℕ, ◌*◌, ◌+◌, ◌∙◌, ◌≡◌}
 use Rattle.std.proofs.lemmas.List.{take_all}
 use Rattle.std.proofs.lemmas.Slice.{take-put_mid}
 use Rattle.byte_arrays.specs.Arrays.{bytes_at}
@@ -6,7 +6,8 @@ use Rattle.nbd_terms.specs.Bytes.{array_of}
 use Rattle.session_calls.proofs.AlongLaws.{along_start, along_then}
 use Rattle.nbd_core.proofs.ArrayLaws.{range_stopped, read_more}
 use Rattle.sdbt_base.specs.Counts.{counts}
-use Rattle.session_calls.proofs.CallLaws.{calls_then, no_draw, platform_quiet}
+use Rattle.nbd_core.proofs.ReadLaws.{touched_more, touched_most}
+use Rattle.session_calls.proofs.CallLaws.{along_more, calls_more, calls_then, no_draw, platform_quiet}
 use Rattle.nbd_core.specs.Found.{FindsBytes}
 use Rattle.nbd_core.proofs.FoundLaws.{finds_nothing, read_then, same_start, same_then}
 use Rattle.nbd_core.proofs.reading.read_range.Goals as goal
@@ -15,6 +16,7 @@ pub loop-done-init : goal.loop-done-init
 loop-done-init g c = record {
   along = λ drawn. along_start g.P.Platform _ drawn _ c.requires.open;
   within = omega arith;
+  front = λ more. inl refl;
   quiet = refl;
   reads = λ told device array at. (at, refl);
   found = λ told mounted. record { same = same_start _ _; found = finds_nothing _ _ c.args.at; met = tt };
@@ -52,7 +54,13 @@ loop-done-preserved g c = record {
       let size : length piece ≡ k = omega (arith, c.in-Ok.ensures.size, part.within) in
       read_then _ _ _ _ _ _ c.args.at c.loop-done.done k (4096 * c.first-part.result.block + c.first-part.result.start) out piece _ before here (omega (arith, part.at)) c.loop-done.invariant.within
       (take-put_mid c.loop-done.done _ out piece (c.loop-done.done + k) (omega (arith, size)) c.loop-done.invariant.within);
-  along = λ drawn. along_then g.P.Platform 0 0 _ _ _ drawn drawn drawn _ _ _ (c.loop-done.invariant.along drawn) (c.in-Ok.ensures.calls drawn).along;
+  along = λ drawn.
+      let part = c.first-part.ensures c.args.at c.loop-done.done refl (c.loop-done.invariant.front c.loop-done-test.true) in
+      along_more g.P.Platform 0 0 _ _ _ _ drawn drawn _ _ (omega arith) (omega (arith, touched_more _ _ _ _ _ _ part))
+      (along_then g.P.Platform 0 0 _ 21 _ _ _ drawn drawn drawn _ _ _ (c.loop-done.invariant.along drawn) (c.in-Ok.ensures.calls drawn).along);
+  front = λ more.
+      let part = c.first-part.ensures c.args.at c.loop-done.done refl (c.loop-done.invariant.front c.loop-done-test.true) in
+      elim part.back [ inl last ↦ absurd (omega (arith, last, more, c.loop-done.invariant.within)) | inr full ↦ inr (omega (arith, part.at, full)) ];
   quiet = platform_quiet _ _ (c.in-Ok.ensures.calls no_draw).quiet ∙ c.loop-done.invariant.quiet;
   within =
       let part = c.first-part.ensures (c.args.at + c.loop-done.done) 0 (omega arith) (inl refl) in
@@ -60,10 +68,16 @@ loop-done-preserved g c = record {
 }
 
 pub returns-in-Err-clause-calls : goal.returns-in-Err-clause-calls
-returns-in-Err-clause-calls g c drawn = calls_then g.P.Platform 0 0 _ _ _ drawn drawn drawn _ _ _ _ (c.loop-done.invariant.along drawn) c.loop-done.invariant.quiet refl (c.in-Err.ensures.calls drawn)
+returns-in-Err-clause-calls g c drawn =
+    let part = c.first-part.ensures c.args.at c.loop-done.done refl (c.loop-done.invariant.front c.loop-done-test.true) in
+    let few = touched_most c.args.at (c.loop-done.done + c.first-part.result.count) (length c.args.out.now) (omega (arith, part.within, c.loop-done.invariant.within)) in
+    calls_more g.P.Platform 0 0 _ _ _ _ drawn drawn _ _ _ (omega arith) (omega (arith, touched_more _ _ _ _ _ _ part, few))
+    (calls_then g.P.Platform 0 0 _ 21 _ _ _ drawn drawn drawn _ _ _ _ (c.loop-done.invariant.along drawn) c.loop-done.invariant.quiet refl (c.in-Err.ensures.calls drawn))
 
 pub returns-clause-calls : goal.returns-clause-calls
-returns-clause-calls g c drawn = record { along = c.loop-done.invariant.along drawn; stops = tt; quiet = ap (λ (n : ℕ). counts n drawn.faults 0 0 0) c.loop-done.invariant.quiet; cause = tt }
+returns-clause-calls g c drawn =
+    let few = touched_most c.args.at c.loop-done.done (length c.args.out.now) (omega (arith, c.loop-done.invariant.within)) in
+    record { along = along_more g.P.Platform 0 0 _ _ _ _ drawn drawn _ _ (omega arith) (omega (arith, few)) (c.loop-done.invariant.along drawn); stops = tt; quiet = ap (λ (n : ℕ). counts n drawn.faults 0 0 0) c.loop-done.invariant.quiet; cause = tt }
 
 pub slice_bounds-place-end : goal.slice_bounds-place-end
 slice_bounds-place-end g c =

@@ -1,4 +1,4 @@
-use Rattle.std.proofs.Common.{inl, refl}
+use Rattle.std.proofs.Common.{arith, inl, refl}
 use Rattle.device_terms.proofs.MomentLaws.{one_look}
 use Rattle.nbd_core.proofs.SpanLaws.{early_look, silent_look, spans_looked, talks_looked}
 use Rattle.session_calls.proofs.SpanLaws.{spans_look}
@@ -22,14 +22,14 @@ returns-clause-spans g c =
 pub returns-clause-talks : goal.returns-clause-talks
 returns-clause-talks g c =
     let e = c.check_cell.ensures.reads_cell in
-    talks_looked _ _ _ _ _ _ _ _ _ e.head e.capacity e.image (λ told. one_look _ _ (e.time told) (e.image told)) c.serve_device.ensures.talks
+    talks_looked _ 1 _ _ _ _ _ _ _ _ e.head e.capacity (λ told. (e.reads told).by_one) e.image (λ told. one_look _ _ (e.time told) (e.image told)) c.serve_device.ensures.talks
 
 pub returns-in-Ok-None-clause-talks : goal.returns-in-Ok-None-clause-talks
 returns-in-Ok-None-clause-talks g c =
     let e = c.check_cell.ensures.reads_cell in
-    inl (silent_look _ _ _ _ _ _ tt e.head (λ told. one_look _ _ (e.time told) (e.image told)))
+    inl (silent_look _ _ _ _ _ _ _ tt e.head (λ told. omega (arith, (e.reads told).by_one)) (λ told. one_look _ _ (e.time told) (e.image told)))
 
 pub returns-in-Err-clause-talks : goal.returns-in-Err-clause-talks
 returns-in-Err-clause-talks g c =
     let e = c.check_cell.ensures.reads_cell in
-    inl (silent_look _ _ _ _ _ _ (early_look c.in-Err.stop _ c.in-Err.ensures.stops c.after_look.ensures) e.head (λ told. one_look _ _ (e.time told) (e.image told)))
+    inl (silent_look _ _ _ _ _ _ _ (early_look c.in-Err.stop _ c.in-Err.ensures.stops c.after_look.ensures) e.head (λ told. omega (arith, (e.reads told).by_one)) (λ told. one_look _ _ (e.time told) (e.image told)))

@@ -25,13 +25,14 @@ returns-in-Ok-put_reply-clause-answered g c =
       ends = (
         came.whole,
         record { outcome = outcome; cookie = request.cookie; bytes = bytes_of_reply request.kind request.length outcome room },
-        is_reply _ request outcome room c.in-Ok.ensures.comes c.in-Ok.ensures.room,
+        is_reply _ request outcome room c.in-Ok.ensures.ends c.in-Ok.ensures.room,
         c.in-Ok-put_reply.ensures.put,
         came.did.0,
         came.did.1,
         c.in-Ok.ensures.spends,
       );
       limit = tt;
+      reads = c.in-Ok.ensures.reads;
     }
 
 pub returns-in-Err-put_reply-clause-carries : goal.returns-in-Err-put_reply-clause-carries
@@ -56,9 +57,10 @@ returns-in-Err-put_reply-clause-answered g c =
       came = came.came;
       ends =
           answer_cut _ _ _ _ _ request _ came.gone _ _ _ c.in-Err-put_reply.stop (record { outcome = outcome; cookie = request.cookie; bytes = bytes_of_reply request.kind request.length outcome room }) c.in-Err-put_reply.ensures.cause.0 came.whole
-          (is_reply _ request outcome room c.in-Ok.ensures.comes c.in-Ok.ensures.room) c.in-Err-put_reply.ensures.part
+          (is_reply _ request outcome room c.in-Ok.ensures.ends c.in-Ok.ensures.room) c.in-Err-put_reply.ensures.part
           (λ told entry held. turned_last _ _ _ entry _ _ (came.did.0 told entry held)) (λ told. (c.in-Ok.done.session, c.in-Ok.ensures.carries.ready.mounted told, came.did.1 told));
       limit = λ is. absurd (sink_no_limit c.in-Err-put_reply.stop c.in-Err-put_reply.ensures.cause.0 is);
+      reads = c.in-Ok.ensures.reads;
     }
 
 pub returns-in-Err-clause-blame : goal.returns-in-Err-clause-blame
@@ -67,4 +69,4 @@ returns-in-Err-clause-blame g c = blame_as _ _ c.in-Err.halt (c.in-Err.ensures.b
 pub returns-in-Err-clause-answered : goal.returns-in-Err-clause-answered
 returns-in-Err-clause-answered g c =
     let came = c.in-Err.ensures.bytes in
-    record { gone = came.gone; came = came.came; ends = answer_halted _ _ _ _ _ c.args.request.now _ came.gone _ _ c.in-Err.halt came.ends c.in-Err.ensures.halted came.did.0 c.in-Err.ensures.adds; limit = came.limit }
+    record { gone = came.gone; came = came.came; ends = answer_halted _ _ _ _ _ c.args.request.now _ came.gone _ _ c.in-Err.halt came.ends c.in-Err.ensures.ends came.did.0 c.in-Err.ensures.adds; limit = came.limit; reads = c.in-Err.ensures.reads }

@@ -6,9 +6,10 @@ use Rattle.nbd_lang.specs.Refusals.{refusal}
 use Rattle.nbd_lang.specs.declared.replies.Outcome.{Outcome}
 use Rattle.device_session.specs.Sessions.{Session}
 use Rattle.nbd_core.proofs.DataLaws.{data_over, data_went, no_data}
-use Rattle.nbd_core.proofs.BlameLaws.{blame_as, blame_on, flush_comes, flush_may_halt}
+use Rattle.nbd_core.proofs.BlameLaws.{blame_as, blame_on, ends_both, flush_comes, flush_may_halt}
 use Rattle.nbd_core.proofs.DamageLaws.{flush_says}
 use Rattle.nbd_core.proofs.NearLaws.{blocks_add, flush_adds}
+use Rattle.nbd_core.proofs.ReadLaws.{reads_refused}
 use Rattle.nbd_core.proofs.ShortLaws.{blocks_spend, flush_spends}
 use Rattle.nbd_core.proofs.TurnLaws.{blocks_halted, blocks_performed, flush_performed}
 use Rattle.nbd_core.specs.Turns.{ComesTo, MayHalt}
@@ -19,11 +20,11 @@ size_of_session session blocks is = omega (arith, is)
 
 pub returns-in-Ok-clause-carries : goal.returns-in-Ok-clause-carries
 returns-in-Ok-clause-carries g c =
-    carries_going _ _ _ _ _ _ _ (λ going. tt) (carries_along g.P.Platform g.T.Tape g.L.Sink _ _ _ _ _ _ _ _ c.requires.ready c.in-Ok.ensures.along)
+    carries_going _ _ _ _ _ _ _ (λ going. tt) (carries_along g.P.Platform g.T.Tape g.L.Sink _ _ _ _ _ _ _ _ _ c.requires.ready c.in-Ok.ensures.along)
 
 pub returns-in-Err-clause-carries : goal.returns-in-Err-clause-carries
 returns-in-Err-clause-carries g c =
-    carries_end _ _ _ _ _ _ _ (λ never. tt) (carries_along g.P.Platform g.T.Tape g.L.Sink _ _ _ _ _ _ _ _ c.requires.ready c.in-Err.ensures.along)
+    carries_end _ _ _ _ _ _ _ (λ never. tt) (carries_along g.P.Platform g.T.Tape g.L.Sink _ _ _ _ _ _ _ _ _ c.requires.ready c.in-Err.ensures.along)
 
 pub returns-in-Ok-clause-blame : goal.returns-in-Ok-clause-blame
 returns-in-Ok-clause-blame g c rest = blame_on _ _ c.in-Ok.outcome _ (c.in-Ok.ensures.blame (record rest { ledger = g.L.Sink.faults c.args.ledger.now }))
@@ -68,27 +69,34 @@ returns-in-Ok-clause-spends g c n few =
     blocks_spend _ _ n c.args.request.now c.refusal-refused.result c.args.first c.serve_blocks.new.session c.in-Ok.outcome whole few c.in-Ok.ensures.along.needs c.in-Ok.ensures.short
     (λ flush none. let no : false ≡ true = c.if-is_flush.ensures.1 (flush, none) in cc)
 
-pub returns-then-is_flush-clause-halted : goal.returns-then-is_flush-clause-halted
-returns-then-is_flush-clause-halted g c =
+pub returns-then-is_flush-clause-ends : goal.returns-then-is_flush-clause-ends
+returns-then-is_flush-clause-ends g c =
     let both = c.if-is_flush.ensures.0 refl in
-    flush_may_halt c.args.request.now.kind _ c.flush.result both.0
-    (ap (λ (s : ℕ). refusal s c.args.request.now) (size_of_session c.args.first _ c.blocks-2.ensures) ∙ sym c.refusal-refused.ensures ∙ both.1) (c.flush.ensures.halts None [])
+    let whole = ap (λ (s : ℕ). refusal s c.args.request.now) (size_of_session c.args.first _ c.blocks-2.ensures) ∙ sym c.refusal-refused.ensures ∙ both.1 in
+    ends_both c.args.request.now.kind _ c.flush.result (flush_comes c.args.request.now.kind _ c.flush.result both.0 whole c.flush.ensures.comes) (flush_may_halt c.args.request.now.kind _ c.flush.result both.0 whole (c.flush.ensures.halts None []))
 
-pub returns-in-Err-clause-halted : goal.returns-in-Err-clause-halted
-returns-in-Err-clause-halted g c =
+pub returns-in-Ok-clause-ends : goal.returns-in-Ok-clause-ends
+returns-in-Ok-clause-ends g c =
+    let whole = c.refusal-refused.ensures ∙ ap (λ (s : ℕ). refusal s c.args.request.now) (sym (size_of_session c.args.first _ c.blocks-2.ensures)) in
+    subst (λ (r : Option Outcome). ComesTo c.args.request.now.kind r c.in-Ok.outcome) whole c.in-Ok.ensures.ends
+
+pub returns-in-Err-clause-ends : goal.returns-in-Err-clause-ends
+returns-in-Err-clause-ends g c =
     let whole = c.refusal-refused.ensures ∙ ap (λ (s : ℕ). refusal s c.args.request.now) (sym (size_of_session c.args.first _ c.blocks-2.ensures)) in
     subst (λ (r : Option Outcome). MayHalt c.args.request.now.kind r c.in-Err.halt) whole c.in-Err.ensures.ends
 
-pub returns-then-is_flush-clause-comes : goal.returns-then-is_flush-clause-comes
-returns-then-is_flush-clause-comes g c =
-    let both = c.if-is_flush.ensures.0 refl in
-    flush_comes c.args.request.now.kind _ c.flush.result both.0
-    (ap (λ (s : ℕ). refusal s c.args.request.now) (size_of_session c.args.first _ c.blocks-2.ensures) ∙ sym c.refusal-refused.ensures ∙ both.1) c.flush.ensures.comes
+pub returns-then-is_flush-clause-reads : goal.returns-then-is_flush-clause-reads
+returns-then-is_flush-clause-reads g c told = omega (arith, c.flush.ensures.reads told)
 
-pub returns-in-Ok-clause-comes : goal.returns-in-Ok-clause-comes
-returns-in-Ok-clause-comes g c =
+pub returns-in-Ok-clause-reads : goal.returns-in-Ok-clause-reads
+returns-in-Ok-clause-reads g c told =
     let whole = c.refusal-refused.ensures ∙ ap (λ (s : ℕ). refusal s c.args.request.now) (sym (size_of_session c.args.first _ c.blocks-2.ensures)) in
-    subst (λ (r : Option Outcome). ComesTo c.args.request.now.kind r c.in-Ok.outcome) whole c.in-Ok.ensures.ends
+    omega (arith, c.in-Ok.ensures.along.reads told, reads_refused _ c.args.request.now c.refusal-refused.result whole)
+
+pub returns-in-Err-clause-reads : goal.returns-in-Err-clause-reads
+returns-in-Err-clause-reads g c told =
+    let whole = c.refusal-refused.ensures ∙ ap (λ (s : ℕ). refusal s c.args.request.now) (sym (size_of_session c.args.first _ c.blocks-2.ensures)) in
+    omega (arith, c.in-Err.ensures.along.reads told, reads_refused _ c.args.request.now c.refusal-refused.result whole)
 
 pub returns-then-is_flush-clause-adds : goal.returns-then-is_flush-clause-adds
 returns-then-is_flush-clause-adds g c n few =

@@ -78,7 +78,7 @@ returns-in_err-request-clause-served g c =
 pub returns-then-is_disconnect-clause-served : goal.returns-then-is_disconnect-clause-served
 returns-then-is_disconnect-clause-served g c =
     let head = subst (λ (it : Option Request). HeadCame (g.I.Source.left c.requests.input) (g.I.Source.left c.next_request.new.input) c.requests.intake c.next_request.new.intake (Ok it)) c.in-Some.is c.in_ok-request.ensures.came in
-    served_goodbye _ _ _ _ _ _ _ _ _ _ _ _ _ _ _ c.requests.invariant.exchanges c.in-Some.request _ (λ entry from. from.0) c.requests.invariant.carries.capacity c.finish.ensures.carries.keeps.keys.extends c.finish.ensures.carries.capacity c.finish.ensures.carries.rises c.finish.ensures.short c.finish.ensures.adds (c.if-is_disconnect.ensures.0 refl) c.requests.invariant.replied head c.finish.ensures.ends c.finish.ensures.finishes
+    served_goodbye _ _ _ _ _ _ _ _ _ _ _ _ _ _ _ c.requests.invariant.exchanges c.in-Some.request _ (λ entry from. from.0) c.requests.invariant.carries.capacity c.finish.ensures.carries.keeps.keys.extends c.finish.ensures.carries.capacity c.finish.ensures.carries.rises c.finish.ensures.short c.finish.ensures.adds c.finish.ensures.reads (c.if-is_disconnect.ensures.0 refl) c.requests.invariant.replied head c.finish.ensures.ends c.finish.ensures.finishes
 
 pub returns-in-Err-clause-served : goal.returns-in-Err-clause-served
 returns-in-Err-clause-served g c =

@@ -4,6 +4,7 @@ use Rattle.nbd_lang.specs.declared.requests.RequestKind.TheVariants.{Read, Trim,
 use Rattle.nbd_core.specs.Ample.{blocks_of_range, unless_refused}
 use Rattle.session_calls.proofs.CallLaws.{along_more}
 use Rattle.nbd_core.proofs.NearLaws.{needed_is}
+use Rattle.nbd_core.proofs.ReadLaws.{reads_is}
 use Rattle.nbd_core.proofs.ShortLaws.{cost_is, read_short, refused_short, trim_short, write_short}
 use Rattle.nbd_lang.specs.Requests.{bytes_behind}
 use Rattle.session_calls.specs.Along.{drawn_by}
@@ -15,13 +16,13 @@ use Rattle.nbd_core.proofs.TurnLaws.{answers_read, answers_refused, answers_trim
 use Rattle.nbd_core.proofs.serving.serve_blocks.Goals as goal
 
 pub returns-in-Some-clause-along : goal.returns-in-Some-clause-along
-returns-in-Some-clause-along g c = along_more g.P.Platform 0 (unless_refused c.args.refused (blocks_of_range c.args.request.now.kind c.args.request.now.offset c.args.request.now.length)) _ _ _ _ _ _ (omega arith) (along_start g.P.Platform _ (drawn_by g.T.Tape c.args.tape.now) _ c.requires.open)
+returns-in-Some-clause-along g c = along_more g.P.Platform 0 (unless_refused c.args.refused (blocks_of_range c.args.request.now.kind c.args.request.now.offset c.args.request.now.length)) 0 _ _ _ _ _ _ _ (omega arith) (omega arith) (along_start g.P.Platform _ (drawn_by g.T.Tape c.args.tape.now) _ c.requires.open)
 
 pub returns-in-Some-clause-blame : goal.returns-in-Some-clause-blame
 returns-in-Some-clause-blame g c rest = c.let_go.ensures.blame (record rest { platform = g.P.Platform.faults c.args.platform.now; tape = g.T.Tape.faults c.args.tape.now })
 
 pub returns-in-Read-clause-along : goal.returns-in-Read-clause-along
-returns-in-Read-clause-along g c = along_more g.P.Platform 0 (unless_refused c.args.refused (blocks_of_range c.args.request.now.kind c.args.request.now.offset c.args.request.now.length)) _ _ _ _ _ _ (omega arith) (c.read.ensures.along (drawn_by g.T.Tape c.args.tape.now))
+returns-in-Read-clause-along g c = along_more g.P.Platform 0 (unless_refused c.args.refused (blocks_of_range c.args.request.now.kind c.args.request.now.offset c.args.request.now.length)) _ _ _ _ _ _ _ _ (omega arith) (omega (arith, reads_is c.args.refused c.args.request.now.kind Read c.args.request.now.offset c.args.request.now.length c.in_default.is c.in-Read.is)) (c.read.ensures.along (drawn_by g.T.Tape c.args.tape.now))
 
 pub returns-in-Read-clause-blame : goal.returns-in-Read-clause-blame
 returns-in-Read-clause-blame g c rest = c.read.ensures.blame (record rest { tape = g.T.Tape.faults c.args.tape.now; input = g.I.Source.faults c.args.input.now })
@@ -35,13 +36,15 @@ returns-in-Read-clause-bytes g c =
 
 pub returns-in-Trim-clause-along : goal.returns-in-Trim-clause-along
 returns-in-Trim-clause-along g c =
-    along_more g.P.Platform (length (covered_blocks c.args.request.now.offset c.args.request.now.length)) (unless_refused c.args.refused (blocks_of_range c.args.request.now.kind c.args.request.now.offset c.args.request.now.length)) _ _ _ _ _ _
-    (omega (arith, cost_is c.args.refused c.args.request.now.kind Trim c.args.request.now.offset c.args.request.now.length c.in_default.is c.in-Trim.is)) (c.trim.ensures.along (drawn_by g.T.Tape c.args.tape.now))
+    along_more g.P.Platform (length (covered_blocks c.args.request.now.offset c.args.request.now.length)) (unless_refused c.args.refused (blocks_of_range c.args.request.now.kind c.args.request.now.offset c.args.request.now.length)) _ _ _ _ _ _ _ _
+    (omega (arith, cost_is c.args.refused c.args.request.now.kind Trim c.args.request.now.offset c.args.request.now.length c.in_default.is c.in-Trim.is))
+    (omega (arith, reads_is c.args.refused c.args.request.now.kind Trim c.args.request.now.offset c.args.request.now.length c.in_default.is c.in-Trim.is)) (c.trim.ensures.along (drawn_by g.T.Tape c.args.tape.now))
 
 pub returns-in-Write-clause-along : goal.returns-in-Write-clause-along
 returns-in-Write-clause-along g c =
-    along_more g.P.Platform (length (touched_blocks c.args.request.now.offset c.args.request.now.length)) (unless_refused c.args.refused (blocks_of_range c.args.request.now.kind c.args.request.now.offset c.args.request.now.length)) _ _ _ _ _ _
-    (omega (arith, cost_is c.args.refused c.args.request.now.kind Write c.args.request.now.offset c.args.request.now.length c.in_default.is c.in-Write.is)) c.write.ensures.along
+    along_more g.P.Platform (length (touched_blocks c.args.request.now.offset c.args.request.now.length)) (unless_refused c.args.refused (blocks_of_range c.args.request.now.kind c.args.request.now.offset c.args.request.now.length)) _ _ _ _ _ _ _ _
+    (omega (arith, cost_is c.args.refused c.args.request.now.kind Write c.args.request.now.offset c.args.request.now.length c.in_default.is c.in-Write.is))
+    (omega (arith, reads_is c.args.refused c.args.request.now.kind Write c.args.request.now.offset c.args.request.now.length c.in_default.is c.in-Write.is)) c.write.ensures.along
 
 pub returns-in-Some-clause-short : goal.returns-in-Some-clause-short
 returns-in-Some-clause-short g c = refused_short _ c.args.refused c.in-Some.outcome c.args.request.now.kind c.let_go.result c.in-Some.is

@@ -6,11 +6,10 @@ use Rattle.device_course.specs.States.{IsAt}
 use Rattle.device_session.specs.Open.{needed_by}
 use Rattle.device_course.specs.Held.{trim_all}
 use Rattle.nbd_lang.specs.declared.requests.RequestKind.TheVariants.{Trim}
-use Rattle.session_calls.specs.Along.{Along}
 use Rattle.session_calls.proofs.AlongLaws.{along_start, along_then}
 use Rattle.nbd_lang.specs.declared.replies.Outcome.TheVariants.{Done}
 use Rattle.nbd_core.proofs.ArrayLaws.{trim_halted, trim_step, trimmed_some}
-use Rattle.session_calls.proofs.DamageLaws.{trim_meets}
+use Rattle.nbd_core.proofs.MeetLaws.{trim_stops}
 use Rattle.nbd_core.proofs.DamageLaws.{stop_after}
 use Rattle.nbd_core.proofs.KeptLaws.{trimmed_all, trimmed_start, trimmed_then}
 use Rattle.nbd_core.proofs.TurnLaws.{trims_lead}
@@ -20,7 +19,7 @@ use Rattle.nbd_core.proofs.trimming.trim.Goals as goal
 
 pub loop-block-init : goal.loop-block-init
 loop-block-init g c = record {
-  along = λ drawn. along_more g.P.Platform 0 _ _ _ drawn drawn _ _ (omega arith) (along_start g.P.Platform _ drawn _ c.requires.open);
+  along = λ drawn. along_more g.P.Platform 0 _ 0 _ _ _ drawn drawn _ _ (omega arith) (omega arith) (along_start g.P.Platform _ drawn _ c.requires.open);
   trims = λ told device array at.
       let first : ℕ = c.covered-blocks.result.start in
       let none : first - first ≡ 0 = omega arith in
@@ -39,7 +38,9 @@ loop-block-preserved g c =
     let from : first ≤ block = c.loop-block.auto.block in
     let count : (block - first) + 1 ≡ (block + 1) - first = omega (arith, from) in
     record {
-      along = λ drawn. subst (λ (n : ℕ). Along g.P.Platform n c.args.platform.now c.trim_block.new.platform drawn drawn c.args.session.now c.trim_block.new.session) count (along_then g.P.Platform (block - first) 1 _ _ _ drawn drawn drawn _ _ _ (so_far.along drawn) (c.in-Ok.ensures.goes drawn).along);
+      along = λ drawn.
+          along_more g.P.Platform (block - first + 1) _ _ _ _ _ drawn drawn _ _ (omega (arith, from)) (omega (arith, from, (so_far.along drawn).is_open.level))
+          (along_then g.P.Platform (block - first) 1 _ _ _ _ _ drawn drawn drawn _ _ _ (so_far.along drawn) (c.in-Ok.ensures.goes drawn).along);
       trims = λ told device array at. trim_step _ _ device array first block from (c.in-Ok.ensures.leads told device _ (so_far.trims told device array at));
       taken = λ told mounted.
           let covered = covered_is c.args.request.now.offset c.args.request.now.length block ((c.covered-blocks.ensures.covered block).1 (omega arith, omega arith)) in
@@ -62,9 +63,10 @@ pub returns-in-Err-clause-along : goal.returns-in-Err-clause-along
 returns-in-Err-clause-along g c drawn =
     let blocks = c.covered-blocks.result in
     let n : ℕ = c.loop-block.block - blocks.start in
-    along_more g.P.Platform (n + 1) (length (covered_blocks c.args.request.now.offset c.args.request.now.length)) _ _ drawn drawn _ _
-    (omega (arith, ap length c.covered-blocks.ensures.blocks, length-blocks_from blocks.start (blocks.end - blocks.start), c.loop-block-test.true, c.loop-block.auto.block))
-    (along_then g.P.Platform n 1 _ _ _ drawn drawn drawn _ _ _ (c.loop-block.invariant.along drawn) (c.in-Err.ensures.goes drawn).along)
+    let few : n + 1 ≤ length (covered_blocks c.args.request.now.offset c.args.request.now.length) =
+    omega (arith, ap length c.covered-blocks.ensures.blocks, length-blocks_from blocks.start (blocks.end - blocks.start), c.loop-block-test.true, c.loop-block.auto.block) in
+    along_more g.P.Platform (n + 1) (length (covered_blocks c.args.request.now.offset c.args.request.now.length)) _ _ _ _ drawn drawn _ _ few (omega (arith, few, (c.loop-block.invariant.along drawn).is_open.level))
+    (along_then g.P.Platform n 1 _ _ _ _ _ drawn drawn drawn _ _ _ (c.loop-block.invariant.along drawn) (c.in-Err.ensures.goes drawn).along)
 
 pub returns-in-Err-clause-blame : goal.returns-in-Err-clause-blame
 returns-in-Err-clause-blame g c rest =
@@ -91,8 +93,9 @@ after_stop-requires g c = (c.in-Err.ensures.goes no_draw).stops
 pub returns-clause-along : goal.returns-clause-along
 returns-clause-along g c drawn =
     let blocks = c.covered-blocks.result in
-    along_more g.P.Platform (c.loop-block.block - blocks.start) (length (covered_blocks c.args.request.now.offset c.args.request.now.length)) _ _ drawn drawn _ _
-    (omega (arith, ap length c.covered-blocks.ensures.blocks, length-blocks_from blocks.start (blocks.end - blocks.start), c.loop-block.invariant.few)) (c.loop-block.invariant.along drawn)
+    let few : c.loop-block.block - blocks.start ≤ length (covered_blocks c.args.request.now.offset c.args.request.now.length) =
+    omega (arith, ap length c.covered-blocks.ensures.blocks, length-blocks_from blocks.start (blocks.end - blocks.start), c.loop-block.invariant.few) in
+    along_more g.P.Platform (c.loop-block.block - blocks.start) (length (covered_blocks c.args.request.now.offset c.args.request.now.length)) _ _ _ _ drawn drawn _ _ few (omega (arith, few)) (c.loop-block.invariant.along drawn)
 
 pub returns-clause-blame : goal.returns-clause-blame
 returns-clause-blame g c rest = blame_done _ _ _ (ap (λ (n : ℕ). record rest { platform = n }) c.loop-block.invariant.quiet)
@@ -108,7 +111,7 @@ returns-clause-leads g c =
 
 pub returns-in-Err-clause-damage : goal.returns-in-Err-clause-damage
 returns-in-Err-clause-damage g c told mounted =
-    stop_after _ _ _ c.in-Err.stop _ (trim_meets _ (g.P.Platform.history c.loop-block.platform).present (g.P.Platform.history c.trim_block.new.platform).present c.loop-block.session c.loop-block.block (Err c.in-Err.stop) c.in-Err.ensures.any (told, (c.loop-block.invariant.along no_draw).mounted told mounted)) c.after_stop.ensures
+    stop_after _ _ _ c.in-Err.stop _ (trim_stops _ (g.P.Platform.history c.loop-block.platform).present (g.P.Platform.history c.trim_block.new.platform).present c.loop-block.session c.loop-block.block (Err c.in-Err.stop) c.in-Err.ensures.any (told, (c.loop-block.invariant.along no_draw).mounted told mounted)) c.after_stop.ensures
 
 pub returns-clause-damage : goal.returns-clause-damage
 returns-clause-damage g c told mounted =

@@ -15,7 +15,7 @@ use Rattle.nbd_core.proofs.TurnLaws.{leads_idle, no_space, on_outcome, writes_he
 use Rattle.nbd_core.proofs.writing.write.Goals as goal
 
 pub returns-then-blocks-capacity-clause-along : goal.returns-then-blocks-capacity-clause-along
-returns-then-blocks-capacity-clause-along g c = along_more g.P.Platform 0 (length (touched_blocks c.args.request.now.offset c.args.request.now.length)) _ _ _ _ _ _ (omega arith) (along_start g.P.Platform _ (drawn_by g.T.Tape c.args.tape.now) _ c.requires.open)
+returns-then-blocks-capacity-clause-along g c = along_more g.P.Platform 0 (length (touched_blocks c.args.request.now.offset c.args.request.now.length)) 0 _ _ _ _ _ _ _ (omega arith) (omega arith) (along_start g.P.Platform _ (drawn_by g.T.Tape c.args.tape.now) _ c.requires.open)
 
 pub returns-then-blocks-capacity-clause-blame : goal.returns-then-blocks-capacity-clause-blame
 returns-then-blocks-capacity-clause-blame g c rest = c.let_go.ensures.blame (record rest { platform = g.P.Platform.faults c.args.platform.now; tape = g.T.Tape.faults c.args.tape.now })

@@ -5,6 +5,7 @@ use Rattle.byte_arrays.specs.Parts.{IsAtPart, IsPart}
 use Rattle.byte_arrays.specs.Ranges.{touched_blocks}
 use Rattle.byte_arrays.proofs.RangeLaws.{part_block, part_last, part_next}
 use Rattle.nbd_lang.specs.declared.replies.Outcome.TheVariants.{Done}
+use Rattle.nbd_lang.specs.declared.requests.RequestKind.TheVariants.{Write}
 use Rattle.session_calls.specs.Along.{drawn_by}
 use Rattle.session_calls.proofs.AlongLaws.{along_start, along_then}
 use Rattle.nbd_core.proofs.ArrayLaws.{front_of, range_halted, range_step, wrote_range}
@@ -16,6 +17,10 @@ use Rattle.nbd_core.proofs.DamageLaws.{stop_given}
 use Rattle.nbd_core.proofs.DataLaws.{gone_then, gone_skip, data_whole, data_short, data_broken, data_then}
 use Rattle.nbd_core.specs.Found.{HasWritten}
 use Rattle.nbd_core.proofs.KeptLaws.{written_all, written_start, written_then}
+use Rattle.nbd_core.proofs.MeetLaws.{part_meets}
+use Rattle.nbd_core.specs.Meets.{MayMeet}
+use Rattle.nbd_core.specs.Reads.{reads_at}
+use Rattle.nbd_core.proofs.ReadLaws.{write_more, write_with}
 use Rattle.nbd_core.proofs.PartLaws.{part_front, part_touched}
 use Rattle.nbd_core.proofs.writing.write_range.Goals as goal
 
@@ -23,7 +28,7 @@ pub loop-done-init : goal.loop-done-init
 loop-done-init g c = record {
   parts = 0;
   at = λ some. inl (refl, refl);
-  along = along_start g.P.Platform _ (drawn_by g.T.Tape c.args.tape.now) _ c.requires.open;
+  along = along_more g.P.Platform 0 0 0 _ _ _ _ _ _ _ (omega arith) (omega arith) (along_start g.P.Platform _ (drawn_by g.T.Tape c.args.tape.now) _ c.requires.open);
   gone = [];
   came = came_nothing _ _ _;
   all = refl;
@@ -45,7 +50,8 @@ returns-in-Ok-false-clause-along g c =
     let whole : c.loop-done.done + (c.args.count - c.loop-done.done) ≡ c.args.count = omega (arith, so_far.within) in
     let few : so_far.parts < length (touched_blocks c.args.at c.args.count) =
     subst (λ (n : ℕ). so_far.parts < length (touched_blocks c.args.at n)) whole (part_touched c.args.at (c.loop-done.done + (c.args.count - c.loop-done.done)) c.loop-done.done _ _ _ so_far.parts part at) in
-    along_more g.P.Platform so_far.parts (length (touched_blocks c.args.at c.args.count)) _ _ _ _ _ _ (omega (arith, few)) so_far.along
+    let most = write_with c.args.at _ c.args.count c.loop-done.done _ _ _ whole part in
+    along_more g.P.Platform so_far.parts (length (touched_blocks c.args.at c.args.count)) _ _ _ _ _ _ _ _ (omega (arith, few)) (omega (arith, most)) so_far.along
 
 pub returns-in-Err-clause-along : goal.returns-in-Err-clause-along
 returns-in-Err-clause-along g c =
@@ -55,13 +61,14 @@ returns-in-Err-clause-along g c =
     let whole : c.loop-done.done + (c.args.count - c.loop-done.done) ≡ c.args.count = omega (arith, so_far.within) in
     let few : so_far.parts < length (touched_blocks c.args.at c.args.count) =
     subst (λ (n : ℕ). so_far.parts < length (touched_blocks c.args.at n)) whole (part_touched c.args.at (c.loop-done.done + (c.args.count - c.loop-done.done)) c.loop-done.done _ _ _ so_far.parts part at) in
-    along_more g.P.Platform so_far.parts (length (touched_blocks c.args.at c.args.count)) _ _ _ _ _ _ (omega (arith, few)) so_far.along
+    let most = write_with c.args.at _ c.args.count c.loop-done.done _ _ _ whole part in
+    along_more g.P.Platform so_far.parts (length (touched_blocks c.args.at c.args.count)) _ _ _ _ _ _ _ _ (omega (arith, few)) (omega (arith, most)) so_far.along
 
 pub returns-clause-along : goal.returns-clause-along
 returns-clause-along g c =
     let so_far = c.loop-done.invariant in
     let done : c.loop-done.done ≡ c.args.count = omega (arith, so_far.within, c.loop-done-test.false) in
-    along_more g.P.Platform so_far.parts (length (touched_blocks c.args.at c.args.count)) _ _ _ _ _ _ (omega (arith, so_far.last done)) so_far.along
+    along_more g.P.Platform so_far.parts (length (touched_blocks c.args.at c.args.count)) _ _ _ _ _ _ _ _ (omega (arith, so_far.last done)) (omega (arith, ap (λ (n : ℕ). reads_at Write c.args.at n) done)) so_far.along
 
 pub returns-clause-bytes : goal.returns-clause-bytes
 returns-clause-bytes g c =
@@ -137,7 +144,8 @@ loop-done-preserved g c =
     record {
       parts = so_far.parts + 1;
       at = λ more. part_next c.args.at (c.loop-done.done + (c.args.count - c.loop-done.done)) c.loop-done.done _ _ _ so_far.parts part at (omega (arith, more, so_far.within));
-      along = along_then g.P.Platform so_far.parts 1 _ _ _ (d c.args.tape.now) (d c.loop-done.tape) (d c.write_part-written.new.tape) _ _ _ so_far.along c.write_part-written.ensures.calls.along;
+      along = along_more g.P.Platform (so_far.parts + 1) (so_far.parts + 1) _ _ _ _ _ _ _ _ (omega arith) (write_more c.args.at _ c.loop-done.done _ _ k part)
+          (along_then g.P.Platform so_far.parts 1 _ _ _ _ _ (d c.args.tape.now) (d c.loop-done.tape) (d c.write_part-written.new.tape) _ _ _ so_far.along c.write_part-written.ensures.calls.along);
       gone = so_far.gone ++ take k c.need.new.self.ahead;
       came = gone_skip _ _ _ c.need.new.self c.skip.new.self c.args.count k so_far.gone
           (gone_then _ _ _ _ _ _ c.args.count k so_far.gone _ so_far.came (omega (arith, so_far.all, part.within, so_far.within)) c.in-Ok-true.ensures.came)
@@ -178,8 +186,8 @@ returns-in-Err-written-clause-along g c =
     let few : so_far.parts < length (touched_blocks c.args.at c.args.count) =
     subst (λ (n : ℕ). so_far.parts < length (touched_blocks c.args.at n)) whole (part_touched c.args.at (c.loop-done.done + (c.args.count - c.loop-done.done)) c.loop-done.done _ _ _ so_far.parts part at) in
     let d = drawn_by g.T.Tape in
-    along_more g.P.Platform (so_far.parts + 1) (length (touched_blocks c.args.at c.args.count)) _ _ _ _ _ _ (omega (arith, few))
-    (along_then g.P.Platform so_far.parts 1 _ _ _ (d c.args.tape.now) (d c.loop-done.tape) (d c.write_part-written.new.tape) _ _ _ so_far.along c.in-Err-written.ensures.calls.along)
+    along_more g.P.Platform (so_far.parts + 1) (length (touched_blocks c.args.at c.args.count)) _ _ _ _ _ _ _ _ (omega (arith, few)) (write_with c.args.at _ c.args.count c.loop-done.done _ _ _ whole part)
+    (along_then g.P.Platform so_far.parts 1 _ _ _ _ _ (d c.args.tape.now) (d c.loop-done.tape) (d c.write_part-written.new.tape) _ _ _ so_far.along c.in-Err-written.ensures.calls.along)
 
 pub returns-in-Err-written-clause-blame : goal.returns-in-Err-written-clause-blame
 returns-in-Err-written-clause-blame g c rest =
@@ -237,7 +245,11 @@ returns-in-Err-written-clause-bytes g c =
           (λ whole_is.
           c.in-Err-written.ensures.writes told device _
           (so_far.wrote told device array at_first all whole_is (take-append-le c.loop-done.done (so_far.gone ++ piece) after (omega (arith, size)) ∙ take-append-le c.loop-done.done so_far.gone piece (omega (arith, so_far.all)) ∙ take_all c.loop-done.done so_far.gone (omega (arith, so_far.all)))))),
-      (λ told mounted. stop_given _ _ _ c.in-Err-written.stop c.give_up.result (c.in-Err-written.ensures.damage told (so_far.along.mounted told mounted)) c.give_up.ensures.outcome),
+      (λ told mounted.
+          let here : IsPart c.args.at c.args.count c.loop-done.done c.first-part.result.block c.first-part.result.start k = subst (λ (n : ℕ). IsPart c.args.at n c.loop-done.done c.first-part.result.block c.first-part.result.start k) whole part in
+          let long : length (take k c.ahead.result.now) ≡ k = ap (λ (l : List ℕ). length (take k l)) c.ahead.ensures ∙ omega (arith, length-take k c.need.new.self.ahead, there) in
+          stop_given (MayMeet Write (g.P.Platform.history c.write_part-written.new.platform).present c.args.at c.args.count) _ _ c.in-Err-written.stop c.give_up.result
+          (part_meets _ c.args.at c.args.count c.loop-done.done _ _ k _ c.in-Err-written.stop here long (c.in-Err-written.ensures.damage told (so_far.along.mounted told mounted))) c.give_up.ensures.outcome),
     ))
     c.give_up.ensures.bytes
 

@@ -5,7 +5,9 @@ use Rattle.byte_arrays.specs.Parts.{IsAtPart}
 use Rattle.byte_arrays.specs.Ranges.{blocks_from, touched_blocks}
 use Rattle.device_course.specs.States.{IsAt}
 use Rattle.nbd_terms.specs.Bytes.{array_of, write_all}
+use Rattle.nbd_lang.specs.declared.requests.RequestKind.TheVariants.{Write}
 use Rattle.session_calls.specs.Along.{Along, drawn_by}
+use Rattle.nbd_core.specs.Reads.{reads_at}
 use Rattle.nbd_core.specs.Room.{Came, IsShorter}
 use Rattle.session_calls.specs.Damage.{IsMounted}
 use Rattle.nbd_core.proofs.KeptLaws.{WrittenTo}
@@ -15,7 +17,7 @@ abbrev pub invariant-loop-done : goal.invariant-loop-done
 invariant-loop-done g l = record {
   parts : ℕ;
   at : l.done < l.count → IsAtPart l.at l.done parts;
-  along : Along g.P.Platform parts l.fn.platform l.platform (drawn_by g.T.Tape l.fn.tape) (drawn_by g.T.Tape l.tape) l.fn.session l.session;
+  along : Along g.P.Platform parts (reads_at Write l.at l.done) l.fn.platform l.platform (drawn_by g.T.Tape l.fn.tape) (drawn_by g.T.Tape l.tape) l.fn.session l.session;
   gone : List ℕ;
   came : Came (g.I.Source.left l.fn.input) (g.I.Source.left l.input) l.fn.intake l.intake.left (IsShorter l.count) (gone ++ l.intake.ahead);
   all : length gone ≡ l.done;
