@@ -1,5 +1,5 @@
 -- Why a line is answered so, by its calls: what stopped a call for a block may stop the line that made the call; and which table there is behind a reply.
-use Rattle.std.proofs.Common.{◌≡◌, ◌<◌, ◌-◌, ◌⊎◌, ℕ, List, Option, None, Some, Result, Ok, Err, inl, inr, refl, ap, subst, sym}
+use Rattle.std.proofs.Common.{◌≡◌, ◌⊎◌, ℕ, List, Option, None, Some, Result, Ok, Err, inl, inr, refl, ap, subst, sym}
 use Rattle.platform.specs.Image.{Image}
 use Rattle.platform.specs.History.{History}
 use Rattle.device_session.specs.Sessions.{Session}
@@ -18,7 +18,7 @@ use Rattle.volume_lines.specs.Replies as told
 use Rattle.volume_lines.specs.Replies.{Reply, said}
 use Rattle.volume_lines.specs.declared.replies.Reply.{Reply as Given}
 use Rattle.volume_lines.specs.declared.replies.Reply.TheVariants as given
-use Rattle.volume_desk.specs.Causes.{AnswersAlong, AnswersOver, Changes, Commits, Draws, HasBlock, IsAccepted, IsWrongStep, LacksBlock, MayStop, MeetsNode, MeetsRecord, Sizes, StopsAny, TakesOver, TurnsTable}
+use Rattle.volume_desk.specs.Causes.{AnswersAlong, AnswersOver, Changes, Commits, Draws, HasBlock, IsAccepted, IsShortOf, IsWrongStep, LacksBlock, MayStop, MeetsNode, MeetsRecord, Sizes, StopsAny, TakesOver, TurnsTable}
 use Rattle.volume_desk.specs.Done.{IsCleared}
 use Rattle.volume_desk.specs.Turns.{IsBlockAt, NoBlock, commit_reply, destroy_reply}
 
@@ -146,43 +146,43 @@ no_block_said table name block given.Uncommitted buffer none = absurd none
 no_block_said table name block (given.Committed number) buffer none = absurd none
 no_block_said table name block given.Bad buffer none = absurd none
 
-pub read_refused : (here : Sizes) (needed : ℕ) (table : List Volume) (name : List ℕ) (block : ℕ) (reply : Given) (buffer : List ℕ) → NoBlock table name block reply → TurnsTable here needed table (Read name block) (said reply buffer) table
-read_refused here needed table name block reply buffer none = inl (no_block_said table name block reply buffer none, refl)
+pub read_refused : (here : Sizes) (needed behind : ℕ) (table : List Volume) (name : List ℕ) (block : ℕ) (reply : Given) (buffer : List ℕ) → NoBlock table name block reply → TurnsTable here needed behind table (Read name block) (said reply buffer) table
+read_refused here needed behind table name block reply buffer none = inl (no_block_said table name block reply buffer none, refl)
 
-pub write_refused : (here : Sizes) (needed : ℕ) (table : List Volume) (name : List ℕ) (block : ℕ) (content : List ℕ) (reply : Given) (buffer : List ℕ) → NoBlock table name block reply
-    → TurnsTable here needed table (Write name block content) (said reply buffer) table
-write_refused here needed table name block content reply buffer none = inl (no_block_said table name block reply buffer none, refl)
+pub write_refused : (here : Sizes) (needed behind : ℕ) (table : List Volume) (name : List ℕ) (block : ℕ) (content : List ℕ) (reply : Given) (buffer : List ℕ) → NoBlock table name block reply
+    → TurnsTable here needed behind table (Write name block content) (said reply buffer) table
+write_refused here needed behind table name block content reply buffer none = inl (no_block_said table name block reply buffer none, refl)
 
-pub trim_refused : (here : Sizes) (needed : ℕ) (table : List Volume) (name : List ℕ) (block : ℕ) (reply : Given) (buffer : List ℕ) → NoBlock table name block reply → TurnsTable here needed table (Trim name block) (said reply buffer) table
-trim_refused here needed table name block reply buffer none = inl (no_block_said table name block reply buffer none, refl)
+pub trim_refused : (here : Sizes) (needed behind : ℕ) (table : List Volume) (name : List ℕ) (block : ℕ) (reply : Given) (buffer : List ℕ) → NoBlock table name block reply → TurnsTable here needed behind table (Trim name block) (said reply buffer) table
+trim_refused here needed behind table name block reply buffer none = inl (no_block_said table name block reply buffer none, refl)
 
 -- there is one
 pub has_block : (table : List Volume) (name : List ℕ) (block at : ℕ) → IsBlockAt table name block at → HasBlock table name block
 has_block table name block at is = (is.v, is.named, is.below)
 
-pub read_done : (here : Sizes) (needed : ℕ) (table : List Volume) (name : List ℕ) (block at : ℕ) (reply : Reply) (bytes : List ℕ) → reply ≡ told.Content bytes → IsBlockAt table name block at → TurnsTable here needed table (Read name block) reply table
-read_done here needed table name block at reply bytes same is =
-    let done : TurnsTable here needed table (Read name block) (told.Content bytes) table = inr (table, (has_block table name block at is, refl), inl (tt, refl)) in
-    subst (λ (r : Reply). TurnsTable here needed table (Read name block) r table) (sym same) done
+pub read_done : (here : Sizes) (needed behind : ℕ) (table : List Volume) (name : List ℕ) (block at : ℕ) (reply : Reply) (bytes : List ℕ) → reply ≡ told.Content bytes → IsBlockAt table name block at → TurnsTable here needed behind table (Read name block) reply table
+read_done here needed behind table name block at reply bytes same is =
+    let done : TurnsTable here needed behind table (Read name block) (told.Content bytes) table = inr (table, (has_block table name block at is, refl), inl (tt, refl)) in
+    subst (λ (r : Reply). TurnsTable here needed behind table (Read name block) r table) (sym same) done
 
 -- ---- a commit, and a destroy
-pub commit_turns : (here : Sizes) (needed : ℕ) (table : List Volume) (reply : CommitReply) (answer : Given) (buffer : List ℕ) → answer ≡ commit_reply reply → ((wanted free : ℕ) → reply ≡ commits.Full wanted free → here.capacity - here.pages < needed)
-    → TurnsTable here needed table Commit (said answer buffer) table
-commit_turns here needed table (commits.Committed number) answer buffer is short =
-    let done : TurnsTable here needed table Commit (told.Committed number) table = inr (table, refl, inl (tt, refl)) in
-    subst (λ (r : Reply). TurnsTable here needed table Commit r table) (sym (ap (λ (a : Given). said a buffer) is)) done
-commit_turns here needed table (commits.Full wanted free) answer buffer is short =
-    let full : TurnsTable here needed table Commit told.Full table = inr (table, refl, inr (short wanted free refl, refl, refl)) in
-    subst (λ (r : Reply). TurnsTable here needed table Commit r table) (sym (ap (λ (a : Given). said a buffer) is)) full
+pub commit_turns : (here : Sizes) (needed behind : ℕ) (table : List Volume) (reply : CommitReply) (answer : Given) (buffer : List ℕ) → answer ≡ commit_reply reply → ((wanted free : ℕ) → reply ≡ commits.Full wanted free → IsShortOf here needed)
+    → TurnsTable here needed behind table Commit (said answer buffer) table
+commit_turns here needed behind table (commits.Committed number) answer buffer is short =
+    let done : TurnsTable here needed behind table Commit (told.Committed number) table = inr (table, refl, inl (tt, refl)) in
+    subst (λ (r : Reply). TurnsTable here needed behind table Commit r table) (sym (ap (λ (a : Given). said a buffer) is)) done
+commit_turns here needed behind table (commits.Full wanted free) answer buffer is short =
+    let full : TurnsTable here needed behind table Commit told.Full table = inr (table, refl, inr (short wanted free refl, refl, refl)) in
+    subst (λ (r : Reply). TurnsTable here needed behind table Commit r table) (sym (ap (λ (a : Given). said a buffer) is)) full
 
-pub destroy_turns : (here : Sizes) (needed : ℕ) (table left : List Volume) (name : List ℕ) (reply : CommitReply) (answer : Given) (buffer : List ℕ) → answer ≡ destroy_reply reply → IsAccepted here.blocks table (Destroy name) left
-    → TurnsTable here needed table (Destroy name) (said answer buffer) left
-destroy_turns here needed table left name (commits.Committed number) answer buffer is accepted =
-    let done : TurnsTable here needed table (Destroy name) (told.Destroyed number) left = inr (left, accepted, inl (tt, refl)) in
-    subst (λ (r : Reply). TurnsTable here needed table (Destroy name) r left) (sym (ap (λ (a : Given). said a buffer) is)) done
-destroy_turns here needed table left name (commits.Full wanted free) answer buffer is accepted =
-    let done : TurnsTable here needed table (Destroy name) told.Uncommitted left = inr (left, accepted, inl (tt, refl)) in
-    subst (λ (r : Reply). TurnsTable here needed table (Destroy name) r left) (sym (ap (λ (a : Given). said a buffer) is)) done
+pub destroy_turns : (here : Sizes) (needed behind : ℕ) (table left : List Volume) (name : List ℕ) (reply : CommitReply) (answer : Given) (buffer : List ℕ) → answer ≡ destroy_reply reply → IsAccepted here.blocks table (Destroy name) left
+    → ((wanted free : ℕ) → reply ≡ commits.Full wanted free → IsShortOf here behind) → TurnsTable here needed behind table (Destroy name) (said answer buffer) left
+destroy_turns here needed behind table left name (commits.Committed number) answer buffer is accepted short =
+    let done : TurnsTable here needed behind table (Destroy name) (told.Destroyed number) left = inr (left, accepted, inl (tt, refl)) in
+    subst (λ (r : Reply). TurnsTable here needed behind table (Destroy name) r left) (sym (ap (λ (a : Given). said a buffer) is)) done
+destroy_turns here needed behind table left name (commits.Full wanted free) answer buffer is accepted short =
+    let done : TurnsTable here needed behind table (Destroy name) told.Uncommitted left = inr (left, accepted, inl (short wanted free refl, refl)) in
+    subst (λ (r : Reply). TurnsTable here needed behind table (Destroy name) r left) (sym (ap (λ (a : Given). said a buffer) is)) done
 
 pub takes_some_any : (tells : Type 0) (before image : Image) (session now : Session) (here : Sizes) (table left : List Volume) (name buffer : List ℕ) (refused : Option Given) (reply : Given) → refused ≡ Some reply
     → TakesOver tells before image session now here table left name buffer (Ok refused) → AnswersOver tells before image session now here table left (Destroy name) buffer (Ok reply)

@@ -24,7 +24,7 @@ use Rattle.volume_lines.specs.Replies as told
 use Rattle.volume_lines.specs.Replies.{Reply, said}
 use Rattle.volume_lines.specs.declared.replies.Reply.{Reply as Given}
 use Rattle.volume_lines.specs.declared.replies.Reply.TheVariants as given
-use Rattle.volume_desk.specs.Causes.{AnswersAlong, AnswersOver, IsAccepted, Sizes, TurnsTable}
+use Rattle.volume_desk.specs.Causes.{AnswersAlong, AnswersOver, IsAccepted, IsShortOf, Sizes, TurnsTable}
 use Rattle.volume_desk.specs.Done.{DoesAny, HasCleared, HasTrimmed, IsCleared, IsLookedUp, IsUnmapped, IsWritten, KeepsAll, WasOver}
 use Rattle.volume_desk.proofs.CauseLaws.{commit_turns, destroy_turns, read_done}
 use Rattle.volume_desk.specs.Turns.{IsBlockAt, NoBlock, commit_reply, destroy_reply}
@@ -127,7 +127,7 @@ no_block_does Did HadLeft table next it name block (given.Committed number) buff
 no_block_does Did HadLeft table next it name block given.Bad buffer same none = absurd none
 
 pub refused_over : (tells : Type 0) (before : Image) (session : Session) (here : Sizes) (table : List Volume) (it : Line) (name : List ℕ) (block : ℕ) (reply : Given) (buffer : List ℕ) → NoBlock table name block reply
-    → TurnsTable here (needed_by session) table it (said reply buffer) table → AnswersOver tells before before session session here table table it buffer (Ok reply)
+    → TurnsTable here (needed_by session) (needed_by session) table it (said reply buffer) table → AnswersOver tells before before session session here table table it buffer (Ok reply)
 refused_over tells before session here table it name block reply buffer none turns =
     let Known : Type 0 = tells × IsMounted before session in
     (turns, no_block_does (λ Claim. Known → Claim before session before session) (λ Claim. Known → Claim before session before session) table table it name block reply buffer (λ known. keeps_all before session) none)
@@ -140,9 +140,9 @@ commit_does Did HadLeft table next (commits.Full needed free) answer buffer is n
 
 pub commit_along : (tells : Type 0) (old new : History) (session now : Session) (here : Sizes) (table : List Volume) (reply : CommitReply) (answer : Given) (buffer : List ℕ) → answer ≡ commit_reply reply → ((number : ℕ) → reply ≡ commits.Committed number → needed_by now ≡ 0)
     → ((needed free : ℕ) → reply ≡ commits.Full needed free → KeepsAll old.present session new.present now)
-    → ((needed free : ℕ) → reply ≡ commits.Full needed free → here.capacity - here.pages < needed_by session) → AnswersAlong tells old new session (Some now) here table table Commit buffer (Ok answer)
+    → ((needed free : ℕ) → reply ≡ commits.Full needed free → IsShortOf here (needed_by session)) → AnswersAlong tells old new session (Some now) here table table Commit buffer (Ok answer)
 commit_along tells old new session now here table reply answer buffer is needs short lacks = (
-  commit_turns here (needed_by session) table reply answer buffer is lacks,
+  commit_turns here (needed_by session) (needed_by now) table reply answer buffer is lacks,
   commit_does (λ Claim. tells → Claim old.present session new.present now) (λ Claim. tells → WasOver (moment old) (moment new) new (Claim old.present session)) table table reply answer buffer is (λ number committed told. needs number committed)
       (λ needed free full told. short needed free full),
 )
@@ -156,9 +156,10 @@ destroy_does Did HadLeft table next name (commits.Full needed free) answer buffe
 
 pub destroy_along : (tells : Type 0) (old new : History) (session now : Session) (here : Sizes) (table next : List Volume) (name : List ℕ) (reply : CommitReply) (answer : Given) (buffer : List ℕ) → answer ≡ destroy_reply reply
     → IsAccepted here.blocks table (Destroy name) next → (tells → WasOver (moment old) (moment new) new (λ image s. IsCleared old.present session image s table name next)) → ((number : ℕ) → reply ≡ commits.Committed number → needed_by now ≡ 0)
-    → ((needed free : ℕ) → reply ≡ commits.Full needed free → tells → IsCleared old.present session new.present now table name next) → AnswersAlong tells old new session (Some now) here table next (Destroy name) buffer (Ok answer)
-destroy_along tells old new session now here table next name reply answer buffer is accepted had needs left = (
-  destroy_turns here (needed_by session) table next name reply answer buffer is accepted,
+    → ((needed free : ℕ) → reply ≡ commits.Full needed free → tells → IsCleared old.present session new.present now table name next) → ((needed free : ℕ) → reply ≡ commits.Full needed free → IsShortOf here (needed_by now))
+    → AnswersAlong tells old new session (Some now) here table next (Destroy name) buffer (Ok answer)
+destroy_along tells old new session now here table next name reply answer buffer is accepted had needs left short = (
+  destroy_turns here (needed_by session) (needed_by now) table next name reply answer buffer is accepted short,
   destroy_does (λ Claim. tells → Claim old.present session new.present now) (λ Claim. tells → WasOver (moment old) (moment new) new (Claim old.present session)) table next name reply answer buffer is had
       (λ number committed told. needs number committed) left,
 )
@@ -182,6 +183,14 @@ short_pages P platform platform_now tape tape_now ledger ledger_now session now 
     let few : P.capacity platform - P.head platform < needed_by session = omega (arith, short.is_needed, short.is_free, short.short) in
     subst (λ p. P.capacity p - P.head p < needed_by session) (sym short.same.1) few
 
+-- than those need that the session has behind it
+pub short_behind : {S R W : Type 0} (P : PlatformGhosts S) (platform platform_now : S) (tape tape_now : R) (ledger ledger_now : W) (session now : Session) (reply : CommitReply) (needed free : ℕ) → reply ≡ commits.Full needed free
+    → AnswersReply P platform platform_now tape tape_now ledger ledger_now session now reply → P.capacity platform_now - P.head platform_now < needed_by now
+short_behind P platform platform_now tape tape_now ledger ledger_now session now reply needed free is answers =
+    let short = subst (λ (r : CommitReply). AnswersReply P platform platform_now tape tape_now ledger ledger_now session now r) is answers in
+    let few = short_pages P platform platform_now tape tape_now ledger ledger_now session now reply needed free is answers in
+    subst (λ (s : Session). P.capacity platform_now - P.head platform_now < needed_by s) (sym short.same.0) few
+
 -- ---- blocks
 
 -- what the call for the block read
@@ -194,7 +203,7 @@ pub read_over : (tells : Type 0) (before image : Image) (session now : Session) 
     → IsBlockAt table name block at → ReadsAny (tells × IsMounted before session) before image session at bytes (Ok tt) → AnswersOver tells before image session now here table table (Read name block) buffer (Ok reply)
 read_over tells before image session now here table name block at reply bytes buffer keeps same is any =
     let Known : Type 0 = tells × IsMounted before session in (
-      read_done here (needed_by session) table name block at (said reply buffer) (trimmed bytes) same is,
+      read_done here (needed_by session) (needed_by now) table name block at (said reply buffer) (trimmed bytes) same is,
       subst (λ (r : Reply). DoesAny (λ Claim. Known → Claim before session image now) (λ Claim. Known → Claim before session image now) table r (Read name block) table) (sym same)
           (λ known. (looked_up Known before image session table name block at bytes is any known, keeps known.0)),
     )

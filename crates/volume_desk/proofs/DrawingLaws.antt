@@ -1,5 +1,5 @@
 -- Which keys a line draws, by its calls.
-use Rattle.std.proofs.Common.{◌≡◌, ◌+◌, ℕ, List, [], ◌∷◌, Option, None, Some, Result, Ok, Err, length, refl, ap, sym, subst, arith}
+use Rattle.std.proofs.Common.{◌≡◌, ◌≤◌, ◌+◌, ℕ, List, [], ◌∷◌, Option, None, Some, Result, Ok, Err, length, refl, ap, sym, subst, arith}
 use Rattle.std.specs.Prelude.{IfOk, OnOk}
 use Rattle.sdbt_base.specs.Told.{Drew}
 use Rattle.page_store.proofs.KeepingLaws.{drew_none, drew_then}
@@ -16,8 +16,8 @@ use Rattle.volume_lines.specs.declared.lines.Line.{Line as Parsed}
 use Rattle.volume_lines.specs.Replies.{said}
 use Rattle.volume_lines.specs.declared.replies.Reply.{Reply as Given}
 use Rattle.volume_lines.specs.declared.replies.Reply.TheVariants as given
-use Rattle.volume_desk.specs.Causes.{Draws, answer_in}
-use Rattle.volume_desk.specs.declared.serving.Answered.{Answered}
+use Rattle.volume_desk.specs.Causes.{Draws}
+use Rattle.volume_desk.specs.Reads.{reads_in}
 use Rattle.volume_desk.specs.Drawing.{DrewFor, DrewOne, Seals, Spends, Tally, TakesDrew, tally}
 use Rattle.volume_desk.specs.Turns.{NoBlock, commit_reply, destroy_reply}
 
@@ -42,15 +42,15 @@ refused_drew from table name block content buffer (given.Committed number) none 
 refused_drew from table name block content buffer given.Bad none = absurd none
 
 -- a line that leaves the tape and adds no page, whatever its answer
-pub read_spends : {T : Type 0} (tape : T) (drawn : Option (List (List ℕ))) (pages pages_now : ℕ) (name : List ℕ) (block : ℕ) (buffer : List ℕ) (answer : Result Given DeviceStop) → pages_now ≡ pages
-    → Spends tape tape (tally drawn pages) (tally drawn pages_now) (Read name block) buffer answer
-read_spends tape drawn pages pages_now name block buffer (Ok reply) same = record { undrawn = λ none. refl; unadded = λ none. same; drew = ([], refl, seals_none drawn pages pages_now same) }
-read_spends tape drawn pages pages_now name block buffer (Err stop) same = record { undrawn = λ none. refl; unadded = λ none. same; drew = tt }
+pub read_spends : {T : Type 0} (tells : Type 0) (tape : T) (drawn : Option (List (List ℕ))) (pages pages_now reads reads_now : ℕ) (table : List Volume) (name : List ℕ) (block : ℕ) (buffer : List ℕ) (answer : Result Given DeviceStop) → pages_now ≡ pages
+    → (tells → reads_now ≤ reads + reads_in table (Read name block) buffer answer) → Spends tells tape tape (tally drawn pages) (tally drawn pages_now) reads reads_now table (Read name block) buffer answer
+read_spends tells tape drawn pages pages_now reads reads_now table name block buffer (Ok reply) same read = record { undrawn = λ none. refl; unadded = λ none. same; drew = ([], refl, seals_none drawn pages pages_now same); read = read }
+read_spends tells tape drawn pages pages_now reads reads_now table name block buffer (Err stop) same read = record { undrawn = λ none. refl; unadded = λ none. same; drew = tt; read = read }
 
-pub trim_spends : {T : Type 0} (tape : T) (drawn : Option (List (List ℕ))) (pages pages_now : ℕ) (name : List ℕ) (block : ℕ) (buffer : List ℕ) (answer : Result Given DeviceStop) → pages_now ≡ pages
-    → Spends tape tape (tally drawn pages) (tally drawn pages_now) (Trim name block) buffer answer
-trim_spends tape drawn pages pages_now name block buffer (Ok reply) same = record { undrawn = λ none. refl; unadded = λ none. same; drew = ([], refl, seals_none drawn pages pages_now same) }
-trim_spends tape drawn pages pages_now name block buffer (Err stop) same = record { undrawn = λ none. refl; unadded = λ none. same; drew = tt }
+pub trim_spends : {T : Type 0} (tells : Type 0) (tape : T) (drawn : Option (List (List ℕ))) (pages pages_now reads reads_now : ℕ) (table : List Volume) (name : List ℕ) (block : ℕ) (buffer : List ℕ) (answer : Result Given DeviceStop) → pages_now ≡ pages
+    → (tells → reads_now ≤ reads + reads_in table (Trim name block) buffer answer) → Spends tells tape tape (tally drawn pages) (tally drawn pages_now) reads reads_now table (Trim name block) buffer answer
+trim_spends tells tape drawn pages pages_now reads reads_now table name block buffer (Ok reply) same read = record { undrawn = λ none. refl; unadded = λ none. same; drew = ([], refl, seals_none drawn pages pages_now same); read = read }
+trim_spends tells tape drawn pages pages_now reads reads_now table name block buffer (Err stop) same read = record { undrawn = λ none. refl; unadded = λ none. same; drew = tt; read = read }
 
 -- ---- one key
 
@@ -102,14 +102,11 @@ pub takes_none_drew : (from now : Tally) (name buffer : List ℕ) (refused : Opt
 takes_none_drew from now name buffer refused is takes = subst (λ (r : Option Given). TakesDrew from now name buffer r) is takes
 
 -- ---- a line that draws
-pub spends_some : {T : Type 0} (tape tape_now : T) (from now : Tally) (it : Line) (buffer : List ℕ) (answer : Result Given DeviceStop) → Draws it → IfOk answer (λ reply. DrewFor from it (said reply buffer) now) → Spends tape tape_now from now it buffer answer
-spends_some tape tape_now from now it buffer answer draws drew = record { undrawn = λ none. absurd (none draws); unadded = λ none. absurd (none draws); drew = drew }
-
--- the answer of which that speaks
-pub answered_drew : (from : Tally) (it : Line) (buffer : List ℕ) (now : Tally) (result : Result Answered DeviceStop) → IfOk result (λ done. DrewFor from it (said done.reply buffer) now) → IfOk (answer_in result) (λ reply. DrewFor from it (said reply buffer) now)
-answered_drew from it buffer now (Ok done) drew = drew
-answered_drew from it buffer now (Err stop) drew = tt
+pub spends_some : {T : Type 0} (tells : Type 0) (tape tape_now : T) (from now : Tally) (reads reads_now : ℕ) (table : List Volume) (it : Line) (buffer : List ℕ) (answer : Result Given DeviceStop) → Draws it → IfOk answer (λ reply. DrewFor from it (said reply buffer) now)
+    → (tells → reads_now ≤ reads + reads_in table it buffer answer) → Spends tells tape tape_now from now reads reads_now table it buffer answer
+spends_some tells tape tape_now from now reads reads_now table it buffer answer draws drew read = record { undrawn = λ none. absurd (none draws); unadded = λ none. absurd (none draws); drew = drew; read = read }
 
 -- ---- a line that is this one spends as this one
-pub spends_as : {T : Type 0} (tape tape_now : T) (from now : Tally) (line was : Parsed) (before buffer : List ℕ) (answer : Result Given DeviceStop) → line ≡ was → Spends tape tape_now from now (asked was before) buffer answer → Spends tape tape_now from now (asked line before) buffer answer
-spends_as tape tape_now from now line was before buffer answer is spends = subst (λ (l : Parsed). Spends tape tape_now from now (asked l before) buffer answer) (sym is) spends
+pub spends_as : {T : Type 0} (tells : Type 0) (tape tape_now : T) (from now : Tally) (reads reads_now : ℕ) (table : List Volume) (line was : Parsed) (before buffer : List ℕ) (answer : Result Given DeviceStop) → line ≡ was
+    → Spends tells tape tape_now from now reads reads_now table (asked was before) buffer answer → Spends tells tape tape_now from now reads reads_now table (asked line before) buffer answer
+spends_as tells tape tape_now from now reads reads_now table line was before buffer answer is spends = subst (λ (l : Parsed). Spends tells tape tape_now from now reads reads_now table (asked l before) buffer answer) (sym is) spends

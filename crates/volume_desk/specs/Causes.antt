@@ -57,30 +57,35 @@ IsAccepted blocks table (Trim name block) next = HasBlock table name block × (n
 IsAccepted blocks table (Destroy name) next = (v : Volume) × (v.name ≡ name) × IsTaken table v next
 IsAccepted blocks table Commit next = next ≡ table
 
--- the reply says that it is done, and be it without the commit of a destroy
-abbrev pub IsDone : Line → Reply → Type 0
-IsDone (Create name count) Created = Unit {0}
-IsDone (Read name block) (Content bytes) = Unit {0}
-IsDone (Write name block content) Done = Unit {0}
-IsDone (Trim name block) Done = Unit {0}
-IsDone (Destroy name) (Destroyed number) = Unit {0}
-IsDone (Destroy name) Uncommitted = Unit {0}
-IsDone Commit (Committed number) = Unit {0}
-IsDone _ _ = ⊥
+-- fewer pages are free than a commit needs that needs so many
+abbrev pub IsShortOf : Sizes → ℕ → Type 0
+IsShortOf here needed = here.capacity - here.pages < needed
+
+-- the reply says that it is done, and be it without the commit of a destroy: so it is only where fewer pages are free than the changes need that there are behind it
+abbrev pub IsDone : Sizes → ℕ → Line → Reply → Type 0
+IsDone here behind (Create name count) Created = Unit {0}
+IsDone here behind (Read name block) (Content bytes) = Unit {0}
+IsDone here behind (Write name block content) Done = Unit {0}
+IsDone here behind (Trim name block) Done = Unit {0}
+IsDone here behind (Destroy name) (Destroyed number) = Unit {0}
+IsDone here behind (Destroy name) Uncommitted = IsShortOf here behind
+IsDone here behind Commit (Committed number) = Unit {0}
+IsDone here behind _ _ = ⊥
 
 -- pages lack for it: it wants one, and none is free; or it commits, and fewer are free than the session's changes need
 abbrev pub LacksPages : Sizes → ℕ → Line → Type 0
 LacksPages here needed (Create name count) = here.capacity ≤ here.pages
 LacksPages here needed (Write name block content) = here.capacity ≤ here.pages
 LacksPages here needed (Destroy name) = here.capacity ≤ here.pages
-LacksPages here needed Commit = here.capacity - here.pages < needed
+LacksPages here needed Commit = IsShortOf here needed
 LacksPages here needed _ = ⊥
 
--- a reply to the line, over this table, and the table behind it: the line is refused; or it is accepted, and done, or pages lack. So many pages are needed by what the session had changed before the line
-abbrev pub TurnsTable : Sizes → ℕ → List Volume → Line → Reply → List Volume → Type 0
-TurnsTable here needed table it reply now =
+-- a reply to the line, over this table, and the table behind it: the line is refused; or it is accepted, and done, or pages lack. So many pages are needed by what the session had
+-- changed before the line, and so many by what it has changed behind it
+abbrev pub TurnsTable : Sizes → ℕ → ℕ → List Volume → Line → Reply → List Volume → Type 0
+TurnsTable here needed behind table it reply now =
     (IsRefused here.blocks table it reply × (now ≡ table))
-    ⊎ ((next : List Volume) × IsAccepted here.blocks table it next × ((IsDone it reply × (now ≡ next)) ⊎ (LacksPages here needed it × (reply ≡ Full) × (now ≡ table))))
+    ⊎ ((next : List Volume) × IsAccepted here.blocks table it next × ((IsDone here behind it reply × (now ≡ next)) ⊎ (LacksPages here needed it × (reply ≡ Full) × (now ≡ table))))
 
 -- ---- stops
 
@@ -132,20 +137,25 @@ StopsAny Known image blocks table it stop = MayStop Known image it stop × ((nex
 -- ---- answers
 
 -- the one table of a line's answers on any pages: which replies it may have, and what it did where this is known; or which stops, behind which there is this image
-abbrev pub AnswersAny : Type 0 → ((Image → Session → Image → Session → Type 0) → Type 0) → ((Image → Session → Image → Session → Type 0) → Type 0) → Image → Sizes → ℕ → List Volume → List Volume → Line → List ℕ → Result Given DeviceStop → Type 0
-AnswersAny Known Did HadLeft image here needed table table_now it buffer (Ok reply) =
-    TurnsTable here needed table it (said reply buffer) table_now × DoesAny (λ Claim. Known → Did Claim) (λ Claim. Known → HadLeft Claim) table (said reply buffer) it table_now
-AnswersAny Known Did HadLeft image here needed table table_now it buffer (Err stop) = StopsAny Known image here.blocks table it stop
+abbrev pub AnswersAny : Type 0 → ((Image → Session → Image → Session → Type 0) → Type 0) → ((Image → Session → Image → Session → Type 0) → Type 0) → Image → Sizes → ℕ → ℕ → List Volume → List Volume → Line → List ℕ → Result Given DeviceStop → Type 0
+AnswersAny Known Did HadLeft image here needed behind table table_now it buffer (Ok reply) =
+    TurnsTable here needed behind table it (said reply buffer) table_now × DoesAny (λ Claim. Known → Did Claim) (λ Claim. Known → HadLeft Claim) table (said reply buffer) it table_now
+AnswersAny Known Did HadLeft image here needed behind table table_now it buffer (Err stop) = StopsAny Known image here.blocks table it stop
 
 -- those of calls for blocks: what it did is so of the session and the image from before, and of those behind
 abbrev pub AnswersOver : Type 0 → Image → Image → Session → Session → Sizes → List Volume → List Volume → Line → List ℕ → Result Given DeviceStop → Type 0
 AnswersOver tells before image session now here table table_now it buffer result =
-    AnswersAny (tells × IsMounted before session) (Across before session image now) (Across before session image now) image here (needed_by session) table table_now it buffer result
+    AnswersAny (tells × IsMounted before session) (Across before session image now) (Across before session image now) image here (needed_by session) (needed_by now) table table_now it buffer result
+
+-- what a commit of the session needs that goes on, if one does
+abbrev pub needed_behind : Option Session → ℕ
+needed_behind None = 0
+needed_behind (Some now) = needed_by now
 
 -- those of a line, behind which this session goes on: what it did is so of that one; and what it left before a commit was so at a moment of the line
 abbrev pub AnswersAlong : Type 0 → History → History → Session → Option Session → Sizes → List Volume → List Volume → Line → List ℕ → Result Given DeviceStop → Type 0
 AnswersAlong tells old new session after here table table_now it buffer result =
-    AnswersAny tells (AcrossIf old.present session new.present after) (λ Claim. WasOver (moment old) (moment new) new (Claim old.present session)) new.present here (needed_by session) table table_now it buffer result
+    AnswersAny tells (AcrossIf old.present session new.present after) (λ Claim. WasOver (moment old) (moment new) new (Claim old.present session)) new.present here (needed_by session) (needed_behind after) table table_now it buffer result
 
 -- the answer of which that speaks
 abbrev pub answer_in : Result Answered DeviceStop → Result Given DeviceStop

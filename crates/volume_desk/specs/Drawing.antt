@@ -1,11 +1,13 @@
--- Which keys a line draws: each of them seals a page that is added.
+-- Which keys a line draws, each of which seals a page that is added, and how many pages it reads.
 use Rattle.std.specs.Prelude.{◌≡◌, ◌≤◌, ◌+◌, ℕ, List, ◌∷◌, [], Option, None, Some, Result, IfOk, length}
 use Rattle.page_store.specs.Keeping.{DrewAll}
 use Rattle.session_calls.specs.declared.stops.DeviceStop.{DeviceStop}
 use Rattle.volume_lines.specs.Lines.{Line, Create, Write, Destroy, Commit}
 use Rattle.volume_lines.specs.Replies.{Reply, Created, Done, Destroyed, Uncommitted, Committed, said}
 use Rattle.volume_lines.specs.declared.replies.Reply.{Reply as Given}
+use Rattle.volume_table.specs.declared.volume.Volume.{Volume}
 use Rattle.volume_desk.specs.Causes.{Draws}
+use Rattle.volume_desk.specs.Reads.{reads_in}
 
 -- the keys that a tape drew, and how many pages there are
 pub record Tally : Type 0 where
@@ -43,8 +45,9 @@ abbrev pub TakesDrew : Tally → Tally → List ℕ → List ℕ → Option Give
 TakesDrew from now name buffer None = DrewOne from now
 TakesDrew from now name buffer (Some reply) = DrewFor from (Destroy name) (said reply buffer) now
 
--- a line that draws no key leaves the tape, and adds no page; and with a reply it drew as many as that says
-pub record Spends {T : Type 0} (tape tape_now : T) (from now : Tally) (it : Line) (buffer : List ℕ) (answer : Result Given DeviceStop) : Type 0 where
+-- what a line costs: one that draws no key leaves the tape, and adds no page; with a reply it drew as many as that says; and over this table it read as many pages at most as its answer says
+pub record Spends {T : Type 0} (tells : Type 0) (tape tape_now : T) (from now : Tally) (reads reads_now : ℕ) (table : List Volume) (it : Line) (buffer : List ℕ) (answer : Result Given DeviceStop) : Type 0 where
   pub undrawn : (Draws it → ⊥) → tape_now ≡ tape
   pub unadded : (Draws it → ⊥) → now.pages ≡ from.pages
   pub drew : IfOk answer (λ reply. DrewFor from it (said reply buffer) now)
+  pub read : tells → reads_now ≤ reads + reads_in table it buffer answer

@@ -1,4 +1,5 @@
 pub mod Turns
 pub mod Causes
 pub mod Done
+pub mod Reads
 pub mod Drawing

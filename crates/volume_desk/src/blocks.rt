@@ -10,6 +10,7 @@ ghost use Rattle.volume_terms.specs.Turn.{OnBlock, Reads, Trims, Writes};
 ghost use Rattle.session_calls.specs.Calling.{Calls};
 ghost use Rattle.volume_desk.specs.Causes.{AnswersOver, sizes};
 ghost use Rattle.volume_desk.specs.Drawing.{DrewFor, tally};
+ghost use Rattle.volume_desk.specs.Reads.{reads_in};
 ghost use Rattle.volume_desk.specs.Turns.{IsBlockAt, IsHeld, NoBlock, TurnsTo};
 
 use device_session::Session;
@@ -48,7 +49,7 @@ pub(crate) fn read<P: Platform>(
 ) -> Result<Reply, DeviceStop>
     requires open { IsOpen session.old (P.head platform.old) }
     requires table { IsTable (blocks_of session.old) table.now }
-    ensures calls { (drawn : Drawn) → Calls P.Platform 0 platform.old platform.new drawn drawn session.old session.new result }
+    ensures calls { (drawn : Drawn) → Calls P.Platform 0 (reads_in table.now (lines.Read name.now block) buffer.new result) platform.old platform.new drawn drawn session.old session.new result }
     ensures written { IfOk result (λ reply. CanWrite (said reply buffer.new)) }
     ensures short { IfOk result FitsBlock }
     ensures turns { P.tells → (entry : Held) → IsHeld (P.history platform.old).present (P.head platform.old) session.old table.now entry
@@ -80,7 +81,8 @@ pub(crate) fn write<P: Platform, T: Tape>(
     requires size { length content.now ≤ 4096 }
     requires open { IsOpen session.old (P.head platform.old) }
     requires table { IsTable (blocks_of session.old) table.now }
-    ensures calls { Calls P.Platform 1 platform.old platform.new (drawn_by T.Tape tape.old) (drawn_by T.Tape tape.new) session.old session.new result }
+    ensures calls { (buffer : List ℕ) → Calls P.Platform 1 (reads_in table.now (lines.Write name.now block content.now) buffer result) platform.old platform.new
+        (drawn_by T.Tape tape.old) (drawn_by T.Tape tape.new) session.old session.new result }
     ensures words { IfOk result IsWords }
     ensures turns { P.tells → (entry : Held) (buffer : List ℕ) → IsHeld (P.history platform.old).present (P.head platform.old) session.old table.now entry
         → TurnsTo (P.history platform.new).present (P.head platform.new) table.now session.new entry
@@ -115,7 +117,7 @@ pub(crate) fn trim<P: Platform>(
 ) -> Result<Reply, DeviceStop>
     requires open { IsOpen session.old (P.head platform.old) }
     requires table { IsTable (blocks_of session.old) table.now }
-    ensures calls { (drawn : Drawn) → Calls P.Platform 1 platform.old platform.new drawn drawn session.old session.new result }
+    ensures calls { (drawn : Drawn) (buffer : List ℕ) → Calls P.Platform 1 (reads_in table.now (lines.Trim name.now block) buffer result) platform.old platform.new drawn drawn session.old session.new result }
     ensures head { P.head platform.new ≡ P.head platform.old }
     ensures words { IfOk result IsWords }
     ensures turns { P.tells → (entry : Held) (buffer : List ℕ) → IsHeld (P.history platform.old).present (P.head platform.old) session.old table.now entry

@@ -1,5 +1,5 @@
 //! Writes a table, and trims the blocks of a volume.
-ghost use Rattle.std.specs.Prelude.{◌≡◌, ◌≢◌, ◌+◌, ◌≤◌, Some, IfErr, OnOk};
+ghost use Rattle.std.specs.Prelude.{◌≡◌, ◌≢◌, ◌+◌, ◌*◌, ◌≤◌, Some, IfErr, OnOk};
 ghost use Rattle.sdbt_base.specs.Arrays.{Device, Session as OpenSession, mounted, written};
 ghost use Rattle.byte_arrays.specs.Ranges.{blocks_from};
 ghost use Rattle.device_course.specs.States.{IsAt};
@@ -31,7 +31,7 @@ pub(crate) fn change<P: Platform, T: Tape>(
     requires open { IsOpen session.old (P.head platform.old) }
     requires inside { IsInside (blocks_of session.old) volume.now }
     requires free { P.head platform.old ≢ P.capacity platform.old }
-    ensures calls { Calls P.Platform (1 + volume.now.count) platform.old platform.new (drawn_by T.Tape tape.old) (drawn_by T.Tape tape.new) session.old session.new result }
+    ensures calls { Calls P.Platform (1 + volume.now.count) (40 + 40 * volume.now.count) platform.old platform.new (drawn_by T.Tape tape.old) (drawn_by T.Tape tape.new) session.old session.new result }
     ensures head { OnOk result (P.head platform.new ≡ P.head platform.old + 1) }
     ensures drew { OnOk result (DrewOne (tally (T.drawn tape.old) (P.head platform.old)) (tally (T.drawn tape.new) (P.head platform.new))) }
     ensures leads { P.tells → (device : Device) (array : OpenSession) → IsAt (P.history platform.old).present (Some session.old) (mounted device array)
@@ -56,7 +56,7 @@ fn trim_range<P: Platform>(
 ) -> Result<(), DeviceStop>
     requires open { IsOpen session.old (P.head platform.old) }
     requires inside { IsInside (blocks_of session.old) volume.now }
-    ensures calls { (drawn : Drawn) → Calls P.Platform volume.now.count platform.old platform.new drawn drawn session.old session.new result }
+    ensures calls { (drawn : Drawn) → Calls P.Platform volume.now.count (40 * volume.now.count) platform.old platform.new drawn drawn session.old session.new result }
     ensures head { P.head platform.new ≡ P.head platform.old }
     ensures leads { P.tells → (device : Device) (array : OpenSession) → IsAt (P.history platform.old).present (Some session.old) (mounted device array)
         → ChangesTo (P.history platform.new).present session.new device (trim_all array (blocks_from volume.now.start volume.now.count)) result }

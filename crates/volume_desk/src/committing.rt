@@ -9,11 +9,12 @@ ghost use Rattle.session_calls.specs.Blame.{IsBlamed};
 ghost use Rattle.volume_table.specs.Tables.{IsTable};
 ghost use Rattle.volume_table.specs.declared.volume.Volume.{Volume};
 ghost use Rattle.volume_lines.specs.Lines as lines;
-ghost use Rattle.volume_lines.specs.Replies.{IsWords, said};
+ghost use Rattle.volume_lines.specs.Replies.{IsWords};
 ghost use Rattle.session_calls.specs.Calling.{Calls};
 ghost use Rattle.session_calls.specs.Carrying.{Carries, IsReady};
 ghost use Rattle.volume_desk.specs.Causes.{AnswersAlong, TakesOver, answer_in, sizes};
-ghost use Rattle.volume_desk.specs.Drawing.{DrewFor, TakesDrew, tally};
+ghost use Rattle.volume_desk.specs.Drawing.{Spends, TakesDrew, tally};
+ghost use Rattle.volume_desk.specs.Reads.{reads_out};
 ghost use Rattle.volume_desk.specs.Turns.{IsHeld, ServesAs, TakesOut, commit_reply, destroy_reply, goes_on};
 
 use crate::changing::change;
@@ -45,8 +46,9 @@ pub(crate) fn commit<P: Platform, T: Tape, L: Sink>(
     // On any pages: why it is answered so.
     ensures any { (table : List Volume) (buffer : List ℕ) → AnswersAlong P.tells (P.history platform.old) (P.history platform.new) session (goes_on result)
         (sizes (blocks_of session) (P.head platform.new) (P.capacity platform.new)) table table lines.Commit buffer (answer_in result) }
-    // Which keys it draws, each for a page.
-    ensures drew { (buffer : List ℕ) → IfOk result (λ done. DrewFor (tally (T.drawn tape.old) (P.head platform.old)) lines.Commit (said done.reply buffer) (tally (T.drawn tape.new) (P.head platform.new))) }
+    // Which keys it draws, each for a page, and that it reads no page.
+    ensures spends { (table : List Volume) (buffer : List ℕ) → Spends P.tells tape.old tape.new (tally (T.drawn tape.old) (P.head platform.old)) (tally (T.drawn tape.new) (P.head platform.new))
+        (P.reads platform.old) (P.reads platform.new) table lines.Commit buffer (answer_in result) }
 {
     match commit_session(session, platform, tape, ledger) {
         Ok(done) => Ok(Answered {
@@ -90,8 +92,9 @@ pub(crate) fn destroy<P: Platform, T: Tape, L: Sink>(
     // On any pages: why it is answered so.
     ensures any { (buffer : List ℕ) → AnswersAlong P.tells (P.history platform.old) (P.history platform.new) first (goes_on result)
         (sizes (blocks_of first) (P.head platform.new) (P.capacity platform.new)) table.old table.new (lines.Destroy name.now) buffer (answer_in result) }
-    // Which keys it draws, each for a page.
-    ensures drew { (buffer : List ℕ) → IfOk result (λ done. DrewFor (tally (T.drawn tape.old) (P.head platform.old)) (lines.Destroy name.now) (said done.reply buffer) (tally (T.drawn tape.new) (P.head platform.new))) }
+    // Which keys it draws, each for a page, and how many pages it reads.
+    ensures spends { (buffer : List ℕ) → Spends P.tells tape.old tape.new (tally (T.drawn tape.old) (P.head platform.old)) (tally (T.drawn tape.new) (P.head platform.new))
+        (P.reads platform.old) (P.reads platform.new) table.old (lines.Destroy name.now) buffer (answer_in result) }
 {
     let mut session = first;
     let refused = match take_out(table, &mut session, platform, tape, name) {
@@ -129,7 +132,7 @@ fn take_out<P: Platform, T: Tape>(
 ) -> Result<Option<Reply>, DeviceStop>
     requires open { IsOpen session.old (P.head platform.old) }
     requires table { IsTable (blocks_of session.old) table.old }
-    ensures calls { Calls P.Platform (1 + blocks_of session.old) platform.old platform.new (drawn_by T.Tape tape.old) (drawn_by T.Tape tape.new) session.old session.new result }
+    ensures calls { Calls P.Platform (1 + blocks_of session.old) (reads_out table.old name.now result) platform.old platform.new (drawn_by T.Tape tape.old) (drawn_by T.Tape tape.new) session.old session.new result }
     ensures table { IsTable (blocks_of session.old) table.new }
     ensures words { IfOk result (λ refused. IfSome refused IsWords) }
     ensures turns { P.tells → (entry : Held) (buffer : List ℕ) → IsHeld (P.history platform.old).present (P.head platform.old) session.old table.old entry

@@ -13,6 +13,7 @@ ghost use Rattle.volume_terms.specs.Volumes.{IsCount, IsNamed};
 ghost use Rattle.session_calls.specs.Calling.{Calls};
 ghost use Rattle.volume_desk.specs.Causes.{AnswersOver, sizes};
 ghost use Rattle.volume_desk.specs.Drawing.{DrewFor, tally};
+ghost use Rattle.volume_desk.specs.Reads.{reads_in};
 ghost use Rattle.volume_desk.specs.Turns.{IsHeld, TurnsTo};
 
 use crate::changing::change;
@@ -35,7 +36,8 @@ pub(crate) fn create<P: Platform, T: Tape>(
     requires open { IsOpen session.old (P.head platform.old) }
     requires table { IsTable (blocks_of session.old) table.old }
     requires name { IsName name.now }
-    ensures calls { Calls P.Platform (1 + blocks_of session.old) platform.old platform.new (drawn_by T.Tape tape.old) (drawn_by T.Tape tape.new) session.old session.new result }
+    ensures calls { (buffer : List ℕ) → Calls P.Platform (1 + blocks_of session.old) (reads_in table.old (lines.Create name.now count) buffer result) platform.old platform.new
+        (drawn_by T.Tape tape.old) (drawn_by T.Tape tape.new) session.old session.new result }
     ensures table { IsTable (blocks_of session.old) table.new }
     ensures words { IfOk result IsWords }
     ensures turns { P.tells → (entry : Held) (buffer : List ℕ) → IsHeld (P.history platform.old).present (P.head platform.old) session.old table.old entry

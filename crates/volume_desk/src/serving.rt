@@ -15,6 +15,7 @@ ghost use Rattle.session_calls.specs.Calling.{Calls};
 ghost use Rattle.session_calls.specs.Carrying.{Carries, IsReady};
 ghost use Rattle.volume_desk.specs.Causes.{AnswersAlong, AnswersOver, answer_in, sizes};
 ghost use Rattle.volume_desk.specs.Drawing.{Spends, tally};
+ghost use Rattle.volume_desk.specs.Reads.{reads_in};
 ghost use Rattle.volume_desk.specs.Turns.{HasPages, IsHeld, IsOfBlocks, ServesAs, TurnsTo, goes_on};
 
 use crate::blocks::{read, trim, write};
@@ -73,9 +74,9 @@ pub fn serve_line<P: Platform, T: Tape, L: Sink>(
     ensures any { AnswersAlong P.tells (P.history platform.old) (P.history platform.new) first (goes_on result)
         (sizes (blocks_of first) (P.head platform.new) (P.capacity platform.new)) desk.old.table desk.new.table
         (asked line.now desk.old.buffer) desk.new.buffer (answer_in result) }
-    // Which keys it draws, each for a page.
-    ensures spends { Spends tape.old tape.new (tally (T.drawn tape.old) (P.head platform.old)) (tally (T.drawn tape.new) (P.head platform.new))
-        (asked line.now desk.old.buffer) desk.new.buffer (answer_in result) }
+    // Which keys it draws, each for a page, and how many pages it reads.
+    ensures spends { Spends P.tells tape.old tape.new (tally (T.drawn tape.old) (P.head platform.old)) (tally (T.drawn tape.new) (P.head platform.new))
+        (P.reads platform.old) (P.reads platform.new) desk.old.table (asked line.now desk.old.buffer) desk.new.buffer (answer_in result) }
 {
     match line {
         Line::Commit => return commit(first, platform, tape, ledger),
@@ -104,7 +105,8 @@ fn serve_blocks<P: Platform, T: Tape>(
     requires spelled { (text : List ℕ) × Spells text (asked line.now desk.old.buffer) }
     requires fits { FitsLine line.now }
     requires kind { IsOfBlocks line.now }
-    ensures calls { Calls P.Platform (1 + blocks_of session.old) platform.old platform.new (drawn_by T.Tape tape.old) (drawn_by T.Tape tape.new) session.old session.new result }
+    ensures calls { Calls P.Platform (1 + blocks_of session.old) (reads_in desk.old.table (asked line.now desk.old.buffer) desk.new.buffer result) platform.old platform.new
+        (drawn_by T.Tape tape.old) (drawn_by T.Tape tape.new) session.old session.new result }
     ensures table { IsTable (blocks_of session.old) desk.new.table }
     ensures written { IfOk result (λ reply. CanWrite (said reply desk.new.buffer)) }
     ensures short { IfOk result FitsBlock }
@@ -116,9 +118,9 @@ fn serve_blocks<P: Platform, T: Tape>(
     ensures any { AnswersOver P.tells (P.history platform.old).present (P.history platform.new).present session.old session.new
         (sizes (blocks_of session.old) (P.head platform.new) (P.capacity platform.new)) desk.old.table desk.new.table
         (asked line.now desk.old.buffer) desk.new.buffer result }
-    // Which keys it draws, each for a page.
-    ensures spends { Spends tape.old tape.new (tally (T.drawn tape.old) (P.head platform.old)) (tally (T.drawn tape.new) (P.head platform.new))
-        (asked line.now desk.old.buffer) desk.new.buffer result }
+    // Which keys it draws, each for a page, and how many pages it reads.
+    ensures spends { Spends P.tells tape.old tape.new (tally (T.drawn tape.old) (P.head platform.old)) (tally (T.drawn tape.new) (P.head platform.new))
+        (P.reads platform.old) (P.reads platform.new) desk.old.table (asked line.now desk.old.buffer) desk.new.buffer result }
 {
     match line {
         Line::Create { name, count } => {

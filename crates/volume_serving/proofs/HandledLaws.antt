@@ -36,11 +36,13 @@ use Rattle.device_course.specs.Course.{MadeBetween}
 use Rattle.volume_desk.specs.Causes.{Draws, StopsAny, TurnsTable, sizes}
 use Rattle.volume_desk.specs.Done.{DoesAny, WasOver}
 use Rattle.volume_desk.specs.Drawing.{DrewFor, tally}
+use Rattle.volume_desk.specs.Reads.{reads_for, reads_with}
+use Rattle.volume_desk.proofs.ReadLaws.{with_reply}
 use Rattle.volume_desk.specs.Turns.{HasPages, IsHeld, Served, Shows, Stopped, StopsAt}
 use Rattle.volume_serving.specs.World.{World, IsOn}
 use Rattle.volume_serving.specs.Handled.{ending_of, goes_on, AreMany, AreShown, EndsOn, Handled, OnLines, Replied}
 use Rattle.volume_serving.specs.Drawing.{DrewUntil, tally_of}
-use Rattle.volume_serving.specs.Tabled.{Did, IfStopped, IsTurnOn, OnTables, Pause, pause}
+use Rattle.volume_serving.specs.Tabled.{Did, IfStopped, IsTurnOn, OnTables, Pause, ReadsOn, paused}
 use Rattle.volume_serving.proofs.DrawingLaws.{until_bad, until_cut, until_line, until_longer, until_none, until_then}
 use Rattle.volume_serving.proofs.TabledLaws.{did_now, if_stopped_behind, if_stopped_longer, next_behind, next_longer, tables_cut, tables_longer, tables_nothing, tables_then}
 
@@ -190,7 +192,7 @@ replied_then tells blocks old mid new ending lines more put others one two =
       behind = two.behind;
       many = subst (λ (n : ℕ). AreMany n (length (lines ++ more)) ending) (sym (length-append one.replies two.replies))
           (subst (λ (n : ℕ). AreMany (length one.replies + length two.replies) n ending) (sym (length-append lines more)) (many_then (length one.replies) (length two.replies) (length lines) (length more) ending one.many two.many));
-      tables = λ held is. tables_then tells blocks (pause (moment old.outside.history) held old.table) mid.session new.session mid.table new.table old.outside mid.outside new.outside lines more one.replies two.replies ending two.later one.many
+      tables = λ held is. tables_then tells blocks (paused old.outside held old.table) mid.session new.session mid.table new.table old.outside mid.outside new.outside lines more one.replies two.replies ending two.later one.many
           (one.tables held is) two.tables;
       drew = until_then (tally_of old.outside) (tally_of mid.outside) (tally_of new.outside) lines more one.replies two.replies one.many one.drew two.drew;
       later = later_then old.outside mid.outside new.outside one.later two.later;
@@ -248,7 +250,7 @@ handled_longer tells blocks old new stop lines more a b line p =
         put_is = r.put_is;
         behind = r.behind;
         many = subst (λ (n : ℕ). AreMany (length r.replies) n (Err stop)) (sym (length-append lines more)) (many_longer (length r.replies) (length lines) (length more) stop line r.many);
-        tables = λ held is. tables_longer tells blocks (pause (moment old.outside.history) held old.table) new.session new.table old.outside new.outside lines more r.replies stop line (r.tables held is);
+        tables = λ held is. tables_longer tells blocks (paused old.outside held old.table) new.session new.table old.outside new.outside lines more r.replies stop line (r.tables held is);
         drew = until_longer (tally_of old.outside) (tally_of new.outside) lines more r.replies r.drew;
         later = r.later;
         led = λ told entry on. on_longer old new entry lines more r.replies r.part stop line (r.led told entry on);
@@ -304,13 +306,14 @@ served_turn old new session now table_now entry text it reply going spelled on s
 shown_one : (old new : History) (reply : Reply) (next : Held) → moment old ≤ moment new → Shows new.present reply next → AreShown new (moment old) (reply ∷ []) (next ∷ [])
 shown_one old new reply next later shows = (moment new, later, omega arith, subst (λ (image : Image). Shows image reply next) (sym (image_at-now new (moment new) (omega arith))) shows, tt)
 
--- what is said of it and its reply on any pages: it is one over the table, what a content is, and which keys it drew, whether the reply is put or not
+-- what is said of it and its reply on any pages: it is one over the table, what a content is, which keys it drew, and how many pages it read, whether the reply is put or not
 pub record SaysOf (tells : Type 0) (blocks : ℕ) (old : World) (now : Session) (table_now : List Volume) (new : Outside) (text : List ℕ) (reply : Reply) : Type 0 where
   pub extends : tells → Extends old.outside.history new.history
   pub turn : (held : Session) → old.session ≡ Some held
-      → IsTurnOn (sizes blocks new.head new.capacity) (Did tells new.history) (pause (moment old.outside.history) held old.table) text reply (pause (moment new.history) now table_now)
+      → IsTurnOn (sizes blocks new.head new.capacity) (Did tells new.history) (paused old.outside held old.table) text reply (paused new now table_now)
   pub drew : DrewUntil (tally_of old.outside) (text ∷ []) (reply ∷ []) (tally_of new)
   pub cut : DrewUntil (tally_of old.outside) (text ∷ []) [] (tally_of new)
+  pub read : tells → (held : Session) → ReadsOn new.reads (paused old.outside held old.table) (text ∷ []) []
 
 -- the session that is held is one
 same_held : (old : World) (session held : Session) → old.session ≡ Some session → old.session ≡ Some held → session ≡ held
@@ -320,9 +323,10 @@ same_held old session held going is = let e : Some session ≡ Some held = sym g
 pub bad_says : (tells : Type 0) (blocks : ℕ) (old : World) (session : Session) (text : List ℕ) → old.session ≡ Some session → IsBad text → SaysOf tells blocks old session old.table old.outside text Bad
 bad_says tells blocks old session text going bad = record {
   extends = λ told. Extends-refl old.outside.history;
-  turn = λ held is. inr (bad, refl, ap (λ (s : Session). pause (moment old.outside.history) s old.table) (same_held old session held going is));
+  turn = λ held is. inr (bad, refl, ap (λ (s : Session). paused old.outside s old.table) (same_held old session held going is));
   drew = until_bad (tally_of old.outside) text bad;
   cut = until_none (tally_of old.outside) (text ∷ []);
+  read = λ told held. inl (omega arith);
 }
 
 -- a line that draws no key leaves the tally
@@ -332,15 +336,16 @@ still_of draws tape tape_now pages pages_now it undrawn unadded none = λ k. tal
 
 -- one in the grammar, by what the desk says of it
 pub served_says : (tells : Type 0) (blocks : ℕ) (old : World) (session now : Session) (table_now : List Volume) (new : Outside) (text : List ℕ) (it : Line) (reply : Reply) → old.session ≡ Some session → Spells text it → (tells → Extends old.outside.history new.history)
-    → (tells → IsMounted new.history.present now) → blocks_of now ≡ blocks_of session → TurnsTable (sizes blocks new.head new.capacity) (needed_by session) old.table it reply table_now
+    → (tells → IsMounted new.history.present now) → blocks_of now ≡ blocks_of session → TurnsTable (sizes blocks new.head new.capacity) (needed_by session) (needed_by now) old.table it reply table_now
     × DoesAny (λ Claim. tells → Claim old.outside.history.present session new.history.present now) (λ Claim. tells → WasOver (moment old.outside.history) (moment new.history) new.history (Claim old.outside.history.present session)) old.table reply it table_now
-    → DrewFor (tally_of old.outside) it reply (tally_of new) → ((Draws it → ⊥) → tally_of new ≡ tally_of old.outside) → SaysOf tells blocks old now table_now new text reply
-served_says tells blocks old session now table_now new text it reply going spelled extends goes blocks_same any drew still = record {
+    → DrewFor (tally_of old.outside) it reply (tally_of new) → ((Draws it → ⊥) → tally_of new ≡ tally_of old.outside) → (tells → new.reads ≤ old.outside.reads + reads_with old.table it reply) → SaysOf tells blocks old now table_now new text reply
+served_says tells blocks old session now table_now new text it reply going spelled extends goes blocks_same any drew still few = record {
   extends = extends;
-  turn = λ held is. subst (λ (s : Session). IsTurnOn (sizes blocks new.head new.capacity) (Did tells new.history) (pause (moment old.outside.history) s old.table) text reply (pause (moment new.history) now table_now)) (same_held old session held going is)
-      (inl (it, spelled, any.0, did_now tells old.outside.history new.history session now old.table it reply table_now extends goes blocks_same any.1));
+  turn = λ held is. subst (λ (s : Session). IsTurnOn (sizes blocks new.head new.capacity) (Did tells new.history) (paused old.outside s old.table) text reply (paused new now table_now)) (same_held old session held going is)
+      (inl (it, spelled, any.0, did_now tells old.outside.history new.history session now old.table it reply table_now old.outside.reads new.reads few extends goes blocks_same any.1));
   drew = until_line (tally_of old.outside) (tally_of new) text it reply spelled drew;
   cut = until_cut (tally_of old.outside) (tally_of new) text it drew.0 spelled still drew.2.drew;
+  read = λ told held. inr (it, spelled, omega (arith, few told, with_reply old.table it reply));
 }
 
 -- its reply is put
@@ -357,7 +362,7 @@ line_put tells blocks old new now text reply a b going later says turns got = re
     put_is = sym (append-nil (line_of reply ++ []) ∙ append-nil (line_of reply));
     behind = refl;
     many = refl;
-    tables = λ held is. let behind : Pause = pause (moment new.outside.history) now new.table in record { last = behind; extends = says.extends; turns = (behind, says.turn held is, refl); going = (now, going, refl); stopped = tt };
+    tables = λ held is. let behind : Pause = paused new.outside now new.table in record { last = behind; extends = says.extends; turns = (behind, says.turn held is, refl); going = (now, going, refl); reads = λ told. inl (omega arith); stopped = tt };
     drew = says.drew;
     later = later;
     led = λ told entry on.
@@ -386,7 +391,7 @@ line_cut tells blocks old new now image head table_now text reply a b later says
     put_is = refl;
     behind = inl (reply, (n, refl));
     many = omega arith;
-    tables = λ held is. record { last = pause (moment old.outside.history) held old.table; extends = says.extends; turns = refl; going = tt; stopped = tt };
+    tables = λ held is. record { last = paused old.outside held old.table; extends = says.extends; turns = refl; going = tt; reads = λ told. says.read told held; stopped = tt };
     drew = says.cut;
     later = later;
     led = λ told entry on.
@@ -415,9 +420,10 @@ stop_ends new capacity table entry text it ahead (device.BadRecord addr) spelled
 -- the device stopped at it
 pub line_stop : (tells : Type 0) (blocks : ℕ) (old new : World) (session : Session) (text : List ℕ) (it : Line) (stop : DeviceStop) (a : Option (List ℕ)) → old.session ≡ Some session → Spells text it
     → StopsAny tells new.outside.history.present blocks old.table it stop → IsLater old.outside new.outside → (tells → Extends old.outside.history new.outside.history) → DrewUntil (tally_of old.outside) (text ∷ []) [] (tally_of new.outside)
+    → (tells → new.outside.reads ≤ old.outside.reads + reads_for old.table it)
     → (tells → (entry : Held) → IsHeld old.outside.history.present old.outside.head session old.table entry → Stopped old.outside new.outside old.table entry it stop)
     → Handled tells blocks old new (Err (stops.Device stop)) (text ∷ []) a a
-line_stop tells blocks old new session text it stop a going spelled may later extends drew stopped = record {
+line_stop tells blocks old new session text it stop a going spelled may later extends drew few stopped = record {
   put = [];
   got = Got-nothing a;
   replied = record {
@@ -426,7 +432,7 @@ line_stop tells blocks old new session text it stop a going spelled may later ex
     put_is = refl;
     behind = refl;
     many = omega arith;
-    tables = λ held is. record { last = pause (moment old.outside.history) held old.table; extends = extends; turns = refl; going = tt; stopped = (it, spelled, may) };
+    tables = λ held is. record { last = paused old.outside held old.table; extends = extends; turns = refl; going = tt; reads = λ told. inr (it, spelled, few told); stopped = (it, spelled, may) };
     drew = drew;
     later = later;
     led = λ told entry on.
@@ -468,7 +474,7 @@ on_cut old new entry lines replies part on = (
 -- a run that handled its lines, and ended so behind them
 handled_ended : (tells : Type 0) (blocks : ℕ) (old new : World) (ending : Ending) (lines : List (List ℕ)) (a b : Option (List ℕ)) (p : Handled tells blocks old new (Ok tt) lines a b) → IsBehind line_of no_line p.replied.part ending
     → AreMany (length p.replied.replies) (length lines) ending
-    → ((held : Session) → old.session ≡ Some held → OnTables tells blocks (pause (moment old.outside.history) held old.table) new.session new.table old.outside new.outside lines p.replied.replies ending)
+    → ((held : Session) → old.session ≡ Some held → OnTables tells blocks (paused old.outside held old.table) new.session new.table old.outside new.outside lines p.replied.replies ending)
     → ((entry : Held) → OnLines old new entry lines p.replied.replies p.replied.part (Ok tt) → OnLines old new entry lines p.replied.replies p.replied.part ending) → Handled tells blocks old new ending lines a b
 handled_ended tells blocks old new ending lines a b p behind many tables on = let r = p.replied in record {
   put = p.put;
@@ -489,8 +495,8 @@ handled_ended tells blocks old new ending lines a b p behind many tables on = le
 pub handled_cut : (tells : Type 0) (blocks : ℕ) (old new : World) (lines : List (List ℕ)) (a b : Option (List ℕ)) → Handled tells blocks old new (Ok tt) lines a b
     → Handled tells blocks old new (Err stops.Source) lines a b × Handled tells blocks old new (Err stops.Limit) lines a b
 handled_cut tells blocks old new lines a b p = let r = p.replied in (
-  handled_ended tells blocks old new (Err stops.Source) lines a b p r.behind r.many (λ held is. (tables_cut tells blocks (pause (moment old.outside.history) held old.table) new.session new.table old.outside new.outside lines r.replies (r.tables held is)).0) (λ entry on. (on_cut old new entry lines r.replies r.part on).0),
-  handled_ended tells blocks old new (Err stops.Limit) lines a b p r.behind r.many (λ held is. (tables_cut tells blocks (pause (moment old.outside.history) held old.table) new.session new.table old.outside new.outside lines r.replies (r.tables held is)).1) (λ entry on. (on_cut old new entry lines r.replies r.part on).1),
+  handled_ended tells blocks old new (Err stops.Source) lines a b p r.behind r.many (λ held is. (tables_cut tells blocks (paused old.outside held old.table) new.session new.table old.outside new.outside lines r.replies (r.tables held is)).0) (λ entry on. (on_cut old new entry lines r.replies r.part on).0),
+  handled_ended tells blocks old new (Err stops.Limit) lines a b p r.behind r.many (λ held is. (tables_cut tells blocks (paused old.outside held old.table) new.session new.table old.outside new.outside lines r.replies (r.tables held is)).1) (λ entry on. (on_cut old new entry lines r.replies r.part on).1),
 )
 
 -- ---- how many replies there are

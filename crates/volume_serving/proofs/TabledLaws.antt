@@ -1,5 +1,5 @@
 -- Replies over a table, and stops at a line, behind other lines and before more of them.
-use Rattle.std.proofs.Common.{◌≡◌, ◌≤◌, ◌<◌, ◌-◌, ◌∙◌, ℕ, List, [], ◌∷◌, ◌++◌, Option, Some, Ok, Err, inl, inr, length, refl, sym, subst, arith}
+use Rattle.std.proofs.Common.{◌≡◌, ◌≤◌, ◌<◌, ◌+◌, ◌-◌, ◌∙◌, ℕ, List, [], ◌∷◌, ◌++◌, Option, Some, Ok, Err, inl, inr, length, refl, sym, subst, arith}
 use Rattle.platform.specs.Image.{Image}
 use Rattle.platform.specs.History.{Extends, History, image_at, moment}
 use Rattle.platform.proofs.Moments.{Extends-refl, Extends-trans, image_at-now}
@@ -14,11 +14,12 @@ use Rattle.session_calls.specs.declared.stops.DeviceStop.{DeviceStop}
 use Rattle.volume_table.specs.declared.volume.Volume.{Volume}
 use Rattle.volume_lines.specs.Grammar.{Spells}
 use Rattle.volume_lines.specs.Lines.{Line, Create, Read, Write, Trim, Destroy, Commit}
-use Rattle.volume_lines.specs.Replies.{Reply}
-use Rattle.volume_desk.specs.Causes.{LacksPages, Sizes, StopsAny, TurnsTable, sizes}
+use Rattle.volume_lines.specs.Replies.{Reply, Uncommitted}
+use Rattle.volume_desk.specs.Causes.{IsDone, LacksPages, Sizes, StopsAny, TurnsTable, sizes}
 use Rattle.volume_desk.specs.Done.{Across, DoesAny, WasOver}
+use Rattle.volume_desk.specs.Reads.{reads_for, reads_with}
 use Rattle.volume_desk.proofs.DoneLaws.{does_follows, was_longer}
-use Rattle.volume_serving.specs.Tabled.{AreTurnsOn, Did, IfNext, IfStopped, IsTurnOn, OnTables, Pause, pause}
+use Rattle.volume_serving.specs.Tabled.{AreTurnsOn, Did, IfNext, IfStopped, IsTurnOn, OnTables, Pause, ReadsOn, pause, paused}
 
 -- ---- the line in hand
 
@@ -48,6 +49,16 @@ if_stopped_longer Claim lines more replies stops.Limit line stopped = tt
 if_stopped_longer Claim lines more replies stops.Sink line stopped = tt
 if_stopped_longer Claim lines more replies (stops.Device stop) line stopped = next_longer lines more replies (λ text. (it : Line) × Spells text it × Claim stop it) stopped
 
+-- ---- what the line in hand read
+
+reads_behind : (reads : ℕ) (last : Pause) (lines more : List (List ℕ)) (replies others : List Reply) → length replies ≡ length lines → ReadsOn reads last more others → ReadsOn reads last (lines ++ more) (replies ++ others)
+reads_behind reads last lines more replies others same (inl none) = inl none
+reads_behind reads last lines more replies others same (inr next) = inr (next_behind lines more replies others (λ line. (it : Line) × Spells line it × (reads ≤ last.reads + reads_for last.table it)) same next)
+
+reads_longer : (reads : ℕ) (last : Pause) (lines more : List (List ℕ)) (replies : List Reply) → ReadsOn reads last lines replies → ReadsOn reads last (lines ++ more) replies
+reads_longer reads last lines more replies (inl none) = inl none
+reads_longer reads last lines more replies (inr next) = inr (next_longer lines more replies (λ line. (it : Line) × Spells line it × (reads ≤ last.reads + reads_for last.table it)) next)
+
 -- ---- with more pages
 
 lacks_later : (blocks pages pages_now capacity needed : ℕ) (it : Line) → pages ≤ pages_now → LacksPages (sizes blocks pages capacity) needed it → LacksPages (sizes blocks pages_now capacity) needed it
@@ -58,17 +69,21 @@ lacks_later blocks pages pages_now capacity needed (Trim name block) rises lacks
 lacks_later blocks pages pages_now capacity needed (Destroy name) rises lacks = let full : capacity ≤ pages = lacks in omega (arith, rises, full)
 lacks_later blocks pages pages_now capacity needed Commit rises lacks = let short : capacity - pages < needed = lacks in omega (arith, rises, short)
 
-turn_later : (blocks pages pages_now capacity needed : ℕ) (table next : List Volume) (it : Line) (reply : Reply) → pages ≤ pages_now → TurnsTable (sizes blocks pages capacity) needed table it reply next
-    → TurnsTable (sizes blocks pages_now capacity) needed table it reply next
-turn_later blocks pages pages_now capacity needed table next it reply rises (inl refused) = inl refused
-turn_later blocks pages pages_now capacity needed table next it reply rises (inr (done, accepted, inl is)) = inr (done, accepted, inl is)
-turn_later blocks pages pages_now capacity needed table next it reply rises (inr (done, accepted, inr (lacks, full, same))) =
+done_later : (blocks pages pages_now capacity behind : ℕ) (it : Line) (reply : Reply) → pages ≤ pages_now → IsDone (sizes blocks pages capacity) behind it reply → IsDone (sizes blocks pages_now capacity) behind it reply
+done_later blocks pages pages_now capacity behind (Destroy name) Uncommitted rises done = let short : capacity - pages < behind = done in omega (arith, rises, short)
+done_later blocks pages pages_now capacity behind it reply rises done = done
+
+turn_later : (blocks pages pages_now capacity needed behind : ℕ) (table next : List Volume) (it : Line) (reply : Reply) → pages ≤ pages_now → TurnsTable (sizes blocks pages capacity) needed behind table it reply next
+    → TurnsTable (sizes blocks pages_now capacity) needed behind table it reply next
+turn_later blocks pages pages_now capacity needed behind table next it reply rises (inl refused) = inl refused
+turn_later blocks pages pages_now capacity needed behind table next it reply rises (inr (done, accepted, inl (is, same))) = inr (done, accepted, inl (done_later blocks pages pages_now capacity behind it reply rises is, same))
+turn_later blocks pages pages_now capacity needed behind table next it reply rises (inr (done, accepted, inr (lacks, full, same))) =
     inr (done, accepted, inr (lacks_later blocks pages pages_now capacity needed it rises lacks, full, same))
 
 on_later : (blocks pages pages_now capacity : ℕ) (DidSo Does : Pause → Line → Reply → Pause → Type 0) (here next : Pause) (line : List ℕ) (reply : Reply) → pages ≤ pages_now
     → ((it : Line) → DidSo here it reply next → Does here it reply next) → IsTurnOn (sizes blocks pages capacity) DidSo here line reply next → IsTurnOn (sizes blocks pages_now capacity) Does here line reply next
 on_later blocks pages pages_now capacity DidSo Does here next line reply rises follows (inl (it, spelled, turn, did)) =
-    inl (it, spelled, turn_later blocks pages pages_now capacity (needed_by here.session) here.table next.table it reply rises turn, follows it did)
+    inl (it, spelled, turn_later blocks pages pages_now capacity (needed_by here.session) (needed_by next.session) here.table next.table it reply rises turn, follows it did)
 on_later blocks pages pages_now capacity DidSo Does here next line reply rises follows (inr bad) = inr bad
 
 turns_later : (blocks pages pages_now capacity : ℕ) (DidSo Does : Pause → Line → Reply → Pause → Type 0) (here last : Pause) (lines : List (List ℕ)) (replies : List Reply) → pages ≤ pages_now
@@ -92,7 +107,7 @@ did_longer tells old new here it reply next extends did told =
     let led = was.0 in
     let there : image_at new here.at ≡ image_at old here.at = longer.same here.at (omega (arith, led.later, led.within)) in
     let behind : image_at new next.at ≡ image_at old next.at = longer.same next.at led.within in (
-      record { later = led.later; within = omega (arith, led.within, longer.later); mounted = subst (λ (i : Image). IsMounted i next.session) (sym behind) led.mounted; blocks = led.blocks },
+      record { later = led.later; within = omega (arith, led.within, longer.later); mounted = subst (λ (i : Image). IsMounted i next.session) (sym behind) led.mounted; blocks = led.blocks; reads = led.reads },
       does_follows (Across (image_at old here.at) here.session (image_at old next.at) next.session) (λ Claim. WasOver here.at next.at old (Claim (image_at old here.at) here.session))
           (Across (image_at new here.at) here.session (image_at new next.at) next.session) (λ Claim. WasOver here.at next.at new (Claim (image_at new here.at) here.session)) here.table next.table reply it
           (λ Claim does. subst (λ (i : Image). Claim i here.session (image_at new next.at) next.session) (sym there) (subst (λ (i : Image). Claim (image_at old here.at) here.session i next.session) (sym behind) does))
@@ -100,14 +115,14 @@ did_longer tells old new here it reply next extends did told =
     )
 
 -- what a line did is so of where it began and ended
-pub did_now : (tells : Type 0) (old new : History) (session now : Session) (table : List Volume) (it : Line) (reply : Reply) (next : List Volume) → (tells → Extends old new) → (tells → IsMounted new.present now) → blocks_of now ≡ blocks_of session
+pub did_now : (tells : Type 0) (old new : History) (session now : Session) (table : List Volume) (it : Line) (reply : Reply) (next : List Volume) (reads reads_now : ℕ) → (tells → reads_now ≤ reads + reads_with table it reply) → (tells → Extends old new) → (tells → IsMounted new.present now) → blocks_of now ≡ blocks_of session
     → DoesAny (λ Claim. tells → Claim old.present session new.present now) (λ Claim. tells → WasOver (moment old) (moment new) new (Claim old.present session)) table reply it next
-    → Did tells new (pause (moment old) session table) it reply (pause (moment new) now next)
-did_now tells old new session now table it reply next extends goes blocks does told =
+    → Did tells new (pause (moment old) session table reads) it reply (pause (moment new) now next reads_now)
+did_now tells old new session now table it reply next reads reads_now few extends goes blocks does told =
     let longer = extends told in
     let there : image_at new (moment old) ≡ old.present = longer.same (moment old) (omega arith) ∙ image_at-now old (moment old) (omega arith) in
     let behind : image_at new (moment new) ≡ new.present = image_at-now new (moment new) (omega arith) in (
-      record { later = longer.later; within = omega arith; mounted = subst (λ (i : Image). IsMounted i now) (sym behind) (goes told); blocks = blocks },
+      record { later = longer.later; within = omega arith; mounted = subst (λ (i : Image). IsMounted i now) (sym behind) (goes told); blocks = blocks; reads = few told },
       does_follows (λ Claim. tells → Claim old.present session new.present now) (λ Claim. tells → WasOver (moment old) (moment new) new (Claim old.present session)) (Across (image_at new (moment old)) session (image_at new (moment new)) now)
           (λ Claim. WasOver (moment old) (moment new) new (Claim (image_at new (moment old)) session)) table next reply it
           (λ Claim does. subst (λ (i : Image). Claim i session (image_at new (moment new)) now) (sym there) (subst (λ (i : Image). Claim old.present session i now) (sym behind) (does told)))
@@ -128,11 +143,11 @@ turns_longer here DidSo start last lines more [] turns = turns
 turns_longer here DidSo start last [] more (reply ∷ replies) turns = absurd turns
 turns_longer here DidSo start last (line ∷ lines) more (reply ∷ replies) (next, turn, turns) = (next, turn, turns_longer here DidSo next last lines more replies turns)
 
-pub tables_nothing : (tells : Type 0) (blocks : ℕ) (held : Session) (after : Option Session) (table : List Volume) (here : Outside) → after ≡ Some held → OnTables tells blocks (pause (moment here.history) held table) after table here here [] [] (Ok tt)
-tables_nothing tells blocks held after table here is = record { last = pause (moment here.history) held table; extends = λ told. Extends-refl here.history; turns = refl; going = (held, is, refl); stopped = tt }
+pub tables_nothing : (tells : Type 0) (blocks : ℕ) (held : Session) (after : Option Session) (table : List Volume) (here : Outside) → after ≡ Some held → OnTables tells blocks (paused here held table) after table here here [] [] (Ok tt)
+tables_nothing tells blocks held after table here is = record { last = paused here held table; extends = λ told. Extends-refl here.history; turns = refl; going = (held, is, refl); reads = λ told. inl (omega arith); stopped = tt }
 
 pub tables_then : (tells : Type 0) (blocks : ℕ) (start : Pause) (between after : Option Session) (table_mid table_now : List Volume) (old mid new : Outside) (lines more : List (List ℕ)) (replies others : List Reply) (ending : Ending) → IsLater mid new → length replies ≡ length lines
-    → OnTables tells blocks start between table_mid old mid lines replies (Ok tt) → ((held : Session) → between ≡ Some held → OnTables tells blocks (pause (moment mid.history) held table_mid) after table_now mid new more others ending)
+    → OnTables tells blocks start between table_mid old mid lines replies (Ok tt) → ((held : Session) → between ≡ Some held → OnTables tells blocks (paused mid held table_mid) after table_now mid new more others ending)
     → OnTables tells blocks start after table_now old new (lines ++ more) (replies ++ others) ending
 tables_then tells blocks start between after table_mid table_now old mid new lines more replies others ending later same one more_of =
     let here : Sizes = sizes blocks new.head new.capacity in
@@ -147,6 +162,7 @@ tables_then tells blocks start between after table_mid table_now old mid new lin
       extends = λ told. Extends-trans old.history mid.history new.history (one.extends told) (two.extends told);
       turns = turns_then here DidSo start one.last two.last lines more replies others same first (subst (λ (p : Pause). AreTurnsOn here DidSo p more others two.last) (sym one.going.2) two.turns);
       going = two.going;
+      reads = λ told. reads_behind new.reads two.last lines more replies others same (two.reads told);
       stopped = if_stopped_behind (λ (stop : DeviceStop) (it : Line). StopsAny tells new.history.present blocks two.last.table it stop) lines more replies others ending same two.stopped;
     }
 
@@ -157,6 +173,7 @@ tables_longer tells blocks start after table_now old new lines more replies stop
   extends = on.extends;
   turns = turns_longer (sizes blocks new.head new.capacity) (Did tells new.history) start on.last lines more replies on.turns;
   going = tt;
+  reads = λ told. reads_longer new.reads on.last lines more replies (on.reads told);
   stopped = if_stopped_longer (λ (stop : DeviceStop) (it : Line). StopsAny tells new.history.present blocks on.last.table it stop) lines more replies stop line on.stopped;
 }
 
@@ -168,6 +185,7 @@ tables_since tells blocks start after table_now first second third lines replies
   extends = λ told. Extends-trans first.history second.history third.history (extends told) (on.extends told);
   turns = on.turns;
   going = on.going;
+  reads = on.reads;
   stopped = on.stopped;
 }
 
@@ -175,4 +193,4 @@ tables_since tells blocks start after table_now first second third lines replies
 pub tables_cut : (tells : Type 0) (blocks : ℕ) (start : Pause) (after : Option Session) (table_now : List Volume) (old new : Outside) (lines : List (List ℕ)) (replies : List Reply) → OnTables tells blocks start after table_now old new lines replies (Ok tt)
     → OnTables tells blocks start after table_now old new lines replies (Err stops.Source) × OnTables tells blocks start after table_now old new lines replies (Err stops.Limit)
 tables_cut tells blocks start after table_now old new lines replies on =
-    (record { last = on.last; extends = on.extends; turns = on.turns; going = tt; stopped = tt }, record { last = on.last; extends = on.extends; turns = on.turns; going = tt; stopped = tt })
+    (record { last = on.last; extends = on.extends; turns = on.turns; going = tt; reads = on.reads; stopped = tt }, record { last = on.last; extends = on.extends; turns = on.turns; going = tt; reads = on.reads; stopped = tt })

@@ -16,7 +16,7 @@ use Rattle.volume_terms.specs.Turn.{Turn}
 use Rattle.device_course.specs.Course.{MadeBetween}
 use Rattle.volume_desk.specs.Turns.{HasPages, Shows}
 use Rattle.volume_serving.specs.Drawing.{DrewUntil, tally_of}
-use Rattle.volume_serving.specs.Tabled.{IfNext, IfStopped, OnTables, pause}
+use Rattle.volume_serving.specs.Tabled.{IfNext, IfStopped, OnTables, paused}
 use Rattle.volume_serving.specs.World.{World, IsOn}
 
 -- how many replies there are: one for each line, but where the device or the output stopped the run
@@ -73,7 +73,7 @@ pub record Replied (tells : Type 0) (blocks : ℕ) (old new : World) (ending : E
   pub put_is : put ≡ flat_map line_of replies ++ part
   pub behind : IsBehind line_of no_line part ending
   pub many : AreMany (length replies) (length lines) ending
-  pub tables : (held : Session) → old.session ≡ Some held → OnTables tells blocks (pause (moment old.outside.history) held old.table) new.session new.table old.outside new.outside lines replies ending
+  pub tables : (held : Session) → old.session ≡ Some held → OnTables tells blocks (paused old.outside held old.table) new.session new.table old.outside new.outside lines replies ending
   pub drew : DrewUntil (tally_of old.outside) lines replies (tally_of new.outside)
   pub later : IsLater old.outside new.outside
   pub led : tells → (entry : Held) → IsOn old entry → OnLines old new entry lines replies part ending

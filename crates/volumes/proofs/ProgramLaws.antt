@@ -210,7 +210,7 @@ some_taken text taken left (Some rest) is gave =
     omega (arith, ap (λ (t : List ℕ). length t) f, length-append taken rest)
 
 complete_lines : (tells : Type 0) (old new : Outside) (left left_now written written_now : Option (List ℕ)) (entry : Held) (text : List ℕ) → IsStart tells old entry → IsAmple left text entry.device.blocks old.head old.capacity
-    → Answers tells (IsStart tells old) old new (Ok tt) left left_now written written_now → IsComplete text written written_now
+    → Answers tells 1 (IsStart tells old) old new (Ok tt) left left_now written written_now → IsComplete text written written_now
 complete_lines tells old new left left_now written written_now entry text start ample answers =
     let there = answers.led entry start in
     let taken : answers.taken ≡ text = all_taken text answers.taken left left_now ample.text_is answers.gave answers.come.0 in
@@ -233,7 +233,7 @@ complete_lines tells old new left left_now written written_now entry text start 
 
 -- a run without a fault that halted behind its lines lacked memory
 lacked : (tells : Type 0) (old new : Outside) (stop : Stop) (before now : Counts) (left left_now written written_now : Option (List ℕ)) (entry : Held) (text : List ℕ) → IsStart tells old entry → IsAmple left text entry.device.blocks old.head old.capacity
-    → HasCause before now (halts.Stopped stop) → NoneRose before now → Answers tells (IsStart tells old) old new (Err stop) left left_now written written_now → stop ≡ stops.Device device.Memory
+    → HasCause before now (halts.Stopped stop) → NoneRose before now → Answers tells 1 (IsStart tells old) old new (Err stop) left left_now written written_now → stop ≡ stops.Device device.Memory
 lacked tells old new stops.Source before now left left_now written written_now entry text start ample cause quiet answers = absurd (quiet.input cause.0)
 lacked tells old new stops.Sink before now left left_now written written_now entry text start ample cause quiet answers = absurd (quiet.output cause.0)
 lacked tells old new stops.Limit before now left left_now written written_now entry text start ample cause quiet answers =
@@ -277,7 +277,7 @@ complete_halted tells old new Idle before now left left_now written written_now 
       | inr (ending, is, answers) ↦ by ending is answers cause_then
     ]))
   where
-    by : (ending : Ending) → Err h.halted ≡ halting ending → Answers tells (IsStart tells old) old new ending left left_now written h.written_then → HasCause before now h.halted → h.halted ≡ halts.Stopped (stops.Device device.Memory)
+    by : (ending : Ending) → Err h.halted ≡ halting ending → Answers tells 1 (IsStart tells old) old new ending left left_now written h.written_then → HasCause before now h.halted → h.halted ≡ halts.Stopped (stops.Device device.Memory)
     by (Ok done) is answers cause_then = cc
     by (Err stop) is answers cause_then =
         let e : h.halted ≡ halts.Stopped stop = cc in
@@ -289,5 +289,5 @@ complete_done tells old new left left_now written written_now d entry start text
   | inl (halt, is, silent) ↦ (let e : Ok tt ≡ Err halt = is in cc)
   | inr (ending, is, answers) ↦
       subst (λ (w : Option (List ℕ)). IsComplete text written w) (sym d.unput)
-      (complete_lines tells old new left left_now written d.written_then entry text start ample (subst (λ (e : Ending). Answers tells (IsStart tells old) old new e left left_now written d.written_then) (ok_ending ending is) answers))
+      (complete_lines tells old new left left_now written d.written_then entry text start ample (subst (λ (e : Ending). Answers tells 1 (IsStart tells old) old new e left left_now written d.written_then) (ok_ending ending is) answers))
 ]

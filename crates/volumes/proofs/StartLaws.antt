@@ -1,5 +1,5 @@
 -- From which states a run goes on: behind its mount, and behind the look at its table.
-use Rattle.std.proofs.Common.{◌≡◌, ◌≢◌, ◌≤◌, ◌<◌, ◌^◌, ◌++◌, ℕ, List, [], Option, None, Some, Result, Ok, Err, inl, inr, refl, sym, ap, subst, ◌∙◌, arith}
+use Rattle.std.proofs.Common.{◌≡◌, ◌≢◌, ◌≤◌, ◌<◌, ◌+◌, ◌^◌, ◌++◌, ℕ, List, [], Option, None, Some, Result, Ok, Err, inl, inr, refl, sym, ap, subst, ◌∙◌, arith}
 use Rattle.std.specs.Prelude.{IfErr, IfOk, length}
 use Rattle.sdbt_base.specs.Arrays.{Device, Session as OpenSession, State, closed, mounted}
 use Rattle.sdbt_base.specs.Told.{Got}
@@ -15,7 +15,7 @@ use Rattle.platform.proofs.Moments.{image_at-now}
 use Rattle.device_terms.proofs.MomentLaws.{stays_then}
 use Rattle.device_course.specs.States.{IsAt, Outside}
 use Rattle.device_course.proofs.MadeLaws.{made_kept, made_since, shut}
-use Rattle.device_session.specs.Open.{blocks_of, needed_by}
+use Rattle.device_session.specs.Open.{IsOpen, blocks_of, needed_by}
 use Rattle.device_session.specs.Reading.{FindsContent, room_of}
 use Rattle.device_session.specs.Sessions.{Session}
 use Rattle.device_session.proofs.CountLaws.{needs_none}
@@ -23,11 +23,13 @@ use Rattle.line_run.specs.Stops.{Ending}
 use Rattle.line_run.specs.declared.stop.Stop.TheVariants as stops
 use Rattle.device_course.specs.Held.{Held, device_of, state_of}
 use Rattle.device_course.specs.Leading.{Leads, last_of, marks_of}
+use Rattle.session_calls.specs.Along.{Along, Drawn}
 use Rattle.session_calls.specs.Damage.{IsMounted, ReadsAny}
 use Rattle.session_calls.specs.Goes.{ReadsBlock}
 use Rattle.session_calls.specs.Mounts.{IsFound, IsMountStop, MountLeads}
 use Rattle.session_calls.specs.declared.stops.DeviceStop.{DeviceStop}
 use Rattle.session_calls.specs.declared.stops.DeviceStop.TheVariants as device
+use Rattle.session_calls.proofs.CallLaws.{along_more}
 use Rattle.session_calls.proofs.MountLaws.{bad_served}
 use Rattle.volume_table.specs.Tables.{IsTable, table_bytes}
 use Rattle.volume_table.specs.declared.volume.Volume.{Volume}
@@ -41,11 +43,11 @@ use Rattle.volume_serving.specs.Handled.{AreShown, EndsOn}
 use Rattle.volume_serving.specs.Ran.{Ran as RanLines}
 use Rattle.volume_desk.specs.Drawing.{Tally, tally}
 use Rattle.volume_serving.specs.Drawing.{DrewUntil, tally_of}
-use Rattle.volume_serving.specs.Tabled.{IfStopped, OnTables, Pause, pause}
+use Rattle.volume_serving.specs.Tabled.{IfStopped, OnTables, Pause, paused}
 use Rattle.volume_serving.proofs.TabledLaws.{tables_since}
 use Rattle.volume_serving.proofs.HandledLaws.{shown_from}
-use Rattle.volumes.specs.Running.{Answers, Begins, IsEarly, IsIdle, IsSilent, OnVolumes, Serves}
-use Rattle.volumes.specs.Starting.{EndsEarly, FindsFirst, FindsTable, IsFrom, IsOfTable, IsRefusal, IsSpelled, IsStart, SpellsNone}
+use Rattle.volumes.specs.Running.{Answers, Begins, IsEarly, IsIdle, IsSilent, OnVolumes, Serves, ServesBehind}
+use Rattle.volumes.specs.Starting.{EndsEarly, FindsFirst, FindsTable, IsFrom, IsOfTable, IsRefusal, IsSpelled, IsStart, SpellsNone, reads_before}
 use Rattle.volumes.specs.declared.halts.Halt.{Halt}
 use Rattle.volumes.specs.declared.halts.Halt.TheVariants as halts
 use Rattle.session_calls.proofs.SpanLaws.{led_of, mounted_at}
@@ -57,13 +59,14 @@ use Rattle.volumes.proofs.EndedLaws.{ahead_of, are_destroyed, blocks_below}
 abbrev pub Since : (Held → Type 0) → (Held → Type 0) → Outside → Outside → Type 0
 Since Earlier From first second = (entry : Held) → Earlier entry → From entry × MadeBetween first.history second.history entry.device [] entry.device
 
-silent_since : (tells : Type 0) (Earlier From : Held → Type 0) (first second third : Outside) (halt : Halt) (left left_now written written_now : Option (List ℕ)) → (tells → second.history.present ≡ first.history.present) → Since Earlier From first second → IsSilent tells From second third halt left left_now written written_now
-    → IsSilent tells Earlier first third halt left left_now written written_now
-silent_since tells Earlier From first second third halt left left_now written written_now image since silent = record {
+silent_since : (tells : Type 0) (Earlier From : Held → Type 0) (first second third : Outside) (halt : Halt) (left left_now written written_now : Option (List ℕ)) → (tells → second.history.present ≡ first.history.present) → (tells → second.reads ≤ first.reads + 1) → Since Earlier From first second
+    → IsSilent tells 0 From second third halt left left_now written written_now → IsSilent tells 1 Earlier first third halt left left_now written written_now
+silent_since tells Earlier From first second third halt left left_now written written_now image once since silent = record {
   untaken = silent.untaken;
   unput = silent.unput;
   early = silent.early;
   unspelled = λ told is. subst (λ (i : Image). SpellsNone i) (image told) (silent.unspelled told is);
+  reads = λ told. omega (arith, once told, silent.reads told);
   stayed = λ entry early.
       let s = since entry early in
       let there = silent.stayed entry s.0 in
@@ -116,14 +119,14 @@ volumes_since first second third session table table_now entry lines replies par
           (ahead_of (record { session = session; table = table_now; outside = third }) first.capacity (last_of entry states) lines replies part there.on.ahead ending on.ends) on.shown;
     }
 
-begins_since : (tells : Type 0) (blocks : ℕ) (first second third : History) (start : Pause) → (tells → Extends first second) → Begins tells blocks second third start → Begins tells blocks first third start
-begins_since tells blocks first second third start extends b =
-    record { later = λ told. omega (arith, (extends told).later, b.later told); within = b.within; mounted = b.mounted; fresh = b.fresh; many = b.many }
+begins_since : (tells : Type 0) (blocks : ℕ) (first second third : Outside) (start : Pause) → (tells → Extends first.history second.history) → (tells → second.reads ≤ first.reads + 1) → Begins tells 0 blocks second third start → Begins tells 1 blocks first third start
+begins_since tells blocks first second third start extends once b =
+    record { later = λ told. omega (arith, (extends told).later, b.later told); within = b.within; mounted = b.mounted; reads = λ told. omega (arith, once told, b.reads told); fresh = b.fresh; many = b.many }
 
 answers_since : (tells : Type 0) (Earlier From : Held → Type 0) (first second third : Outside) (ending : Ending) (left left_now written written_now : Option (List ℕ)) → second.capacity ≡ first.capacity → tally_of second ≡ tally_of first → (tells → CellStays first.history second.history)
-    → (tells → second.history.present ≡ first.history.present) → Since Earlier From first second
-    → Answers tells From second third ending left left_now written written_now → Answers tells Earlier first third ending left left_now written written_now
-answers_since tells Earlier From first second third ending left left_now written written_now same counted stays image since answers = record {
+    → (tells → second.history.present ≡ first.history.present) → (tells → second.reads ≤ first.reads + 1) → Since Earlier From first second
+    → Answers tells 0 From second third ending left left_now written written_now → Answers tells 1 Earlier first third ending left left_now written written_now
+answers_since tells Earlier From first second third ending left left_now written written_now same counted stays image once since answers = record {
   taken = answers.taken;
   lines = answers.lines;
   gave = answers.gave;
@@ -140,7 +143,7 @@ answers_since tells Earlier From first second third ending left left_now written
   start = answers.start;
   table = answers.table;
   spelled = (answers.spelled.0, λ told. subst (λ (i : Image). IsSpelled i answers.blocks answers.start.table) (image told) (answers.spelled.1 told));
-  begins = begins_since tells answers.blocks first.history second.history third.history answers.start (λ told. (stays told).extends) answers.begins;
+  begins = begins_since tells answers.blocks first second third answers.start (λ told. (stays told).extends) once answers.begins;
   tables = tables_since tells answers.blocks answers.start answers.session answers.table first second third answers.lines answers.replies ending (λ told. (stays told).extends) answers.tables;
   drew = subst (λ (t : Tally). DrewUntil t answers.lines answers.replies (tally_of third)) counted answers.drew;
   led = λ entry early.
@@ -149,12 +152,12 @@ answers_since tells Earlier From first second third ending left left_now written
 }
 
 pub serves_since : (tells : Type 0) (Earlier From : Held → Type 0) (first second third : Outside) (result : Result (Unit {0}) Halt) (left left_now written written_now : Option (List ℕ)) → second.capacity ≡ first.capacity → tally_of second ≡ tally_of first → (tells → CellStays first.history second.history)
-    → (tells → second.history.present ≡ first.history.present) → Since Earlier From first second
-    → Serves tells From second third result left left_now written written_now → Serves tells Earlier first third result left left_now written written_now
-serves_since tells Earlier From first second third result left left_now written written_now same counted stays image since (inl (halt, is, silent)) =
-    inl (halt, is, silent_since tells Earlier From first second third halt left left_now written written_now image since silent)
-serves_since tells Earlier From first second third result left left_now written written_now same counted stays image since (inr (ending, is, answers)) =
-    inr (ending, is, answers_since tells Earlier From first second third ending left left_now written written_now same counted stays image since answers)
+    → (tells → second.history.present ≡ first.history.present) → (tells → second.reads ≤ first.reads + 1) → Since Earlier From first second
+    → ServesBehind tells 0 From second third result left left_now written written_now → Serves tells Earlier first third result left left_now written written_now
+serves_since tells Earlier From first second third result left left_now written written_now same counted stays image once since (inl (halt, is, silent)) =
+    inl (halt, is, silent_since tells Earlier From first second third halt left left_now written written_now image once since silent)
+serves_since tells Earlier From first second third result left left_now written written_now same counted stays image once since (inr (ending, is, answers)) =
+    inr (ending, is, answers_since tells Earlier From first second third ending left left_now written written_now same counted stays image once since answers)
 
 -- ---- a mount
 
@@ -224,13 +227,14 @@ ends_stop tells cell pages device.Tape entry told served is = absurd is
 ends_stop tells cell pages device.Ledger entry told served is = absurd is
 ends_stop tells cell pages (device.BadRecord addr) entry told served is = absurd is
 
-pub silent_stop : (tells : Type 0) (old new : Outside) (stop : DeviceStop) (left written : Option (List ℕ)) → (tells → length old.history.present.recorded ≡ old.head) → IsMountStop tells old.history.present.cell old.head stop → (tells → CellStays old.history new.history)
-    → IsSilent tells (IsStart tells old) old new (halts.Stopped (stops.Device stop)) left left written written
-silent_stop tells old new stop left written pages is stays = record {
+pub silent_stop : (tells : Type 0) (old new : Outside) (stop : DeviceStop) (left written : Option (List ℕ)) → (tells → length old.history.present.recorded ≡ old.head) → IsMountStop tells old.history.present.cell old.head stop → (tells → CellStays old.history new.history) → (tells → new.reads ≤ old.reads + 1)
+    → IsSilent tells 1 (IsStart tells old) old new (halts.Stopped (stops.Device stop)) left left written written
+silent_stop tells old new stop left written pages is stays once = record {
   untaken = refl;
   unput = refl;
   early = early_stop tells old.history.present.cell old.head stop is;
   unspelled = λ told bad. cc;
+  reads = λ told. omega (arith, once told);
   stayed = λ entry start. (
     made_kept old.history new.history entry.device start.stands start.served (stays start.told),
     ends_stop tells old.history.present.cell old.head stop entry start.told (subst (λ (n : ℕ). IsServedCell old.history.present.cell n) (pages start.told) start.served) is,
@@ -240,16 +244,23 @@ silent_stop tells old new stop left written pages is stays = record {
 no_device : (image : Image) (there : Device) → Stands image (Some there) → image.cell ≡ None → ⊥
 no_device image there (root, parts, by) empty = let both : None ≡ Some (root_bytes root) = sym empty ∙ by.cell in cc
 
-pub silent_none : (tells : Type 0) (old new : Outside) (left written : Option (List ℕ)) → (tells → old.history.present.cell ≡ None) → IsSilent tells (IsStart tells old) old new halts.NoDevice left left written written
-silent_none tells old new left written empty = record {
+pub silent_none : (tells : Type 0) (old new : Outside) (left written : Option (List ℕ)) → (tells → old.history.present.cell ≡ None) → (tells → new.reads ≤ old.reads + 1) → IsSilent tells 1 (IsStart tells old) old new halts.NoDevice left left written written
+silent_none tells old new left written empty once = record {
   untaken = refl;
   unput = refl;
   early = tt;
   unspelled = λ told bad. cc;
+  reads = λ told. omega (arith, once told);
   stayed = λ entry start. absurd (no_device old.history.present entry.device start.stands (empty start.told));
 }
 
 -- ---- the look at the table
+
+-- a read of a block reads a page for each level of the tree, of which there are 20 at most, and the block's own
+pub along_table : {S : Type 0} (P : PlatformGhosts S) (platform platform_now : S) (drawn drawn_now : Drawn) (session now : Session) (head : ℕ) → IsOpen session head
+    → Along P 0 (session.grove.level + 1) platform platform_now drawn drawn_now session now → Along P 0 21 platform platform_now drawn drawn_now session now
+along_table P platform platform_now drawn drawn_now session now head there_open along =
+    along_more P 0 0 (session.grove.level + 1) 21 platform platform_now drawn drawn_now session now (omega arith) (omega (arith, there_open.level)) along
 
 early_table : (halt : Halt) → IsOfTable halt → IsEarly halt
 early_table halts.BadDirectory of = tt
@@ -263,6 +274,19 @@ early_table (halts.Stopped (stops.Device device.Tape)) of = absurd of
 early_table (halts.Stopped (stops.Device device.Ledger)) of = absurd of
 early_table (halts.Stopped (stops.Device device.Memory)) of = absurd of
 early_table (halts.Stopped (stops.Device device.BadRoot)) of = absurd of
+
+table_halt : (halt : Halt) → IsOfTable halt → reads_before halt ≡ 21
+table_halt halts.BadDirectory of = refl
+table_halt halts.NoDevice of = absurd of
+table_halt (halts.Stopped stops.Source) of = absurd of
+table_halt (halts.Stopped stops.Sink) of = absurd of
+table_halt (halts.Stopped stops.Limit) of = absurd of
+table_halt (halts.Stopped (stops.Device device.Platform)) of = refl
+table_halt (halts.Stopped (stops.Device (device.BadRecord addr))) of = refl
+table_halt (halts.Stopped (stops.Device device.Tape)) of = absurd of
+table_halt (halts.Stopped (stops.Device device.Ledger)) of = absurd of
+table_halt (halts.Stopped (stops.Device device.Memory)) of = absurd of
+table_halt (halts.Stopped (stops.Device device.BadRoot)) of = absurd of
 
 ends_table : (image : Image) (now : Session) (entry : Held) (halt : Halt) → FindsTable image now entry.device entry.session (Err halt) → EndsEarly entry halt
 ends_table image now entry halts.BadDirectory none = λ table tabled. none table tabled.is tabled.spelled
@@ -285,12 +309,14 @@ spells_none image session halt bad fresh mounted finds =
 
 pub silent_table : (tells : Type 0) (old new : Outside) (first now : Session) (halt : Halt) (left written : Option (List ℕ)) → IsOfTable halt → needed_by first ≡ 0 → (tells → CellStays old.history new.history)
     → (tells → (there : Device) (array : OpenSession) → IsAt old.history.present (Some first) (mounted there array) → FindsTable new.history.present now there array (Err halt))
-    → (tells → IsMounted old.history.present first) → (tells → FindsFirst old.history.present first (Err halt)) → IsSilent tells (IsFrom tells old first) old new halt left left written written
-silent_table tells old new first now halt left written of fresh stays finds mounted found = record {
+    → (tells → IsMounted old.history.present first) → (tells → FindsFirst old.history.present first (Err halt)) → (tells → new.reads ≤ old.reads + 21)
+    → IsSilent tells 0 (IsFrom tells old first) old new halt left left written written
+silent_table tells old new first now halt left written of fresh stays finds mounted found few = record {
   untaken = refl;
   unput = refl;
   early = early_table halt of;
   unspelled = λ told bad. spells_none old.history.present first halt bad fresh (mounted told) (found told);
+  reads = λ told. omega (arith, few told, table_halt halt of);
   stayed = λ entry from. (
     made_kept old.history new.history entry.device from.at.there.device from.at.served (stays from.told),
     ends_table new.history.present now entry halt (finds from.told entry.device entry.session from.at),
@@ -310,13 +336,13 @@ first_none Known image after session bytes blocks any same none known = (bytes, 
 
 -- lines that were served behind it
 pub answers_behind : (tells : Type 0) (old mid new : Outside) (first now : Session) (after : Option Session) (table table_now : List Volume) (ending : Ending) (left left_now written written_now : Option (List ℕ)) → mid.head ≡ old.head → mid.drawn ≡ old.drawn → mid.capacity ≡ old.capacity
-    → needed_by now ≤ needed_by first → needed_by first ≡ 0 → (tells → IsMounted mid.history.present now) → (tells → CellStays old.history mid.history) → IsTable (blocks_of first) table
+    → needed_by now ≤ needed_by first → needed_by first ≡ 0 → (tells → IsMounted mid.history.present now) → (tells → CellStays old.history mid.history) → (tells → mid.reads ≤ old.reads + 21) → IsTable (blocks_of first) table
     → (tells → (there : Device) (array : OpenSession) → IsAt old.history.present (Some first) (mounted there array) → FindsTable mid.history.present now there array (Ok table)) → (tells → IsSpelled old.history.present (blocks_of first) table)
     → blocks_of now ≡ blocks_of first → RanLines tells (blocks_of now) (record { session = Some now; table = table; outside = mid }) (record { session = after; table = table_now; outside = new }) ending left left_now written written_now
-    → Answers tells (IsFrom tells old first) old new ending left left_now written written_now
-answers_behind tells old mid new first now after table table_now ending left left_now written written_now head drawn capacity needs fresh mounted stays whole finds spelled many ran =
+    → Answers tells 0 (IsFrom tells old first) old new ending left left_now written written_now
+answers_behind tells old mid new first now after table table_now ending left left_now written written_now head drawn capacity needs fresh mounted stays few whole finds spelled many ran =
     let replied = ran.handled.replied in
-    let start : Pause = pause (moment mid.history) now table in
+    let start : Pause = paused mid now table in
     let on_tables = replied.tables now refl in
     let same_tally : tally_of mid ≡ tally_of old = λ k. tally (drawn k) (head k) in
     record {
@@ -340,6 +366,7 @@ answers_behind tells old mid new first now after table table_now ending left lef
         later = λ told. (stays told).extends.later;
         within = λ told. (on_tables.extends told).later;
         mounted = λ told. subst (λ (i : Image). IsMounted i now) (sym ((on_tables.extends told).same (moment mid.history) (omega arith) ∙ image_at-now mid.history (moment mid.history) (omega arith))) (mounted told);
+        reads = λ told. omega (arith, few told);
         fresh = omega (arith, needs, fresh);
         many = many;
       };

@@ -1,5 +1,5 @@
 -- A run, from the mount on.
-use Rattle.std.specs.Prelude.{◌≡◌, ◌≤◌, ◌⊎◌, ℕ, List, [], ◌++◌, Option, None, Result, Ok, Err, IfErr, flat_map, length}
+use Rattle.std.specs.Prelude.{◌≡◌, ◌≤◌, ◌+◌, ◌⊎◌, ℕ, List, [], ◌++◌, Option, None, Result, Ok, Err, IfErr, flat_map, length}
 use Rattle.sdbt_base.specs.Told.{Gave, Got}
 use Rattle.platform.specs.Image.{Image}
 use Rattle.platform.specs.History.{CellStays, History, image_at, moment}
@@ -25,7 +25,7 @@ use Rattle.volume_serving.specs.Drawing.{DrewUntil, tally_of}
 use Rattle.volume_serving.specs.Tabled.{OnTables, Pause}
 use Rattle.volumes.specs.Destroyed.{AreDestroyed}
 use Rattle.volumes.specs.Halts.{EndsAs}
-use Rattle.volumes.specs.Starting.{EndsEarly, HaltsAtDamage, IsRefusal, IsSpelled, IsStart, SpellsNone}
+use Rattle.volumes.specs.Starting.{EndsEarly, HaltsAtDamage, IsRefusal, IsSpelled, IsStart, SpellsNone, reads_before}
 use Rattle.volumes.specs.declared.halts.Halt.{Halt}
 use Rattle.volumes.specs.declared.halts.Halt.TheVariants as halts
 
@@ -54,12 +54,13 @@ IsEarly (halts.Stopped (stops.Device device.Platform)) = Unit {0}
 IsEarly (halts.Stopped (stops.Device device.Memory)) = Unit {0}
 IsEarly (halts.Stopped _) = ⊥
 
--- a run that halted so before it took anything, and put nothing; for want of a table only where the pages spell none. From each of these states the device stayed
-pub record IsSilent (tells : Type 0) (From : Held → Type 0) (old new : Outside) (halt : Halt) (left left_now written written_now : Option (List ℕ)) : Type 0 where
+-- a run that halted so before it took anything, and put nothing, and read no more than is read before such a halt, behind so many looks at the cell; for want of a table only where the pages spell none. From each of these states the device stayed
+pub record IsSilent (tells : Type 0) (looks : ℕ) (From : Held → Type 0) (old new : Outside) (halt : Halt) (left left_now written written_now : Option (List ℕ)) : Type 0 where
   pub untaken : left_now ≡ left
   pub unput : written_now ≡ written
   pub early : IsEarly halt
   pub unspelled : tells → halt ≡ halts.BadDirectory → SpellsNone old.history.present
+  pub reads : tells → new.reads ≤ old.reads + looks + reads_before halt
   pub stayed : (entry : Held) → From entry → MadeBetween old.history new.history entry.device [] entry.device × EndsEarly entry halt
 
 -- the replies to lines, from this state on, whose block 0 has this table. They are those of its volumes, each of which has its own, and of those that were destroyed nothing is left; and the
@@ -70,18 +71,19 @@ pub record OnVolumes (old new : Outside) (session : Option Session) (table table
   pub own : (name : List ℕ) → HasOwn entry (last_of entry on.led.states) name lines replies
   pub destroyed : AreDestroyed old.history new.history entry lines replies on.led.states on.ahead
 
--- lines begin with a session without a change of its own, which is on the root record in the cell then, of a device with so many blocks
-pub record Begins (tells : Type 0) (blocks : ℕ) (old new : History) (start : Pause) : Type 0 where
-  pub later : tells → moment old ≤ start.at
-  pub within : tells → start.at ≤ moment new
-  pub mounted : tells → IsMounted (image_at new start.at) start.session
+-- lines begin with a session without a change of its own, which is on the root record in the cell then, of a device with so many blocks; and before them 21 pages were read at most, behind so many looks at the cell
+pub record Begins (tells : Type 0) (looks blocks : ℕ) (old new : Outside) (start : Pause) : Type 0 where
+  pub later : tells → moment old.history ≤ start.at
+  pub within : tells → start.at ≤ moment new.history
+  pub mounted : tells → IsMounted (image_at new.history start.at) start.session
+  pub reads : tells → start.reads ≤ old.reads + looks + 21
   pub fresh : needed_by start.session ≡ 0
   pub many : blocks_of start.session ≡ blocks
 
 -- a run that served lines, and ended so: what it took, the lines of that, its replies to them, and a part of one more where the output failed. On any pages the replies are such as their lines may have over the table that
--- block 0 spelled, and what those before them made of it; what a line found, left and kept is so of the sessions that it began and ended with, of which the first has no change of its own; they drew keys where they say so, one for each page that was added; and a line at which the device stopped the run
+-- block 0 spelled, and what those before them made of it; what a line found, left and kept is so of the sessions that it began and ended with, of which the first has no change of its own; each read no more than it may, and all that was read but for them was read before the first one; they drew keys where they say so, one for each page that was added; and a line at which the device stopped the run
 -- is one that may stop so
-pub record Answers (tells : Type 0) (From : Held → Type 0) (old new : Outside) (ending : Ending) (left left_now written written_now : Option (List ℕ)) : Type 0 where
+pub record Answers (tells : Type 0) (looks : ℕ) (From : Held → Type 0) (old new : Outside) (ending : Ending) (left left_now written written_now : Option (List ℕ)) : Type 0 where
   pub taken : List ℕ
   pub lines : List (List ℕ)
   pub gave : Gave left taken left_now
@@ -98,7 +100,7 @@ pub record Answers (tells : Type 0) (From : Held → Type 0) (old new : Outside)
   pub start : Pause
   pub table : List Volume
   pub spelled : IsTable blocks start.table × (tells → IsSpelled old.history.present blocks start.table)
-  pub begins : Begins tells blocks old.history new.history start
+  pub begins : Begins tells looks blocks old new start
   pub tables : OnTables tells blocks start session table old new lines replies ending
   pub drew : DrewUntil (tally_of old) lines replies (tally_of new)
   pub led : (entry : Held) → From entry → OnVolumes old new session start.table table entry lines replies part ending
@@ -108,11 +110,15 @@ abbrev pub halting : Ending → Result (Unit {0}) Halt
 halting (Ok done) = Ok tt
 halting (Err stop) = Err (halts.Stopped stop)
 
--- a run served no line, or it served lines, from each of these states
+-- a run served no line, or it served lines, from each of these states, behind so many looks at the cell
+abbrev pub ServesBehind : Type 0 → ℕ → (Held → Type 0) → Outside → Outside → Result (Unit {0}) Halt → Option (List ℕ) → Option (List ℕ) → Option (List ℕ) → Option (List ℕ) → Type 0
+ServesBehind tells looks From old new result left left_now written written_now =
+    ((halt : Halt) × (result ≡ Err halt) × IsSilent tells looks From old new halt left left_now written written_now)
+    ⊎ ((ending : Ending) × (result ≡ halting ending) × Answers tells looks From old new ending left left_now written written_now)
+
+-- so it is of a whole run, which looks at the cell once at most
 abbrev pub Serves : Type 0 → (Held → Type 0) → Outside → Outside → Result (Unit {0}) Halt → Option (List ℕ) → Option (List ℕ) → Option (List ℕ) → Option (List ℕ) → Type 0
-Serves tells From old new result left left_now written written_now =
-    ((halt : Halt) × (result ≡ Err halt) × IsSilent tells From old new halt left left_now written written_now)
-    ⊎ ((ending : Ending) × (result ≡ halting ending) × Answers tells From old new ending left left_now written written_now)
+Serves tells From old new result left left_now written written_now = ServesBehind tells 1 From old new result left left_now written written_now
 
 -- a run but for its last line, and that line: why it halted, and what it did until then; a refusal left all as it was, and a record that it names doesn't fit its place, on any pages
 pub record Ran (tells : Type 0) (old new : Outside) (Idle : Type 0) (left left_now written written_now : Option (List ℕ)) (ending : Result (Unit {0}) Halt) : Type 0 where

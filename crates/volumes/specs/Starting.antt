@@ -94,6 +94,13 @@ EndsEarly entry (halts.Stopped (stops.Device device.Platform)) = Unit {0}
 EndsEarly entry (halts.Stopped (stops.Device device.Memory)) = Unit {0}
 EndsEarly entry _ = ⊥
 
+-- how many pages are read at most before such a halt: none where no session is opened, and else 21 for the table, one for each of 20 levels of the tree and the block's own
+abbrev pub reads_before : Halt → ℕ
+reads_before halts.NoDevice = 0
+reads_before (halts.Stopped (stops.Device device.BadRoot)) = 0
+reads_before (halts.Stopped (stops.Device device.Memory)) = 0
+reads_before _ = 21
+
 -- the device is not served: it is none, its root record can't be served, or its block 0 has no table
 abbrev pub IsRefusal : Halt → Type 0
 IsRefusal halts.NoDevice = Unit {0}

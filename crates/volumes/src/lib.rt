@@ -46,8 +46,8 @@ pub fn run_volumes<P: Platform, T: Tape, I: Source, O: Sink, L: Sink>(
         (handed P.Platform T.Tape I.Source O.Sink L.Sink platform.old tape.old input.old output.old ledger.old)
         (handed P.Platform T.Tape I.Source O.Sink L.Sink platform.new tape.new input.new output.new ledger.new) }
 
-    // The replies are those of the volumes that the device had, each of which has its own; nothing of one that was destroyed is reached from then on; and each moment
-    // leaves a device that they led through.
+    // The replies are those of the volumes that the device had, each of which has its own; nothing of one that was destroyed is reached from then on; each moment
+    // leaves a device that they led through; and it reads no more than one look at the cell, 21 pages for the table, and what each line may read.
     ensures serves { map string_bytes words.now ≡ [] → Serving P.tells result
         (handed P.Platform T.Tape I.Source O.Sink L.Sink platform.old tape.old input.old output.old ledger.old)
         (handed P.Platform T.Tape I.Source O.Sink L.Sink platform.new tape.new input.new output.new ledger.new) }

@@ -11,7 +11,7 @@ ghost use Rattle.volume_table.specs.Tables.{IsTable};
 ghost use Rattle.session_calls.specs.Carrying.{Carries, IsReady};
 ghost use Rattle.volumes.specs.Halts.{Blames};
 ghost use Rattle.session_calls.specs.Spans.{Spans};
-ghost use Rattle.volumes.specs.Running.{IsIdle, Looked, Ran, Serves};
+ghost use Rattle.volumes.specs.Running.{IsIdle, Looked, Ran, Serves, ServesBehind};
 ghost use Rattle.volumes.specs.Starting.{FindsFirst, FindsTable, HaltsAtDamage, HaltsBehind, IsFrom, IsOfTable, IsRefusal, IsStart};
 
 use crate::halts::{Halt, put_last_line};
@@ -101,7 +101,8 @@ fn serve_volumes<P: Platform, T: Tape, I: Source, O: Sink, L: Sink>(
         (around P.Platform T.Tape L.Sink platform.new tape.new ledger.new) first None (IsOk result) }
     ensures blame { Blames (counts (P.faults platform.old) (T.faults tape.old) (I.faults input.old) (O.faults output.old) (L.faults ledger.old))
         (counts (P.faults platform.new) (T.faults tape.new) (I.faults input.new) (O.faults output.new) (L.faults ledger.new)) result }
-    ensures serves { Serves P.tells (IsFrom P.tells (around P.Platform T.Tape L.Sink platform.old tape.old ledger.old) first)
+    // It doesn't look at the cell.
+    ensures serves { ServesBehind P.tells 0 (IsFrom P.tells (around P.Platform T.Tape L.Sink platform.old tape.old ledger.old) first)
         (around P.Platform T.Tape L.Sink platform.old tape.old ledger.old)
         (around P.Platform T.Tape L.Sink platform.new tape.new ledger.new)
         result (I.left input.old) (I.left input.new) (O.written output.old) (O.written output.new) }
@@ -139,7 +140,7 @@ fn serve_volumes<P: Platform, T: Tape, I: Source, O: Sink, L: Sink>(
 /// The table in block 0 of a session.
 fn read_table<P: Platform>(session: &mut Session, platform: &mut P) -> Result<Table, Halt>
     requires open { IsOpen session.old (P.head platform.old) }
-    ensures along { (drawn : Drawn) → Along P.Platform 0 platform.old platform.new drawn drawn session.old session.new }
+    ensures along { (drawn : Drawn) → Along P.Platform 0 21 platform.old platform.new drawn drawn session.old session.new }
     ensures blame { Blames (counts (P.faults platform.old) 0 0 0 0) (counts (P.faults platform.new) 0 0 0 0) result }
     ensures table { IfOk result (IsTable (blocks_of session.old)) }
     ensures finds { P.tells → (there : Device) (array : OpenSession) → IsAt (P.history platform.old).present (Some session.old) (mounted there array)

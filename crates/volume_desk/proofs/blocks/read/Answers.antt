@@ -1,4 +1,4 @@
-use Rattle.std.proofs.Common.{Ok, Err, ap, refl, subst, sym, ◌∙◌, arith}
+use Rattle.std.proofs.Common.{◌+◌, ℕ, Ok, Err, ap, refl, subst, sym, ◌∙◌, arith}
 use Rattle.sdbt_base.specs.Arrays.{content_of}
 use Rattle.device_session.specs.Open.{blocks_of, needed_by}
 use Rattle.script_lang.specs.Arrays.{trimmed}
@@ -10,11 +10,12 @@ use Rattle.volume_desk.specs.Causes.{sizes}
 use Rattle.volume_desk.proofs.CauseLaws.{has_block, read_may, read_refused}
 use Rattle.volume_desk.proofs.DoneLaws.{keeps_still, read_over, refused_over}
 use Rattle.volume_desk.proofs.DeskLaws.{changed_none, no_block, read_sound}
+use Rattle.volume_desk.proofs.ReadLaws.{read_most}
 use Rattle.volume_desk.proofs.TurnLaws.{held_still}
 use Rattle.volume_desk.proofs.blocks.read.Goals as goal
 
 pub returns-in-Err-clause-calls : goal.returns-in-Err-clause-calls
-returns-in-Err-clause-calls g c drawn = calls_none g.P.Platform 0 _ drawn _ _ c.requires.open
+returns-in-Err-clause-calls g c drawn = calls_none g.P.Platform 0 _ _ drawn _ _ c.requires.open
 
 pub returns-in-Err-clause-turns : goal.returns-in-Err-clause-turns
 returns-in-Err-clause-turns g c told entry held =
@@ -22,7 +23,9 @@ returns-in-Err-clause-turns g c told entry held =
 
 pub returns-in-Ok-read_block-clause-calls : goal.returns-in-Ok-read_block-clause-calls
 returns-in-Ok-read_block-clause-calls g c drawn =
-    calls_done g.P.Platform 0 0 _ _ drawn drawn _ _ tt _ (omega arith) (calls_of g.P.Platform 0 _ _ drawn drawn _ _ (Ok tt) (c.in-Ok-read_block.ensures.goes drawn))
+    let level : ℕ = c.args.session.now.grove.level in
+    calls_done g.P.Platform 0 0 (level + 1) _ _ _ drawn drawn _ _ tt _ (omega arith) (read_most c.args.table.now c.args.name.now c.args.block _ _ level c.reply_with_content.ensures.value c.requires.open.level)
+    (calls_of g.P.Platform 0 (level + 1) _ _ drawn drawn _ _ (Ok tt) (c.in-Ok-read_block.ensures.goes drawn))
 
 pub returns-in-Ok-read_block-clause-turns : goal.returns-in-Ok-read_block-clause-turns
 returns-in-Ok-read_block-clause-turns g c told entry held =
@@ -39,7 +42,9 @@ returns-in-Ok-read_block-clause-turns g c told entry held =
 
 pub returns-in-Err-read_block-clause-calls : goal.returns-in-Err-read_block-clause-calls
 returns-in-Err-read_block-clause-calls g c drawn =
-    calls_stopped g.P.Platform 0 0 _ _ drawn drawn _ _ c.in-Err-read_block.stop (omega arith) (calls_of g.P.Platform 0 _ _ drawn drawn _ _ (Err c.in-Err-read_block.stop) (c.in-Err-read_block.ensures.goes drawn))
+    let level : ℕ = c.args.session.now.grove.level in
+    calls_stopped g.P.Platform 0 0 (level + 1) 21 _ _ drawn drawn _ _ c.in-Err-read_block.stop (omega arith) (omega (arith, c.requires.open.level))
+    (calls_of g.P.Platform 0 (level + 1) _ _ drawn drawn _ _ (Err c.in-Err-read_block.stop) (c.in-Err-read_block.ensures.goes drawn))
 
 pub returns-in-Err-read_block-clause-turns : goal.returns-in-Err-read_block-clause-turns
 returns-in-Err-read_block-clause-turns g c told entry held =
@@ -49,7 +54,7 @@ pub returns-in-Err-clause-any : goal.returns-in-Err-clause-any
 returns-in-Err-clause-any g c =
     let here = (sizes (blocks_of c.args.session.now) (g.P.Platform.head c.args.platform.now) (g.P.Platform.capacity c.args.platform.now)) in
     refused_over g.P.Platform.tells (g.P.Platform.history c.args.platform.now).present c.args.session.now here c.args.table.now (Read c.args.name.now c.args.block) c.args.name.now c.args.block c.in-Err.reply c.args.buffer.now c.in-Err.ensures.none
-    (read_refused here (needed_by c.args.session.now) c.args.table.now c.args.name.now c.args.block c.in-Err.reply c.args.buffer.now c.in-Err.ensures.none)
+    (read_refused here (needed_by c.args.session.now) (needed_by c.args.session.now) c.args.table.now c.args.name.now c.args.block c.in-Err.reply c.args.buffer.now c.in-Err.ensures.none)
 
 pub returns-in-Ok-read_block-clause-any : goal.returns-in-Ok-read_block-clause-any
 returns-in-Ok-read_block-clause-any g c =

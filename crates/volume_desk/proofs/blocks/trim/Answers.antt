@@ -3,23 +3,24 @@ use Rattle.device_session.specs.Open.{blocks_of, needed_by}
 use Rattle.volume_lines.specs.Lines.{Trim}
 use Rattle.volume_terms.specs.Turn.{Trims}
 use Rattle.volume_terms.proofs.KeepingLaws.{trimmed_at}
-use Rattle.session_calls.proofs.CallLaws.{calls_done, calls_none, calls_of, calls_stopped, no_draw}
+use Rattle.session_calls.proofs.CallLaws.{calls_done, calls_none, calls_stopped, no_draw}
 use Rattle.volume_desk.specs.Causes.{sizes}
 use Rattle.volume_desk.proofs.CauseLaws.{has_block, trim_may, trim_refused}
 use Rattle.volume_desk.proofs.DoneLaws.{refused_over, unmapped_at}
 use Rattle.volume_desk.proofs.DeskLaws.{changed_none, held_trimmed, no_block, trim_sound}
+use Rattle.volume_desk.proofs.ReadLaws.{calls_block}
 use Rattle.volume_desk.proofs.blocks.trim.Goals as goal
 
 pub returns-in-Err-clause-calls : goal.returns-in-Err-clause-calls
-returns-in-Err-clause-calls g c drawn = calls_none g.P.Platform 1 _ drawn _ _ c.requires.open
+returns-in-Err-clause-calls g c drawn buffer = calls_none g.P.Platform 1 _ _ drawn _ _ c.requires.open
 
 pub returns-in-Err-clause-turns : goal.returns-in-Err-clause-turns
 returns-in-Err-clause-turns g c told entry buffer held =
     changed_none _ _ _ _ entry _ _ held (no_block c.args.table.now entry c.args.name.now c.args.block Trims c.in-Err.reply buffer c.in-Err.ensures.none)
 
 pub returns-in-Ok-trim_block-clause-calls : goal.returns-in-Ok-trim_block-clause-calls
-returns-in-Ok-trim_block-clause-calls g c drawn =
-    calls_done g.P.Platform 1 1 _ _ drawn drawn _ _ tt _ (omega arith) (calls_of g.P.Platform 1 _ _ drawn drawn _ _ (Ok tt) (c.in-Ok-trim_block.ensures.goes drawn))
+returns-in-Ok-trim_block-clause-calls g c drawn buffer =
+    calls_done g.P.Platform 1 1 40 40 _ _ drawn drawn _ _ tt _ (omega arith) (omega arith) (calls_block g.P.Platform 1 _ _ drawn drawn _ _ (Ok tt) _ c.requires.open (c.in-Ok-trim_block.ensures.goes drawn))
 
 pub returns-in-Ok-trim_block-clause-turns : goal.returns-in-Ok-trim_block-clause-turns
 returns-in-Ok-trim_block-clause-turns g c told entry buffer held =
@@ -34,8 +35,8 @@ returns-in-Ok-trim_block-clause-turns g c told entry buffer held =
     }
 
 pub returns-in-Err-trim_block-clause-calls : goal.returns-in-Err-trim_block-clause-calls
-returns-in-Err-trim_block-clause-calls g c drawn =
-    calls_stopped g.P.Platform 1 1 _ _ drawn drawn _ _ c.in-Err-trim_block.stop (omega arith) (calls_of g.P.Platform 1 _ _ drawn drawn _ _ (Err c.in-Err-trim_block.stop) (c.in-Err-trim_block.ensures.goes drawn))
+returns-in-Err-trim_block-clause-calls g c drawn buffer =
+    calls_stopped g.P.Platform 1 1 40 40 _ _ drawn drawn _ _ c.in-Err-trim_block.stop (omega arith) (omega arith) (calls_block g.P.Platform 1 _ _ drawn drawn _ _ (Err c.in-Err-trim_block.stop) _ c.requires.open (c.in-Err-trim_block.ensures.goes drawn))
 
 pub returns-in-Err-trim_block-clause-turns : goal.returns-in-Err-trim_block-clause-turns
 returns-in-Err-trim_block-clause-turns g c told entry buffer held =
@@ -45,7 +46,7 @@ pub returns-in-Err-clause-any : goal.returns-in-Err-clause-any
 returns-in-Err-clause-any g c buffer =
     let here = (sizes (blocks_of c.args.session.now) (g.P.Platform.head c.args.platform.now) (g.P.Platform.capacity c.args.platform.now)) in
     refused_over g.P.Platform.tells (g.P.Platform.history c.args.platform.now).present c.args.session.now here c.args.table.now (Trim c.args.name.now c.args.block) c.args.name.now c.args.block c.in-Err.reply buffer c.in-Err.ensures.none
-    (trim_refused here (needed_by c.args.session.now) c.args.table.now c.args.name.now c.args.block c.in-Err.reply buffer c.in-Err.ensures.none)
+    (trim_refused here (needed_by c.args.session.now) (needed_by c.args.session.now) c.args.table.now c.args.name.now c.args.block c.in-Err.reply buffer c.in-Err.ensures.none)
 
 pub returns-in-Ok-trim_block-clause-any : goal.returns-in-Ok-trim_block-clause-any
 returns-in-Ok-trim_block-clause-any g c buffer = (

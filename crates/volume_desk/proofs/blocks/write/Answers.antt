@@ -4,24 +4,25 @@ use Rattle.session_calls.specs.Along.{drawn_by}
 use Rattle.volume_lines.specs.Lines.{Write}
 use Rattle.volume_terms.specs.Turn.{Writes}
 use Rattle.volume_terms.proofs.KeepingLaws.{wrote}
-use Rattle.session_calls.proofs.CallLaws.{calls_done, calls_none, calls_of, calls_stopped}
+use Rattle.session_calls.proofs.CallLaws.{calls_done, calls_none, calls_stopped}
 use Rattle.volume_desk.specs.Causes.{sizes}
 use Rattle.volume_desk.proofs.CauseLaws.{has_block, write_may, write_refused}
 use Rattle.volume_desk.specs.Drawing.{tally}
 use Rattle.volume_desk.proofs.DrawingLaws.{refused_drew, seals_none, seals_one}
 use Rattle.volume_desk.proofs.DoneLaws.{keeps_all, refused_over, written_at}
 use Rattle.volume_desk.proofs.DeskLaws.{changed_none, held_wrote, no_block, write_sound}
+use Rattle.volume_desk.proofs.ReadLaws.{calls_block}
 use Rattle.volume_desk.proofs.blocks.write.Goals as goal
 
 pub returns-in-Err-clause-calls : goal.returns-in-Err-clause-calls
-returns-in-Err-clause-calls g c = calls_none g.P.Platform 1 _ (drawn_by g.T.Tape c.args.tape.now) _ _ c.requires.open
+returns-in-Err-clause-calls g c buffer = calls_none g.P.Platform 1 _ _ (drawn_by g.T.Tape c.args.tape.now) _ _ c.requires.open
 
 pub returns-in-Err-clause-turns : goal.returns-in-Err-clause-turns
 returns-in-Err-clause-turns g c told entry buffer held =
     changed_none _ _ _ _ entry _ _ held (no_block c.args.table.now entry c.args.name.now c.args.block (Writes (g.P.Platform.capacity c.args.platform.now) c.args.content.now) c.in-Err.reply buffer c.in-Err.ensures.none)
 
 pub returns-then-head-capacity-clause-calls : goal.returns-then-head-capacity-clause-calls
-returns-then-head-capacity-clause-calls g c = calls_none g.P.Platform 1 _ (drawn_by g.T.Tape c.args.tape.now) _ _ c.requires.open
+returns-then-head-capacity-clause-calls g c buffer = calls_none g.P.Platform 1 _ _ (drawn_by g.T.Tape c.args.tape.now) _ _ c.requires.open
 
 pub returns-then-head-capacity-clause-turns : goal.returns-then-head-capacity-clause-turns
 returns-then-head-capacity-clause-turns g c told entry buffer held =
@@ -30,8 +31,8 @@ returns-then-head-capacity-clause-turns g c told entry buffer held =
     changed_none _ _ _ _ entry _ _ held (is.v, is.named, is.below, (full, refl))
 
 pub returns-in-Ok-write_block-clause-calls : goal.returns-in-Ok-write_block-clause-calls
-returns-in-Ok-write_block-clause-calls g c =
-    calls_done g.P.Platform 1 1 _ _ _ _ _ _ tt _ (omega arith) (calls_of g.P.Platform 1 _ _ _ _ _ _ (Ok tt) c.in-Ok-write_block.ensures.goes)
+returns-in-Ok-write_block-clause-calls g c buffer =
+    calls_done g.P.Platform 1 1 40 40 _ _ _ _ _ _ tt _ (omega arith) (omega arith) (calls_block g.P.Platform 1 _ _ _ _ _ _ (Ok tt) _ c.requires.open c.in-Ok-write_block.ensures.goes)
 
 pub returns-in-Ok-write_block-clause-turns : goal.returns-in-Ok-write_block-clause-turns
 returns-in-Ok-write_block-clause-turns g c told entry buffer held =
@@ -47,8 +48,8 @@ returns-in-Ok-write_block-clause-turns g c told entry buffer held =
     }
 
 pub returns-in-Err-write_block-clause-calls : goal.returns-in-Err-write_block-clause-calls
-returns-in-Err-write_block-clause-calls g c =
-    calls_stopped g.P.Platform 1 1 _ _ _ _ _ _ c.in-Err-write_block.stop (omega arith) (calls_of g.P.Platform 1 _ _ _ _ _ _ (Err c.in-Err-write_block.stop) c.in-Err-write_block.ensures.goes)
+returns-in-Err-write_block-clause-calls g c buffer =
+    calls_stopped g.P.Platform 1 1 40 40 _ _ _ _ _ _ c.in-Err-write_block.stop (omega arith) (omega arith) (calls_block g.P.Platform 1 _ _ _ _ _ _ (Err c.in-Err-write_block.stop) _ c.requires.open c.in-Err-write_block.ensures.goes)
 
 pub returns-in-Err-write_block-clause-turns : goal.returns-in-Err-write_block-clause-turns
 returns-in-Err-write_block-clause-turns g c told entry buffer held = (
@@ -60,7 +61,7 @@ pub returns-in-Err-clause-any : goal.returns-in-Err-clause-any
 returns-in-Err-clause-any g c buffer =
     let here = (sizes (blocks_of c.args.session.now) (g.P.Platform.head c.args.platform.now) (g.P.Platform.capacity c.args.platform.now)) in
     refused_over g.P.Platform.tells (g.P.Platform.history c.args.platform.now).present c.args.session.now here c.args.table.now (Write c.args.name.now c.args.block c.args.content.now) c.args.name.now c.args.block c.in-Err.reply buffer c.in-Err.ensures.none
-    (write_refused here (needed_by c.args.session.now) c.args.table.now c.args.name.now c.args.block c.args.content.now c.in-Err.reply buffer c.in-Err.ensures.none)
+    (write_refused here (needed_by c.args.session.now) (needed_by c.args.session.now) c.args.table.now c.args.name.now c.args.block c.args.content.now c.in-Err.reply buffer c.in-Err.ensures.none)
 
 pub returns-then-head-capacity-clause-any : goal.returns-then-head-capacity-clause-any
 returns-then-head-capacity-clause-any g c buffer =

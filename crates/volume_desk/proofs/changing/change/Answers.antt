@@ -1,23 +1,24 @@
-use Rattle.std.proofs.Common.{Err, ◌≡◌, ◌+◌, ℕ, List, length, subst, sym, ◌∙◌, arith}
+use Rattle.std.proofs.Common.{Err, ◌≡◌, ◌+◌, ◌*◌, ℕ, List, length, subst, sym, ◌∙◌, arith}
 use Rattle.sdbt_base.specs.Arrays.{written}
 use Rattle.byte_arrays.specs.Ranges.{blocks_from}
 use Rattle.device_course.specs.Held.{trim_all}
 use Rattle.session_calls.specs.Along.{drawn_by}
 use Rattle.volume_table.specs.Tables.{IsInside}
 use Rattle.volume_desk.specs.Turns.{ChangesTo}
-use Rattle.session_calls.proofs.CallLaws.{calls_of, calls_stopped, calls_then, platform_quiet, tape_quiet}
+use Rattle.session_calls.proofs.CallLaws.{calls_stopped, calls_then, platform_quiet, tape_quiet}
 use Rattle.volume_desk.proofs.CauseLaws.{write_names}
 use Rattle.volume_desk.proofs.DeskLaws.{ok_follows, on_ok, write_sound}
 use Rattle.volume_desk.proofs.DoneLaws.{cleared}
 use Rattle.volume_desk.proofs.DrawingLaws.{one_then}
+use Rattle.volume_desk.proofs.ReadLaws.{along_block, calls_block}
 use Rattle.volume_desk.proofs.changing.change.Goals as goal
 
 pub returns-in-Ok-clause-calls : goal.returns-in-Ok-clause-calls
 returns-in-Ok-clause-calls g c =
     let P = g.P.Platform in
     let one = c.in-Ok.ensures.goes in
-    calls_then P 1 c.args.volume.now.count _ _ _ (drawn_by g.T.Tape c.args.tape.now) (drawn_by g.T.Tape c.write_block.new.tape) (drawn_by g.T.Tape c.write_block.new.tape) _ _ _ c.trim_range.result
-    one.along (platform_quiet _ _ one.quiet) (tape_quiet _ _ one.quiet) (c.trim_range.ensures.calls (drawn_by g.T.Tape c.write_block.new.tape))
+    calls_then P 1 c.args.volume.now.count 40 (40 * c.args.volume.now.count) _ _ _ (drawn_by g.T.Tape c.args.tape.now) (drawn_by g.T.Tape c.write_block.new.tape) (drawn_by g.T.Tape c.write_block.new.tape) _ _ _ c.trim_range.result
+    (along_block P 1 _ _ _ _ _ _ _ c.requires.open one.along) (platform_quiet _ _ one.quiet) (tape_quiet _ _ one.quiet) (c.trim_range.ensures.calls (drawn_by g.T.Tape c.write_block.new.tape))
 
 pub returns-in-Ok-clause-head : goal.returns-in-Ok-clause-head
 returns-in-Ok-clause-head g c = on_ok c.trim_range.result _ (c.trim_range.ensures.head ∙ c.in-Ok.ensures.adds.0)
@@ -37,8 +38,8 @@ returns-in-Ok-clause-damage g c told mounted = c.trim_range.ensures.damage told 
 
 pub returns-in-Err-clause-calls : goal.returns-in-Err-clause-calls
 returns-in-Err-clause-calls g c =
-    calls_stopped g.P.Platform 1 (1 + c.args.volume.now.count) _ _ (drawn_by g.T.Tape c.args.tape.now) (drawn_by g.T.Tape c.write_block.new.tape) _ _ c.in-Err.stop (omega arith)
-    (calls_of g.P.Platform 1 _ _ _ _ _ _ (Err c.in-Err.stop) c.in-Err.ensures.goes)
+    calls_stopped g.P.Platform 1 (1 + c.args.volume.now.count) 40 (40 + 40 * c.args.volume.now.count) _ _ (drawn_by g.T.Tape c.args.tape.now) (drawn_by g.T.Tape c.write_block.new.tape) _ _ c.in-Err.stop (omega arith) (omega arith)
+    (calls_block g.P.Platform 1 _ _ _ _ _ _ (Err c.in-Err.stop) _ c.requires.open c.in-Err.ensures.goes)
 
 pub returns-in-Err-clause-leads : goal.returns-in-Err-clause-leads
 returns-in-Err-clause-leads g c told device array at = write_sound (g.P.Platform.history c.write_block.new.platform).present c.write_block.new.session device array 0 c.encode.new.out c.in-Err.stop (c.in-Err.ensures.leads told device array at)

@@ -1,4 +1,4 @@
-use Rattle.std.proofs.Common.{Err, ◌≡◌, ◌+◌, ℕ, Some, ap, refl, subst, sym, ◌∙◌, arith}
+use Rattle.std.proofs.Common.{Err, ◌≡◌, ◌+◌, ◌*◌, ℕ, Some, ap, refl, subst, sym, ◌∙◌, arith}
 use Rattle.sdbt_base.specs.Arrays.{Session as OpenSession, mounted}
 use Rattle.sdbt_base.specs.Counts.{counts}
 use Rattle.byte_arrays.specs.Ranges.{blocks_from}
@@ -8,11 +8,12 @@ use Rattle.device_course.specs.Held.{trim_all}
 use Rattle.device_course.proofs.HeldLaws.{trim_all-more}
 use Rattle.session_calls.specs.Along.{Along}
 use Rattle.session_calls.proofs.AlongLaws.{along_start, along_then}
-use Rattle.session_calls.proofs.CallLaws.{calls_of, calls_stopped, calls_then, no_draw, platform_quiet}
+use Rattle.session_calls.proofs.CallLaws.{along_more, calls_stopped, calls_then, no_draw, platform_quiet}
 use Rattle.volume_desk.specs.Done.{HasTrimmed}
 use Rattle.volume_desk.proofs.CauseLaws.{trim_names}
 use Rattle.volume_desk.proofs.DeskLaws.{trim_sound}
 use Rattle.volume_desk.proofs.DoneLaws.{trimmed_more, trimmed_none}
+use Rattle.volume_desk.proofs.ReadLaws.{along_block, calls_block}
 use Rattle.volume_desk.proofs.changing.trim_range.Goals as goal
 
 pub loop-i-init : goal.loop-i-init
@@ -30,7 +31,8 @@ loop-i-preserved g c =
     let so_far = c.loop-i.invariant in
     let first : ℕ = c.args.volume.now.start in
     record {
-      along = λ drawn. along_then P c.loop-i.i 1 _ _ _ drawn drawn drawn _ _ _ (so_far.along drawn) (c.in-Ok.ensures.goes drawn).along;
+      along = λ drawn. along_more P (c.loop-i.i + 1) (c.loop-i.i + 1) (40 * c.loop-i.i + 40) (40 * (c.loop-i.i + 1)) _ _ drawn drawn _ _ (omega arith) (omega arith)
+          (along_then P c.loop-i.i 1 (40 * c.loop-i.i) 40 _ _ _ drawn drawn drawn _ _ _ (so_far.along drawn) (along_block P 1 _ _ drawn drawn _ _ _ (so_far.along drawn).is_open (c.in-Ok.ensures.goes drawn).along));
       trims = λ told device array at.
           subst (λ (a : OpenSession). IsAt (P.history c.trim_block.new.platform).present (Some c.trim_block.new.session) (mounted device a))
           (sym (ap (trim_all array) (blocks_from-more first c.loop-i.i) ∙ trim_all-more array (blocks_from first c.loop-i.i) (first + c.loop-i.i)))
@@ -52,8 +54,9 @@ pub returns-in-Err-clause-calls : goal.returns-in-Err-clause-calls
 returns-in-Err-clause-calls g c drawn =
     let P = g.P.Platform in
     let so_far = c.loop-i.invariant in
-    calls_stopped P (c.loop-i.i + 1) c.args.volume.now.count _ _ drawn drawn _ _ c.in-Err.stop (omega (arith, c.loop-i-test.true))
-    (calls_then P c.loop-i.i 1 _ _ _ drawn drawn drawn _ _ _ (Err c.in-Err.stop) (so_far.along drawn) so_far.quiet refl (calls_of P 1 _ _ drawn drawn _ _ (Err c.in-Err.stop) (c.in-Err.ensures.goes drawn)))
+    calls_stopped P (c.loop-i.i + 1) c.args.volume.now.count (40 * c.loop-i.i + 40) (40 * c.args.volume.now.count) _ _ drawn drawn _ _ c.in-Err.stop (omega (arith, c.loop-i-test.true)) (omega (arith, c.loop-i-test.true))
+    (calls_then P c.loop-i.i 1 (40 * c.loop-i.i) 40 _ _ _ drawn drawn drawn _ _ _ (Err c.in-Err.stop) (so_far.along drawn) so_far.quiet refl
+    (calls_block P 1 _ _ drawn drawn _ _ (Err c.in-Err.stop) _ (so_far.along drawn).is_open (c.in-Err.ensures.goes drawn)))
 
 pub returns-in-Err-clause-head : goal.returns-in-Err-clause-head
 returns-in-Err-clause-head g c = c.in-Err.ensures.head ∙ c.loop-i.invariant.head
@@ -69,7 +72,7 @@ returns-clause-calls g c drawn =
     let so_far = c.loop-i.invariant in
     let all : c.loop-i.i ≡ c.args.volume.now.count = omega (arith, c.loop-i-test.false, c.loop-i.auto.i-end) in
     record {
-      along = subst (λ (n : ℕ). Along g.P.Platform n c.args.platform.now c.loop-i.platform drawn drawn c.args.session.now c.loop-i.session) all (so_far.along drawn);
+      along = subst (λ (n : ℕ). Along g.P.Platform n (40 * n) c.args.platform.now c.loop-i.platform drawn drawn c.args.session.now c.loop-i.session) all (so_far.along drawn);
       stops = tt;
       quiet = ap (λ (n : ℕ). counts n drawn.faults 0 0 0) so_far.quiet;
       cause = tt;

@@ -1,4 +1,4 @@
-use Rattle.std.specs.Prelude.{◌≡◌, Some}
+use Rattle.std.specs.Prelude.{◌≡◌, ◌*◌, Some}
 use Rattle.sdbt_base.specs.Arrays.{Device, Session as OpenSession, mounted}
 use Rattle.byte_arrays.specs.Ranges.{blocks_from}
 use Rattle.device_course.specs.States.{IsAt}
@@ -12,7 +12,7 @@ abbrev pub invariant-loop-i : goal.invariant-loop-i
 invariant-loop-i g l =
     let P = g.P.Platform in
     record {
-      along : (drawn : Drawn) → Along P l.i l.fn.platform l.platform drawn drawn l.fn.session l.session;
+      along : (drawn : Drawn) → Along P l.i (40 * l.i) l.fn.platform l.platform drawn drawn l.fn.session l.session;
       trims : P.tells → (device : Device) (array : OpenSession) → IsAt (P.history l.fn.platform).present (Some l.fn.session) (mounted device array)
           → IsAt (P.history l.platform).present (Some l.session) (mounted device (trim_all array (blocks_from l.volume.start l.i)));
       head : P.head l.platform ≡ P.head l.fn.platform;

@@ -1,4 +1,4 @@
-use Rattle.std.proofs.Common.{inl, inr, refl}
+use Rattle.std.proofs.Common.{Ok, Err, inl, inr, refl, arith}
 use Rattle.platform.proofs.Moments.{During-now}
 use Rattle.device_terms.specs.Served.{IsServedImage}
 use Rattle.device_session.specs.Open.{blocks_of}
@@ -12,7 +12,7 @@ use Rattle.volume_desk.specs.Turns.{StopsAt}
 use Rattle.session_calls.proofs.CarryLaws.{carries_committed, carries_going, carries_stopped}
 use Rattle.volume_desk.proofs.CauseLaws.{commit_may}
 use Rattle.volume_desk.proofs.DoneLaws.{commit_along, keeps_all, needs_behind, short_pages, short_still}
-use Rattle.volume_desk.proofs.DrawingLaws.{commit_drew, short_head}
+use Rattle.volume_desk.proofs.DrawingLaws.{commit_drew, short_head, spends_some}
 use Rattle.volume_desk.proofs.TurnLaws.{array_held, commit_pages, commit_served, committed_to}
 use Rattle.volume_desk.proofs.committing.commit.Goals as goal
 
@@ -50,7 +50,12 @@ returns-in-Ok-clause-any g c table buffer =
 pub returns-in-Err-clause-any : goal.returns-in-Err-clause-any
 returns-in-Err-clause-any g c table buffer = (commit_may g.P.Platform.tells (g.P.Platform.history c.commit_session.new.platform).present Commit c.args.ledger.now c.commit_session.new.ledger c.in-Err.stop tt tt tt c.in-Err.ensures.goes.unput, (table, refl))
 
-pub returns-in-Ok-clause-drew : goal.returns-in-Ok-clause-drew
-returns-in-Ok-clause-drew g c buffer =
-    commit_drew g.P.Platform g.T.Tape c.args.platform.now c.commit_session.new.platform c.args.tape.now c.commit_session.new.tape c.in-Ok.done.reply c.reply_to_commit.result buffer c.reply_to_commit.ensures c.in-Ok.ensures.goes.drew
-    (short_head g.P.Platform _ _ _ _ _ _ _ _ c.in-Ok.done.reply c.in-Ok.ensures.answers)
+pub returns-in-Ok-clause-spends : goal.returns-in-Ok-clause-spends
+returns-in-Ok-clause-spends g c table buffer =
+    spends_some g.P.Platform.tells _ _ _ _ _ _ table Commit buffer (Ok c.reply_to_commit.result) tt
+    (commit_drew g.P.Platform g.T.Tape c.args.platform.now c.commit_session.new.platform c.args.tape.now c.commit_session.new.tape c.in-Ok.done.reply c.reply_to_commit.result buffer c.reply_to_commit.ensures c.in-Ok.ensures.goes.drew
+    (short_head g.P.Platform _ _ _ _ _ _ _ _ c.in-Ok.done.reply c.in-Ok.ensures.answers))
+    (λ told. omega (arith, c.in-Ok.ensures.goes.unread told))
+
+pub returns-in-Err-clause-spends : goal.returns-in-Err-clause-spends
+returns-in-Err-clause-spends g c table buffer = spends_some g.P.Platform.tells _ _ _ _ _ _ table Commit buffer (Err c.in-Err.stop) tt tt (λ told. omega (arith, c.in-Err.ensures.goes.unread told))

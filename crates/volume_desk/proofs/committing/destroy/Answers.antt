@@ -1,4 +1,4 @@
-use Rattle.std.proofs.Common.{◌+◌}
+use Rattle.std.proofs.Common.{◌+◌, Ok, Err, arith}
 use Rattle.platform.proofs.Moments.{During-now}
 use Rattle.device_terms.specs.Served.{IsServedImage}
 use Rattle.device_course.specs.States.{around}
@@ -10,17 +10,19 @@ use Rattle.session_calls.proofs.CarryLaws.{carries_along, carries_committed, car
 use Rattle.device_course.proofs.MadeLaws.{made_kept}
 use Rattle.volume_desk.specs.Causes.{sizes}
 use Rattle.volume_desk.proofs.CauseLaws.{commit_may, stops_known, takes_none_any, takes_some_any}
-use Rattle.volume_desk.proofs.DoneLaws.{answered_along, destroy_along, needs_behind, short_still, was_mid}
+use Rattle.volume_desk.proofs.DoneLaws.{answered_along, destroy_along, needs_behind, short_behind, short_still, was_mid}
 use Rattle.volume_desk.specs.Done.{IsCleared}
 use Rattle.volume_desk.specs.Drawing.{tally}
-use Rattle.volume_desk.proofs.DrawingLaws.{destroy_drew, short_head, takes_none_drew, takes_some_drew}
+use Rattle.volume_desk.proofs.DrawingLaws.{destroy_drew, short_head, spends_some, takes_none_drew, takes_some_drew}
+use Rattle.volume_desk.specs.Reads.{reads_out}
+use Rattle.volume_desk.proofs.ReadLaws.{destroy_reads, takes_none_reads, takes_some_reads}
 use Rattle.volume_desk.proofs.TurnLaws.{changed_served, committed_to, destroy_served, destroy_stopped, stopped_kept, takes_none, takes_some}
 use Rattle.volume_desk.proofs.committing.destroy.Goals as goal
 
 pub returns-in-Some-clause-carries : goal.returns-in-Some-clause-carries
 returns-in-Some-clause-carries g c =
     carries_going _ _ _ _ _ _ _ (λ going. tt)
-    (carries_along g.P.Platform g.T.Tape g.L.Sink (1 + blocks_of c.args.first) c.args.platform.now c.take_out.new.platform c.args.tape.now c.take_out.new.tape c.args.ledger.now _ _ c.requires.ready c.take_out.ensures.calls.along)
+    (carries_along g.P.Platform g.T.Tape g.L.Sink (1 + blocks_of c.args.first) _ c.args.platform.now c.take_out.new.platform c.args.tape.now c.take_out.new.tape c.args.ledger.now _ _ c.requires.ready c.take_out.ensures.calls.along)
 
 pub returns-in-Some-clause-serves : goal.returns-in-Some-clause-serves
 returns-in-Some-clause-serves g c told entry buffer held =
@@ -30,7 +32,7 @@ returns-in-Some-clause-serves g c told entry buffer held =
 pub returns-in-Err-clause-carries : goal.returns-in-Err-clause-carries
 returns-in-Err-clause-carries g c =
     carries_end _ _ _ _ _ _ _ (λ going. tt)
-    (carries_along g.P.Platform g.T.Tape g.L.Sink (1 + blocks_of c.args.first) c.args.platform.now c.take_out.new.platform c.args.tape.now c.take_out.new.tape c.args.ledger.now _ _ c.requires.ready c.take_out.ensures.calls.along)
+    (carries_along g.P.Platform g.T.Tape g.L.Sink (1 + blocks_of c.args.first) _ c.args.platform.now c.take_out.new.platform c.args.tape.now c.take_out.new.tape c.args.ledger.now _ _ c.requires.ready c.take_out.ensures.calls.along)
 
 pub returns-in-Err-clause-serves : goal.returns-in-Err-clause-serves
 returns-in-Err-clause-serves g c told entry buffer held =
@@ -38,7 +40,7 @@ returns-in-Err-clause-serves g c told entry buffer held =
 
 pub returns-in-Ok-commit_session-clause-carries : goal.returns-in-Ok-commit_session-clause-carries
 returns-in-Ok-commit_session-clause-carries g c =
-    let one = carries_along g.P.Platform g.T.Tape g.L.Sink (1 + blocks_of c.args.first) c.args.platform.now c.take_out.new.platform c.args.tape.now c.take_out.new.tape c.args.ledger.now _ _ c.requires.ready c.take_out.ensures.calls.along in
+    let one = carries_along g.P.Platform g.T.Tape g.L.Sink (1 + blocks_of c.args.first) (reads_out c.args.table.now c.args.name.now c.take_out.result) c.args.platform.now c.take_out.new.platform c.args.tape.now c.take_out.new.tape c.args.ledger.now _ _ c.requires.ready c.take_out.ensures.calls.along in
     carries_then _ _ _ _ _ _ _ _ _ tt one
     (carries_going _ _ _ _ _ _ _ (λ going. tt) (carries_committed g.P.Platform g.T.Tape g.L.Sink _ _ _ _ _ _ _ c.in-Ok-commit_session.done c.in-Ok-commit_session.ensures.goes c.in-Ok-commit_session.ensures.leads))
 
@@ -54,7 +56,7 @@ returns-in-Ok-commit_session-clause-serves g c told entry buffer held =
 
 pub returns-in-Err-commit_session-clause-carries : goal.returns-in-Err-commit_session-clause-carries
 returns-in-Err-commit_session-clause-carries g c =
-    let one = carries_along g.P.Platform g.T.Tape g.L.Sink (1 + blocks_of c.args.first) c.args.platform.now c.take_out.new.platform c.args.tape.now c.take_out.new.tape c.args.ledger.now _ _ c.requires.ready c.take_out.ensures.calls.along in
+    let one = carries_along g.P.Platform g.T.Tape g.L.Sink (1 + blocks_of c.args.first) (reads_out c.args.table.now c.args.name.now c.take_out.result) c.args.platform.now c.take_out.new.platform c.args.tape.now c.take_out.new.tape c.args.ledger.now _ _ c.requires.ready c.take_out.ensures.calls.along in
     carries_then _ _ _ _ _ _ _ _ _ tt one
     (carries_going _ _ _ _ _ _ _ (λ going. cc) (carries_stopped g.P.Platform g.T.Tape g.L.Sink _ _ _ _ _ _ _ c.in-Err-commit_session.stop c.in-Err-commit_session.ensures.goes c.in-Err-commit_session.ensures.leads))
 
@@ -94,6 +96,8 @@ returns-in-Ok-commit_session-clause-any g c buffer =
     c.in-Ok-commit_session.done.reply number is c.in-Ok-commit_session.ensures.answers)
     (λ needed free is told. short_still g.P.Platform c.take_out.new.platform c.commit_session.new.platform c.take_out.new.tape c.commit_session.new.tape c.args.ledger.now c.commit_session.new.ledger c.take_out.new.session c.in-Ok-commit_session.done.session
     c.in-Ok-commit_session.done.reply needed free (λ image session. IsCleared (history c.args.platform.now).present c.args.first image session c.args.table.now c.args.name.now left) is c.in-Ok-commit_session.ensures.answers (cleared told))
+    (λ needed free is. short_behind g.P.Platform c.take_out.new.platform c.commit_session.new.platform c.take_out.new.tape c.commit_session.new.tape c.args.ledger.now c.commit_session.new.ledger c.take_out.new.session c.in-Ok-commit_session.done.session
+    c.in-Ok-commit_session.done.reply needed free is c.in-Ok-commit_session.ensures.answers)
 
 pub returns-in-Err-commit_session-clause-any : goal.returns-in-Err-commit_session-clause-any
 returns-in-Err-commit_session-clause-any g c buffer =
@@ -102,12 +106,30 @@ returns-in-Err-commit_session-clause-any g c buffer =
       (c.take_out.new.table, taken.0),
     )
 
-pub returns-in-Some-clause-drew : goal.returns-in-Some-clause-drew
-returns-in-Some-clause-drew g c buffer =
-    takes_some_drew (tally (g.T.Tape.drawn c.args.tape.now) (g.P.Platform.head c.args.platform.now)) (tally (g.T.Tape.drawn c.take_out.new.tape) (g.P.Platform.head c.take_out.new.platform)) c.args.name.now buffer c.in-Ok.refused c.in-Some.reply c.in-Some.is (c.in-Ok.ensures.drew buffer)
+pub returns-in-Some-clause-spends : goal.returns-in-Some-clause-spends
+returns-in-Some-clause-spends g c buffer =
+    spends_some g.P.Platform.tells _ _ _ _ _ _ c.args.table.now (Destroy c.args.name.now) buffer (Ok c.in-Some.reply) tt
+    (takes_some_drew (tally (g.T.Tape.drawn c.args.tape.now) (g.P.Platform.head c.args.platform.now)) (tally (g.T.Tape.drawn c.take_out.new.tape) (g.P.Platform.head c.take_out.new.platform)) c.args.name.now buffer c.in-Ok.refused c.in-Some.reply c.in-Some.is (c.in-Ok.ensures.drew buffer))
+    (λ told. let none = takes_some_reads c.args.table.now c.args.name.now c.in-Ok.refused c.in-Some.reply _ _ c.in-Some.is (c.in-Ok.ensures.calls.along.reads told) in omega (arith, none))
 
-pub returns-in-Ok-commit_session-clause-drew : goal.returns-in-Ok-commit_session-clause-drew
-returns-in-Ok-commit_session-clause-drew g c buffer =
+pub returns-in-Err-clause-spends : goal.returns-in-Err-clause-spends
+returns-in-Err-clause-spends g c buffer = spends_some g.P.Platform.tells _ _ _ _ _ _ c.args.table.now (Destroy c.args.name.now) buffer (Err c.in-Err.stop) tt tt c.in-Err.ensures.calls.along.reads
+
+pub returns-in-Ok-commit_session-clause-spends : goal.returns-in-Ok-commit_session-clause-spends
+returns-in-Ok-commit_session-clause-spends g c buffer =
     let one = takes_none_drew (tally (g.T.Tape.drawn c.args.tape.now) (g.P.Platform.head c.args.platform.now)) (tally (g.T.Tape.drawn c.take_out.new.tape) (g.P.Platform.head c.take_out.new.platform)) c.args.name.now buffer c.in-Ok.refused c.in_default.is (c.in-Ok.ensures.drew buffer) in
-    destroy_drew g.P.Platform g.T.Tape c.args.platform.now c.take_out.new.platform c.commit_session.new.platform c.args.tape.now c.take_out.new.tape c.commit_session.new.tape c.args.name.now c.in-Ok-commit_session.done.reply c.reply_to_destroy.result buffer c.reply_to_destroy.ensures
-    one c.in-Ok-commit_session.ensures.goes.drew (short_head g.P.Platform _ _ _ _ _ _ _ _ c.in-Ok-commit_session.done.reply c.in-Ok-commit_session.ensures.answers)
+    spends_some g.P.Platform.tells c.args.tape.now c.commit_session.new.tape (tally (g.T.Tape.drawn c.args.tape.now) (g.P.Platform.head c.args.platform.now)) (tally (g.T.Tape.drawn c.commit_session.new.tape) (g.P.Platform.head c.commit_session.new.platform))
+    (g.P.Platform.reads c.args.platform.now) (g.P.Platform.reads c.commit_session.new.platform) c.args.table.now (Destroy c.args.name.now) buffer (Ok c.reply_to_destroy.result) tt
+    (destroy_drew g.P.Platform g.T.Tape c.args.platform.now c.take_out.new.platform c.commit_session.new.platform c.args.tape.now c.take_out.new.tape c.commit_session.new.tape c.args.name.now c.in-Ok-commit_session.done.reply c.reply_to_destroy.result buffer c.reply_to_destroy.ensures
+    one c.in-Ok-commit_session.ensures.goes.drew (short_head g.P.Platform _ _ _ _ _ _ _ _ c.in-Ok-commit_session.done.reply c.in-Ok-commit_session.ensures.answers))
+    (λ told.
+    let taken = takes_none_reads c.args.table.now c.args.name.now c.in-Ok.refused _ _ c.in_default.is (c.in-Ok.ensures.calls.along.reads told) in
+    destroy_reads c.args.table.now c.args.name.now c.in-Ok-commit_session.done.reply c.reply_to_destroy.result buffer (g.P.Platform.reads c.args.platform.now) (g.P.Platform.reads c.commit_session.new.platform) c.reply_to_destroy.ensures
+    (omega (arith, taken, c.in-Ok-commit_session.ensures.goes.unread told)))
+
+pub returns-in-Err-commit_session-clause-spends : goal.returns-in-Err-commit_session-clause-spends
+returns-in-Err-commit_session-clause-spends g c buffer =
+    spends_some g.P.Platform.tells _ _ _ _ _ _ c.args.table.now (Destroy c.args.name.now) buffer (Err c.in-Err-commit_session.stop) tt tt
+    (λ told.
+    let taken = takes_none_reads c.args.table.now c.args.name.now c.in-Ok.refused _ _ c.in_default.is (c.in-Ok.ensures.calls.along.reads told) in
+    omega (arith, taken, c.in-Err-commit_session.ensures.goes.unread told))

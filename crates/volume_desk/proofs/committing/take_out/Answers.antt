@@ -1,4 +1,4 @@
-use Rattle.std.proofs.Common.{◌≡◌, ◌≢◌, ◌≤◌, ◌+◌, [], inl, inr, refl, arith}
+use Rattle.std.proofs.Common.{◌≡◌, ◌≢◌, ◌≤◌, ◌+◌, ◌*◌, [], inl, inr, refl, arith}
 use Rattle.std.specs.List.{remove}
 use Rattle.std.proofs.lemmas.Option.{slice_get_within}
 use Rattle.device_session.specs.Open.{blocks_of}
@@ -11,16 +11,18 @@ use Rattle.volume_terms.proofs.TableLaws.{inside_of}
 use Rattle.session_calls.proofs.CallLaws.{calls_done, calls_none, calls_stopped}
 use Rattle.volume_desk.proofs.DeskLaws.{changed_none, held_changed, named_at}
 use Rattle.volume_desk.proofs.DrawingLaws.{seals_none}
+use Rattle.volume_desk.proofs.ReadLaws.{counts_volume}
+use Rattle.volume_desk.specs.Reads.{count_of}
 use Rattle.volume_desk.proofs.committing.take_out.Goals as goal
 
 pub returns-in_default-clause-calls : goal.returns-in_default-clause-calls
-returns-in_default-clause-calls g c = calls_none g.P.Platform _ _ (drawn_by g.T.Tape c.args.tape.now) _ _ c.requires.open
+returns-in_default-clause-calls g c = calls_none g.P.Platform _ _ _ (drawn_by g.T.Tape c.args.tape.now) _ _ c.requires.open
 
 pub returns-in_default-clause-turns : goal.returns-in_default-clause-turns
 returns-in_default-clause-turns g c told entry buffer held = changed_none _ _ _ _ entry _ _ held (c.in_default.ensures.none, refl)
 
 pub returns-then-head-capacity-clause-calls : goal.returns-then-head-capacity-clause-calls
-returns-then-head-capacity-clause-calls g c = calls_none g.P.Platform _ _ (drawn_by g.T.Tape c.args.tape.now) _ _ c.requires.open
+returns-then-head-capacity-clause-calls g c = calls_none g.P.Platform _ _ _ (drawn_by g.T.Tape c.args.tape.now) _ _ c.requires.open
 
 pub returns-then-head-capacity-clause-turns : goal.returns-then-head-capacity-clause-turns
 returns-then-head-capacity-clause-turns g c told entry buffer held =
@@ -40,7 +42,9 @@ pub returns-in-Ok-clause-calls : goal.returns-in-Ok-clause-calls
 returns-in-Ok-clause-calls g c =
     let found = c.in-Some.ensures.found in
     let inside = inside_of (blocks_of c.args.session.now) c.args.table.now c.in-Some.volume c.requires.table (named_at c.args.table.now c.args.name.now c.in-Some.at c.in-Some.volume found.0 found.1).0 in
-    calls_done g.P.Platform (1 + c.in-Some.volume.count) (1 + blocks_of c.args.session.now) _ _ _ _ _ _ tt _ (omega (arith, inside.within)) c.in-Ok.ensures.calls
+    let counted = counts_volume c.args.table.now c.args.name.now c.in-Some.at c.in-Some.volume found.0 found.1 in
+    calls_done g.P.Platform (1 + c.in-Some.volume.count) (1 + blocks_of c.args.session.now) (40 + 40 * c.in-Some.volume.count) (40 + 40 * count_of c.args.table.now c.args.name.now) _ _ _ _ _ _ tt _
+    (omega (arith, inside.within)) (omega (arith, counted)) c.in-Ok.ensures.calls
 
 pub returns-in-Ok-clause-table : goal.returns-in-Ok-clause-table
 returns-in-Ok-clause-table g c = c.remove.ensures.table (blocks_of c.args.session.now) c.requires.table
@@ -63,7 +67,9 @@ pub returns-in-Err-clause-calls : goal.returns-in-Err-clause-calls
 returns-in-Err-clause-calls g c =
     let found = c.in-Some.ensures.found in
     let inside = inside_of (blocks_of c.args.session.now) c.args.table.now c.in-Some.volume c.requires.table (named_at c.args.table.now c.args.name.now c.in-Some.at c.in-Some.volume found.0 found.1).0 in
-    calls_stopped g.P.Platform (1 + c.in-Some.volume.count) (1 + blocks_of c.args.session.now) _ _ _ _ _ _ c.in-Err.stop (omega (arith, inside.within)) c.in-Err.ensures.calls
+    let counted = counts_volume c.args.table.now c.args.name.now c.in-Some.at c.in-Some.volume found.0 found.1 in
+    calls_stopped g.P.Platform (1 + c.in-Some.volume.count) (1 + blocks_of c.args.session.now) (40 + 40 * c.in-Some.volume.count) (40 + 40 * count_of c.args.table.now c.args.name.now) _ _ _ _ _ _ c.in-Err.stop
+    (omega (arith, inside.within)) (omega (arith, counted)) c.in-Err.ensures.calls
 
 pub returns-in-Err-clause-table : goal.returns-in-Err-clause-table
 returns-in-Err-clause-table g c = c.remove.ensures.table (blocks_of c.args.session.now) c.requires.table

@@ -1,4 +1,4 @@
-use Rattle.std.proofs.Common.{◌≡◌, ◌≢◌, ◌≤◌, ℕ, [], ◌∷◌, inl, inr, refl, sym, subst, ◌∙◌, arith}
+use Rattle.std.proofs.Common.{◌≡◌, ◌≢◌, ◌≤◌, ◌+◌, ◌*◌, ℕ, [], ◌∷◌, inl, inr, refl, sym, subst, ◌∙◌, arith}
 use Rattle.std.proofs.lemmas.Bool.{false≢true}
 use Rattle.device_session.specs.Open.{blocks_of}
 use Rattle.session_calls.specs.Along.{drawn_by}
@@ -6,7 +6,7 @@ use Rattle.session_calls.specs.Damage.{IsMounted}
 use Rattle.volume_lines.specs.Lines.{Create}
 use Rattle.volume_terms.specs.Volumes.{IsCount, changed}
 use Rattle.volume_terms.proofs.TableLaws.{placed_has}
-use Rattle.session_calls.proofs.CallLaws.{calls_none}
+use Rattle.session_calls.proofs.CallLaws.{calls_done, calls_none, calls_stopped}
 use Rattle.volume_desk.proofs.DoneLaws.{keeps_all}
 use Rattle.volume_desk.proofs.CauseLaws.{call_may}
 use Rattle.volume_desk.proofs.DeskLaws.{changed_none, held_changed, is_new, no_room, out_of_range}
@@ -15,17 +15,17 @@ use Rattle.volume_desk.proofs.TurnLaws.{blocks_held}
 use Rattle.volume_desk.proofs.creating.create.Goals as goal
 
 pub returns-then-has_volume-clause-calls : goal.returns-then-has_volume-clause-calls
-returns-then-has_volume-clause-calls g c = calls_none g.P.Platform _ _ (drawn_by g.T.Tape c.args.tape.now) _ _ c.requires.open
+returns-then-has_volume-clause-calls g c buffer = calls_none g.P.Platform _ _ _ (drawn_by g.T.Tape c.args.tape.now) _ _ c.requires.open
 
 pub returns-then-has_volume-clause-turns : goal.returns-then-has_volume-clause-turns
 returns-then-has_volume-clause-turns g c told entry buffer held =
     let v = c.has_volume.ensures.there c.if-has_volume.true in changed_none _ _ _ _ entry _ _ held (v.0, v.1, refl)
 
 pub returns-in_default-clause-calls : goal.returns-in_default-clause-calls
-returns-in_default-clause-calls g c = calls_none g.P.Platform _ _ (drawn_by g.T.Tape c.args.tape.now) _ _ c.requires.open
+returns-in_default-clause-calls g c buffer = calls_none g.P.Platform _ _ _ (drawn_by g.T.Tape c.args.tape.now) _ _ c.requires.open
 
 pub returns-then-not-is_count-clause-calls : goal.returns-then-not-is_count-clause-calls
-returns-then-not-is_count-clause-calls g c = calls_none g.P.Platform _ _ (drawn_by g.T.Tape c.args.tape.now) _ _ c.requires.open
+returns-then-not-is_count-clause-calls g c buffer = calls_none g.P.Platform _ _ _ (drawn_by g.T.Tape c.args.tape.now) _ _ c.requires.open
 
 pub returns-then-not-is_count-clause-turns : goal.returns-then-not-is_count-clause-turns
 returns-then-not-is_count-clause-turns g c told entry buffer held =
@@ -44,7 +44,7 @@ returns-in_default-clause-turns g c told entry buffer held =
     )
 
 pub returns-then-head-capacity-clause-calls : goal.returns-then-head-capacity-clause-calls
-returns-then-head-capacity-clause-calls g c = calls_none g.P.Platform _ _ (drawn_by g.T.Tape c.args.tape.now) _ _ c.requires.open
+returns-then-head-capacity-clause-calls g c buffer = calls_none g.P.Platform _ _ _ (drawn_by g.T.Tape c.args.tape.now) _ _ c.requires.open
 
 pub returns-then-head-capacity-clause-turns : goal.returns-then-head-capacity-clause-turns
 returns-then-head-capacity-clause-turns g c told entry buffer held =
@@ -55,6 +55,18 @@ returns-then-head-capacity-clause-turns g c told entry buffer held =
     c.in-Some.ensures.inserted c.in-Some.ensures.table in
     let full : entry.pages ≡ g.P.Platform.capacity c.args.platform.now = omega (arith, held.pages, c.if-head-capacity.true, c.head.ensures, c.capacity.ensures) in
     changed_none _ _ _ _ entry _ _ held (c.if-has_volume.ensures.lacks refl, fits, c.in-Some.volume, c.put.new.self, new, full, refl)
+
+pub returns-in-Ok-clause-calls : goal.returns-in-Ok-clause-calls
+returns-in-Ok-clause-calls g c buffer =
+    let fits = subst (λ (b : ℕ). IsCount b c.args.count) c.blocks-2.ensures (c.if-not-is_count.ensures.0 refl) in
+    let count : c.in-Some.volume.count ≡ c.args.count = c.in-Some.ensures.placed.1 in
+    calls_done g.P.Platform (1 + c.in-Some.volume.count) (1 + blocks_of c.args.session.now) (40 + 40 * c.in-Some.volume.count) (40 + 40 * c.args.count) _ _ _ _ _ _ tt _ (omega (arith, fits.most, count)) (omega (arith, count)) c.in-Ok.ensures.calls
+
+pub returns-in-Err-clause-calls : goal.returns-in-Err-clause-calls
+returns-in-Err-clause-calls g c buffer =
+    let fits = subst (λ (b : ℕ). IsCount b c.args.count) c.blocks-2.ensures (c.if-not-is_count.ensures.0 refl) in
+    let count : c.in-Some.volume.count ≡ c.args.count = c.in-Some.ensures.placed.1 in
+    calls_stopped g.P.Platform (1 + c.in-Some.volume.count) (1 + blocks_of c.args.session.now) (40 + 40 * c.in-Some.volume.count) (40 + 40 * c.args.count) _ _ _ _ _ _ c.in-Err.stop (omega (arith, fits.most, count)) (omega (arith, count)) c.in-Err.ensures.calls
 
 pub returns-in-Ok-clause-turns : goal.returns-in-Ok-clause-turns
 returns-in-Ok-clause-turns g c told entry buffer held =

@@ -1,11 +1,11 @@
 use Rattle.std.proofs.Common.{◌+◌}
 use Rattle.device_session.specs.Open.{blocks_of}
 use Rattle.session_calls.specs.Damage.{IsMounted}
-use Rattle.volume_lines.specs.Lines.{Commit, Destroy, asked}
+use Rattle.volume_lines.specs.Lines.{asked}
 use Rattle.volume_desk.specs.Causes.{answer_in, sizes}
 use Rattle.volume_desk.specs.Drawing.{tally}
 use Rattle.volume_desk.specs.Turns.{goes_on}
-use Rattle.volume_desk.proofs.DrawingLaws.{answered_drew, spends_as, spends_some}
+use Rattle.volume_desk.proofs.DrawingLaws.{spends_as}
 use Rattle.volume_lines.specs.declared.lines.Line.TheVariants as parsed
 use Rattle.session_calls.proofs.CarryLaws.{carries_along, carries_end, carries_going}
 use Rattle.volume_desk.proofs.CauseLaws.{along_as, stops_known}
@@ -24,7 +24,7 @@ returns-in-Destroy-clause-serves g c told entry held =
 pub returns-in-Ok-clause-carries : goal.returns-in-Ok-clause-carries
 returns-in-Ok-clause-carries g c =
     carries_going _ _ _ _ _ _ _ (λ going. tt)
-    (carries_along g.P.Platform g.T.Tape g.L.Sink (1 + blocks_of c.args.first) c.args.platform.now c.serve_blocks.new.platform c.args.tape.now c.serve_blocks.new.tape c.args.ledger.now _ _ c.requires.ready c.serve_blocks.ensures.calls.along)
+    (carries_along g.P.Platform g.T.Tape g.L.Sink (1 + blocks_of c.args.first) _ c.args.platform.now c.serve_blocks.new.platform c.args.tape.now c.serve_blocks.new.tape c.args.ledger.now _ _ c.requires.ready c.serve_blocks.ensures.calls.along)
 
 pub returns-in-Ok-clause-serves : goal.returns-in-Ok-clause-serves
 returns-in-Ok-clause-serves g c told entry held =
@@ -33,7 +33,7 @@ returns-in-Ok-clause-serves g c told entry held =
 pub returns-in-Err-clause-carries : goal.returns-in-Err-clause-carries
 returns-in-Err-clause-carries g c =
     carries_end _ _ _ _ _ _ _ (λ going. tt)
-    (carries_along g.P.Platform g.T.Tape g.L.Sink (1 + blocks_of c.args.first) c.args.platform.now c.serve_blocks.new.platform c.args.tape.now c.serve_blocks.new.tape c.args.ledger.now _ _ c.requires.ready c.serve_blocks.ensures.calls.along)
+    (carries_along g.P.Platform g.T.Tape g.L.Sink (1 + blocks_of c.args.first) _ c.args.platform.now c.serve_blocks.new.platform c.args.tape.now c.serve_blocks.new.tape c.args.ledger.now _ _ c.requires.ready c.serve_blocks.ensures.calls.along)
 
 pub returns-in-Err-clause-serves : goal.returns-in-Err-clause-serves
 returns-in-Err-clause-serves g c told entry held =
@@ -61,13 +61,13 @@ returns-in-Err-clause-any g c =
 
 pub returns-in-Commit-clause-spends : goal.returns-in-Commit-clause-spends
 returns-in-Commit-clause-spends g c =
-    spends_as c.args.tape.now c.commit.new.tape (tally (g.T.Tape.drawn c.args.tape.now) (g.P.Platform.head c.args.platform.now)) (tally (g.T.Tape.drawn c.commit.new.tape) (g.P.Platform.head c.commit.new.platform)) c.args.line.now parsed.Commit c.args.desk.now.buffer _ (answer_in c.commit.result) c.in-Commit.is
-    (spends_some _ _ _ _ Commit _ (answer_in c.commit.result) tt (answered_drew _ Commit _ _ c.commit.result (c.commit.ensures.drew c.args.desk.now.buffer)))
+    spends_as g.P.Platform.tells c.args.tape.now c.commit.new.tape (tally (g.T.Tape.drawn c.args.tape.now) (g.P.Platform.head c.args.platform.now)) (tally (g.T.Tape.drawn c.commit.new.tape) (g.P.Platform.head c.commit.new.platform)) _ _ c.args.desk.now.table c.args.line.now parsed.Commit c.args.desk.now.buffer _ (answer_in c.commit.result) c.in-Commit.is
+    (c.commit.ensures.spends c.args.desk.now.table c.args.desk.now.buffer)
 
 pub returns-in-Destroy-clause-spends : goal.returns-in-Destroy-clause-spends
 returns-in-Destroy-clause-spends g c =
-    spends_as c.args.tape.now c.destroy.new.tape (tally (g.T.Tape.drawn c.args.tape.now) (g.P.Platform.head c.args.platform.now)) (tally (g.T.Tape.drawn c.destroy.new.tape) (g.P.Platform.head c.destroy.new.platform)) c.args.line.now (parsed.Destroy c.in-Destroy.name) c.args.desk.now.buffer _ (answer_in c.destroy.result) c.in-Destroy.is
-    (spends_some _ _ _ _ (Destroy c.in-Destroy.name) _ (answer_in c.destroy.result) tt (answered_drew _ (Destroy c.in-Destroy.name) _ _ c.destroy.result (c.destroy.ensures.drew c.args.desk.now.buffer)))
+    spends_as g.P.Platform.tells c.args.tape.now c.destroy.new.tape (tally (g.T.Tape.drawn c.args.tape.now) (g.P.Platform.head c.args.platform.now)) (tally (g.T.Tape.drawn c.destroy.new.tape) (g.P.Platform.head c.destroy.new.platform)) _ _ c.args.desk.now.table c.args.line.now (parsed.Destroy c.in-Destroy.name) c.args.desk.now.buffer _ (answer_in c.destroy.result) c.in-Destroy.is
+    (c.destroy.ensures.spends c.args.desk.now.buffer)
 
 pub returns-in-Ok-clause-spends : goal.returns-in-Ok-clause-spends
 returns-in-Ok-clause-spends g c = c.in-Ok.ensures.spends

@@ -2,17 +2,17 @@ use Rattle.std.proofs.Common.{Err, subst, ◌∙◌, ℕ}
 use Rattle.volume_table.specs.Tables.{IsTable}
 use Rattle.session_calls.proofs.CallLaws.{no_draw}
 use Rattle.session_calls.proofs.DamageLaws.{read_meets}
-use Rattle.volumes.proofs.StartLaws.{first_none, first_table, finds_none, finds_stop, finds_table, read_halt}
+use Rattle.volumes.proofs.StartLaws.{along_table, first_none, first_table, finds_none, finds_stop, finds_table, read_halt}
 use Rattle.volumes.proofs.running.read_table.Goals as goal
 
 pub returns-in-Some-clause-along : goal.returns-in-Some-clause-along
-returns-in-Some-clause-along g c drawn = (c.in-Ok.ensures.goes drawn).along
+returns-in-Some-clause-along g c drawn = along_table g.P.Platform _ _ drawn drawn _ _ _ c.requires.open (c.in-Ok.ensures.goes drawn).along
 
 pub returns-in-None-clause-along : goal.returns-in-None-clause-along
-returns-in-None-clause-along g c drawn = (c.in-Ok.ensures.goes drawn).along
+returns-in-None-clause-along g c drawn = along_table g.P.Platform _ _ drawn drawn _ _ _ c.requires.open (c.in-Ok.ensures.goes drawn).along
 
 pub returns-in-Err-clause-along : goal.returns-in-Err-clause-along
-returns-in-Err-clause-along g c drawn = (c.in-Err.ensures.goes drawn).along
+returns-in-Err-clause-along g c drawn = along_table g.P.Platform _ _ drawn drawn _ _ _ c.requires.open (c.in-Err.ensures.goes drawn).along
 
 pub returns-in-Some-clause-blame : goal.returns-in-Some-clause-blame
 returns-in-Some-clause-blame g c =

@@ -10,13 +10,13 @@ use Rattle.volumes.proofs.running.serve_volumes.Goals as goal
 pub returns-in-Err-clause-carries : goal.returns-in-Err-clause-carries
 returns-in-Err-clause-carries g c =
     carries_end _ _ _ _ _ _ _ (λ going. tt)
-    (carries_along g.P.Platform g.T.Tape g.L.Sink 0 c.args.platform.now c.read_table.new.platform c.args.tape.now c.args.tape.now c.args.ledger.now _ _ c.requires.ready (c.read_table.ensures.along (drawn_by g.T.Tape c.args.tape.now)))
+    (carries_along g.P.Platform g.T.Tape g.L.Sink 0 21 c.args.platform.now c.read_table.new.platform c.args.tape.now c.args.tape.now c.args.ledger.now _ _ c.requires.ready (c.read_table.ensures.along (drawn_by g.T.Tape c.args.tape.now)))
 
 pub returns-in-Err-clause-blame : goal.returns-in-Err-clause-blame
 returns-in-Err-clause-blame g c = blames_halt _ _ _ _ c.in-Err.halt (of_platform _ _ _ _ _ _) c.in-Err.ensures.blame
 
 pub returns-in-Err-clause-serves : goal.returns-in-Err-clause-serves
-returns-in-Err-clause-serves g c = inl (c.in-Err.halt, refl, silent_table _ _ _ c.args.first c.read_table.new.session c.in-Err.halt _ _ c.in-Err.ensures.early c.requires.fresh (c.read_table.ensures.along no_draw).cell c.in-Err.ensures.finds c.requires.ready.mounted (λ told. c.in-Err.ensures.spelled told (c.requires.ready.mounted told)))
+returns-in-Err-clause-serves g c = inl (c.in-Err.halt, refl, silent_table _ _ _ c.args.first c.read_table.new.session c.in-Err.halt _ _ c.in-Err.ensures.early c.requires.fresh (c.read_table.ensures.along no_draw).cell c.in-Err.ensures.finds c.requires.ready.mounted (λ told. c.in-Err.ensures.spelled told (c.requires.ready.mounted told)) (c.read_table.ensures.along no_draw).reads)
 
 pub returns-in-Err-clause-idle : goal.returns-in-Err-clause-idle
 returns-in-Err-clause-idle g c told of =
@@ -37,23 +37,23 @@ serve_input-requires-clause-table g c = subst (λ (n : ℕ). IsTable n c.in-Ok.t
 pub returns-in-Ok-serve_input-clause-carries : goal.returns-in-Ok-serve_input-clause-carries
 returns-in-Ok-serve_input-clause-carries g c =
     carries_then _ _ _ _ c.args.first c.read_table.new.session _ _ _ tt
-    (carries_along g.P.Platform g.T.Tape g.L.Sink 0 c.args.platform.now c.read_table.new.platform c.args.tape.now c.args.tape.now c.args.ledger.now _ _ c.requires.ready (c.read_table.ensures.along (drawn_by g.T.Tape c.args.tape.now)))
+    (carries_along g.P.Platform g.T.Tape g.L.Sink 0 21 c.args.platform.now c.read_table.new.platform c.args.tape.now c.args.tape.now c.args.ledger.now _ _ c.requires.ready (c.read_table.ensures.along (drawn_by g.T.Tape c.args.tape.now)))
     c.in-Ok-serve_input.ensures.carries
 
 pub returns-in-Err-serve_input-clause-carries : goal.returns-in-Err-serve_input-clause-carries
 returns-in-Err-serve_input-clause-carries g c =
     carries_then _ _ _ _ c.args.first c.read_table.new.session _ _ _ tt
-    (carries_along g.P.Platform g.T.Tape g.L.Sink 0 c.args.platform.now c.read_table.new.platform c.args.tape.now c.args.tape.now c.args.ledger.now _ _ c.requires.ready (c.read_table.ensures.along (drawn_by g.T.Tape c.args.tape.now)))
+    (carries_along g.P.Platform g.T.Tape g.L.Sink 0 21 c.args.platform.now c.read_table.new.platform c.args.tape.now c.args.tape.now c.args.ledger.now _ _ c.requires.ready (c.read_table.ensures.along (drawn_by g.T.Tape c.args.tape.now)))
     c.in-Err-serve_input.ensures.carries
 
 pub returns-in-Ok-serve_input-clause-serves : goal.returns-in-Ok-serve_input-clause-serves
 returns-in-Ok-serve_input-clause-serves g c =
     let along = c.read_table.ensures.along no_draw in
     let ran = c.in-Ok-serve_input.ensures.ran in
-    inr (Ok tt, refl, answers_behind g.P.Platform.tells _ _ _ c.args.first c.read_table.new.session ran.0 c.in-Ok.table _ (Ok tt) _ _ _ _ (omega (arith, along.rises, along.adds)) refl along.capacity (omega (arith, along.needs)) c.requires.fresh (λ told. along.mounted told (c.requires.ready.mounted told)) along.cell c.in-Ok.ensures.table c.in-Ok.ensures.finds (λ told. spelled_of _ c.args.first c.in-Ok.table c.requires.fresh (c.requires.ready.mounted told) (c.in-Ok.ensures.spelled told (c.requires.ready.mounted told))) along.blocks ran.1)
+    inr (Ok tt, refl, answers_behind g.P.Platform.tells _ _ _ c.args.first c.read_table.new.session ran.0 c.in-Ok.table _ (Ok tt) _ _ _ _ (omega (arith, along.rises, along.adds)) refl along.capacity (omega (arith, along.needs)) c.requires.fresh (λ told. along.mounted told (c.requires.ready.mounted told)) along.cell along.reads c.in-Ok.ensures.table c.in-Ok.ensures.finds (λ told. spelled_of _ c.args.first c.in-Ok.table c.requires.fresh (c.requires.ready.mounted told) (c.in-Ok.ensures.spelled told (c.requires.ready.mounted told))) along.blocks ran.1)
 
 pub returns-in-Err-serve_input-clause-serves : goal.returns-in-Err-serve_input-clause-serves
 returns-in-Err-serve_input-clause-serves g c =
     let along = c.read_table.ensures.along no_draw in
     let ran = c.in-Err-serve_input.ensures.ran in
-    inr (Err c.in-Err-serve_input.stop, refl, answers_behind g.P.Platform.tells _ _ _ c.args.first c.read_table.new.session ran.0 c.in-Ok.table _ (Err c.in-Err-serve_input.stop) _ _ _ _ (omega (arith, along.rises, along.adds)) refl along.capacity (omega (arith, along.needs)) c.requires.fresh (λ told. along.mounted told (c.requires.ready.mounted told)) along.cell c.in-Ok.ensures.table c.in-Ok.ensures.finds (λ told. spelled_of _ c.args.first c.in-Ok.table c.requires.fresh (c.requires.ready.mounted told) (c.in-Ok.ensures.spelled told (c.requires.ready.mounted told))) along.blocks ran.1)
+    inr (Err c.in-Err-serve_input.stop, refl, answers_behind g.P.Platform.tells _ _ _ c.args.first c.read_table.new.session ran.0 c.in-Ok.table _ (Err c.in-Err-serve_input.stop) _ _ _ _ (omega (arith, along.rises, along.adds)) refl along.capacity (omega (arith, along.needs)) c.requires.fresh (λ told. along.mounted told (c.requires.ready.mounted told)) along.cell along.reads c.in-Ok.ensures.table c.in-Ok.ensures.finds (λ told. spelled_of _ c.args.first c.in-Ok.table c.requires.fresh (c.requires.ready.mounted told) (c.in-Ok.ensures.spelled told (c.requires.ready.mounted told))) along.blocks ran.1)
