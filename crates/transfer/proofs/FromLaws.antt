@@ -1,5 +1,5 @@
 -- What a run leaves of the platform that a device is moved from.
-use Rattle.std.proofs.Common.{◌≡◌, ◌≤◌, ◌⊎◌, ◌∷◌, ◌∙◌, inl, inr, ℕ, List, [], Option, None, Some, Result, Ok, length, refl, sym, subst, arith}
+use Rattle.std.proofs.Common.{◌≡◌, ◌≤◌, ◌⊎◌, ◌-◌, ◌∷◌, ◌∙◌, inl, inr, ℕ, List, [], Option, None, Some, Result, Ok, length, refl, sym, subst, arith}
 use Rattle.std.specs.Prelude.{IfOk, IsOk}
 use Rattle.sdbt_base.specs.Arrays.{Device, Session as OpenSession, State, closed, mounted, session_on}
 use Rattle.platform.specs.declared.platforms.Platform.{Ghosts as PlatformGhosts}
@@ -39,7 +39,7 @@ use Rattle.transfer.specs.Running.{Clears, alone}
 -- ---- a look
 
 -- a session goes on behind a look that isn't its own
-pub look_along : {S : Type 0} (P : PlatformGhosts S) (platform platform_now : S) (drawn : Drawn) (session : Session) → IsOpen session (P.head platform) → Looks P platform platform_now → Along P 0 platform platform_now drawn drawn session session
+pub look_along : {S : Type 0} (P : PlatformGhosts S) (platform platform_now : S) (drawn : Drawn) (session : Session) → IsOpen session (P.head platform) → Looks P platform platform_now → Along P 0 (P.reads platform_now - P.reads platform) platform platform_now drawn drawn session session
 look_along P platform platform_now drawn session there_open looks = record {
   is_open = subst (IsOpen session) (sym looks.head) there_open;
   mounted = λ told m. subst (λ (i : Image). IsMounted i session) (sym (looks.image told)) m;
@@ -50,6 +50,7 @@ look_along P platform platform_now drawn session there_open looks = record {
   rises = omega (arith, looks.head);
   adds = omega (arith, looks.head);
   needs = omega arith;
+  reads = λ told. omega arith;
   keeps = λ written. on_look P.tells drawn.keys written (Some session) (P.history platform) (P.history platform_now) (Unit {0}) (IsListed (Some session) (P.history platform_now).present) looks.image looks.time
       (λ told keys kept h. listed_image (Some session) (P.history platform).present (P.history platform_now).present keys (looks.image told) h);
   through = λ told entry at. (entry, subst (λ (i : Image). IsAt i (Some session) entry) (sym (looks.image told)) at);
@@ -59,7 +60,7 @@ look_along P platform platform_now drawn session there_open looks = record {
 -- ---- the clearing
 
 -- from what a clearing says: whatever its answer, behind calls of a session
-pub clears_cleared : {S : Type 0} (P : PlatformGhosts S) (platform mid platform_now : S) (session now : Session) (Done : Type 0) → Along P 0 platform mid no_draw no_draw session now
+pub clears_cleared : {S : Type 0} (P : PlatformGhosts S) (few : ℕ) (platform mid platform_now : S) (session now : Session) (Done : Type 0) → Along P 0 few platform mid no_draw no_draw session now
     → (P.tells → (device : Option Device) → Stands (P.history mid).present device → Turns (P.history mid) (P.history platform_now) (Leaves device) (Leaves None))
     → (P.tells → Turns (P.history mid) (P.history platform_now) (λ image. image.cell ≡ (P.history mid).present.cell) (λ image. image.cell ≡ None))
     → (P.tells → length (P.history platform_now).present.recorded ≡ length (P.history mid).present.recorded)
@@ -68,7 +69,7 @@ pub clears_cleared : {S : Type 0} (P : PlatformGhosts S) (platform mid platform_
     → (P.tells → IsServedImage (P.history mid).present → During (P.history mid) (P.history platform_now) IsServedImage)
     → P.head platform_now ≡ P.head mid → P.capacity platform_now ≡ P.capacity mid → (P.tells → Done → Stands (P.history platform_now).present None)
     → Clears P.tells (Some session) (alone P platform) (alone P platform_now) Done
-clears_cleared P platform mid platform_now session now Done along time turns size kept forgets serves head capacity done = record {
+clears_cleared P few platform mid platform_now session now Done along time turns size kept forgets serves head capacity done = record {
   head = head ∙ same_head;
   capacity = capacity ∙ along.capacity;
   turns = λ told. Turns-after first second third (λ image. image.cell ≡ first.present.cell) (λ image. image.cell ≡ None) (along.cell told)
@@ -112,8 +113,8 @@ clears_cleared P platform mid platform_now session now Done along time turns siz
         with_array second.present now next there (λ state. ((Done → ⊥) × Made first third None entry [] (closed entry.device)) ⊎ Made first third None entry (None ∷ []) (closed None)) (go told entry at.there.device)
 
 -- calls of a session alone, behind which the run stopped
-pub clears_not : {S : Type 0} (P : PlatformGhosts S) (platform platform_now : S) (session now : Session) (Done : Type 0) → (Done → ⊥) → Along P 0 platform platform_now no_draw no_draw session now → Clears P.tells (Some session) (alone P platform) (alone P platform_now) Done
-clears_not P platform platform_now session now Done never along = record {
+pub clears_not : {S : Type 0} (P : PlatformGhosts S) (few : ℕ) (platform platform_now : S) (session now : Session) (Done : Type 0) → (Done → ⊥) → Along P 0 few platform platform_now no_draw no_draw session now → Clears P.tells (Some session) (alone P platform) (alone P platform_now) Done
+clears_not P few platform platform_now session now Done never along = record {
   head = omega (arith, along.rises, along.adds);
   capacity = along.capacity;
   turns = λ told. Turns-not (P.history platform) (P.history platform_now) (λ image. image.cell ≡ (P.history platform).present.cell) (λ image. image.cell ≡ None) (along.cell told);

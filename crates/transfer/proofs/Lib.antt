@@ -16,3 +16,5 @@ pub mod MoveLaws
 pub mod KeyLaws
 pub mod TreeLaws
 pub mod WholeLaws
+pub mod ReadsLaws
+pub mod DifferLaws

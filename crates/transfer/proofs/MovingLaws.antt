@@ -1,7 +1,7 @@
 -- From which devices the calls of a move lead to which.
 use Rattle.std.proofs.Common.{◌≡◌, ◌<◌, ◌∙◌, ℕ, List, Some, Result, Ok, Err, refl, sym, subst, length, map}
 use Rattle.std.specs.Prelude.{All, IfErr, IfOk}
-use Rattle.std.proofs.Common.{[], ◌∷◌, ◌+◌, ◌-◌, get_or, take, true}
+use Rattle.std.proofs.Common.{[], ◌∷◌, ◌+◌, get_or, take, true}
 use Rattle.std.proofs.lemmas.List.{take_more}
 use Rattle.std.proofs.lemmas.List.Elements.{All-append, All-cons, All-get_or, All-nil}
 use Rattle.std.specs.FinMap as maps

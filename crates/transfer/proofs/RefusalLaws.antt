@@ -1,6 +1,6 @@
 -- When a move is refused, on any images.
-use Rattle.std.proofs.Common.{◌≡◌, ◌<◌, ◌+◌, ◌*◌, ◌∙◌, ◌-◌, ℕ, Option, None, Some, Bool, true, false, Result, Ok, Err, refl, sym, ap, subst, arith}
-use Rattle.std.specs.Prelude.{IfErr, IfOk}
+use Rattle.std.proofs.Common.{◌≡◌, ◌<◌, ◌≤◌, ◌+◌, ◌*◌, ◌∙◌, ◌-◌, ℕ, Option, None, Some, Bool, true, false, Result, Ok, Err, refl, sym, ap, subst, arith}
+use Rattle.std.specs.Prelude.{IfErr, IfOk, IsTrue}
 use Rattle.sdbt_base.specs.Arrays.{Device, mounted, new_device, session_on}
 use Rattle.sdbt_base.specs.Counts as device
 use Rattle.sdbt_base.specs.declared.tapes.Tape.{Ghosts as TapeGhosts}
@@ -22,8 +22,9 @@ use Rattle.session_calls.specs.declared.stops.DeviceStop.{DeviceStop}
 use Rattle.session_calls.specs.declared.stops.DeviceStop.TheVariants as stops
 use Rattle.transfer.specs.Moving.{Refuses, Refusing}
 use Rattle.transfer.specs.Opening.{halt_of_format}
-use Rattle.transfer.specs.Refusals.{AreUnlike, HaltsAt, IsFreshRoot, IsIdle, IsOfCopy, IsOfReads, IsOn, IsRefused, OpensNot}
-use Rattle.transfer.specs.Running.{HaltsFrom, HaltsTo, IsBehindBoth, IsOfCommit, IsOfOpening}
+use Rattle.transfer.specs.Refusals.{AreAlike, AreUnlike, Differ, HaltsAt, IsIdle, IsOfCopy, IsOfReads, IsOn, IsOtherThan, IsRefused, OpensNot}
+use Rattle.transfer.specs.Running.{HaltsFrom, HaltsTo, HasSome, IsBehindBoth, IsOfCommit, IsOfOpening}
+use Rattle.transfer.specs.Whole.{IsFreshRoot}
 use Rattle.transfer.specs.declared.halts.Halt.{Halt}
 use Rattle.transfer.proofs.FillLaws.{blank_fresh, new_is_blank}
 use Rattle.transfer.specs.declared.halts.Halt.TheVariants as halts
@@ -43,18 +44,18 @@ reads_from tells image (halts.From stops.BadRoot) is = absurd is
 reads_from tells image (halts.From (stops.BadRecord addr)) is = tt
 reads_from tells image (halts.To stop) is = absurd is
 
-pub copy_to : (tells : Type 0) (image : Image) (halt : Halt) → HaltsTo tells image halt → IsOfCopy halt
-copy_to tells image halts.NoDevice is = absurd is
-copy_to tells image halts.NotEmpty is = absurd is
-copy_to tells image halts.Full is = tt
-copy_to tells image halts.Output is = absurd is
-copy_to tells image (halts.From stop) is = absurd is
-copy_to tells image (halts.To stops.Platform) is = tt
-copy_to tells image (halts.To stops.Memory) is = tt
-copy_to tells image (halts.To stops.Tape) is = tt
-copy_to tells image (halts.To stops.Ledger) is = tt
-copy_to tells image (halts.To stops.BadRoot) is = absurd is
-copy_to tells image (halts.To (stops.BadRecord addr)) is = tt
+pub copy_to : (tells Compared : Type 0) (image : Image) (halt : Halt) → HaltsTo tells Compared image halt → IsOfCopy halt
+copy_to tells Compared image halts.NoDevice is = absurd is
+copy_to tells Compared image halts.NotEmpty is = absurd is
+copy_to tells Compared image halts.Full is = tt
+copy_to tells Compared image halts.Output is = absurd is
+copy_to tells Compared image (halts.From stop) is = absurd is
+copy_to tells Compared image (halts.To stops.Platform) is = tt
+copy_to tells Compared image (halts.To stops.Memory) is = tt
+copy_to tells Compared image (halts.To stops.Tape) is = tt
+copy_to tells Compared image (halts.To stops.Ledger) is = tt
+copy_to tells Compared image (halts.To stops.BadRoot) is = absurd is
+copy_to tells Compared image (halts.To (stops.BadRecord addr)) is = tt
 
 pub reads_copy : (halt : Halt) → IsOfReads halt → IsOfCopy halt
 reads_copy halts.NoDevice is = is
@@ -88,8 +89,8 @@ copy_reads (halts.To (stops.BadRecord addr)) is never = tt
 abbrev pub failed : (X : Type 0) → Halt → Result X Halt
 failed X halt = Err halt
 
-pub reads_to : {X : Type 0} (tells : Type 0) (image : Image) (halt : Halt) → HaltsTo tells image halt → (failed X halt ≡ failed X halts.Full → ⊥) → IsOfReads halt
-reads_to {X = X} tells image halt is never = copy_reads halt (copy_to tells image halt is) (λ full. never (ap (failed X) full))
+pub reads_to : {X : Type 0} (tells Compared : Type 0) (image : Image) (halt : Halt) → HaltsTo tells Compared image halt → (failed X halt ≡ failed X halts.Full → ⊥) → IsOfReads halt
+reads_to {X = X} tells Compared image halt is never = copy_reads halt (copy_to tells Compared image halt is) (λ full. never (ap (failed X) full))
 
 pub copy_behind : (halt : Halt) → IsOfCopy halt → IsBehindBoth halt
 copy_behind halts.NoDevice is = is
@@ -107,56 +108,56 @@ copy_behind (halts.To (stops.BadRecord addr)) is = tt
 pub reads_behind : (halt : Halt) → IsOfReads halt → IsBehindBoth halt
 reads_behind halt is = copy_behind halt (reads_copy halt is)
 
-pub copy_at : (Fresh : Type 0) (count free : ℕ) (halt : Halt) → IsOfCopy halt → (halt ≡ halts.Full → free < 42 * count) → HaltsAt Fresh count free halt
-copy_at Fresh count free halts.NoDevice is full = tt
-copy_at Fresh count free halts.NotEmpty is full = absurd is
-copy_at Fresh count free halts.Full is full = full refl
-copy_at Fresh count free halts.Output is full = tt
-copy_at Fresh count free (halts.From stop) is full = tt
-copy_at Fresh count free (halts.To stop) is full = tt
+pub copy_at : (Other : Type 0) (count free : ℕ) (halt : Halt) → IsOfCopy halt → (halt ≡ halts.Full → free < 42 * count) → HaltsAt Other count free halt
+copy_at Other count free halts.NoDevice is full = tt
+copy_at Other count free halts.NotEmpty is full = absurd is
+copy_at Other count free halts.Full is full = full refl
+copy_at Other count free halts.Output is full = tt
+copy_at Other count free (halts.From stop) is full = tt
+copy_at Other count free (halts.To stop) is full = tt
 
-pub reads_at : (Fresh : Type 0) (count free : ℕ) (halt : Halt) → IsOfReads halt → HaltsAt Fresh count free halt
-reads_at Fresh count free halts.NoDevice is = tt
-reads_at Fresh count free halts.NotEmpty is = absurd is
-reads_at Fresh count free halts.Full is = absurd is
-reads_at Fresh count free halts.Output is = tt
-reads_at Fresh count free (halts.From stop) is = tt
-reads_at Fresh count free (halts.To stop) is = tt
+pub reads_at : (Other : Type 0) (count free : ℕ) (halt : Halt) → IsOfReads halt → HaltsAt Other count free halt
+reads_at Other count free halts.NoDevice is = tt
+reads_at Other count free halts.NotEmpty is = absurd is
+reads_at Other count free halts.Full is = absurd is
+reads_at Other count free halts.Output is = tt
+reads_at Other count free (halts.From stop) is = tt
+reads_at Other count free (halts.To stop) is = tt
 
-commit_at : (Fresh : Type 0) (count free : ℕ) (halt : Halt) → IsOfCommit halt → (halt ≡ halts.Full → free < 42 * count) → HaltsAt Fresh count free halt
-commit_at Fresh count free halts.NoDevice is full = tt
-commit_at Fresh count free halts.NotEmpty is full = absurd is
-commit_at Fresh count free halts.Full is full = full refl
-commit_at Fresh count free halts.Output is full = tt
-commit_at Fresh count free (halts.From stop) is full = tt
-commit_at Fresh count free (halts.To stop) is full = tt
+commit_at : (Other : Type 0) (count free : ℕ) (halt : Halt) → IsOfCommit halt → (halt ≡ halts.Full → free < 42 * count) → HaltsAt Other count free halt
+commit_at Other count free halts.NoDevice is full = tt
+commit_at Other count free halts.NotEmpty is full = absurd is
+commit_at Other count free halts.Full is full = full refl
+commit_at Other count free halts.Output is full = tt
+commit_at Other count free (halts.From stop) is full = tt
+commit_at Other count free (halts.To stop) is full = tt
 
-pub commit_at_all : {X : Type 0} (Fresh : Type 0) (count free : ℕ) (result : Result X Halt) → IfErr result IsOfCommit → (result ≡ Err halts.Full → free < 42 * count) → IfErr result (HaltsAt Fresh count free)
-commit_at_all Fresh count free (Ok done) is full = tt
-commit_at_all {X = X} Fresh count free (Err halt) is full = commit_at Fresh count free halt is (λ e. full (ap (failed X) e))
+pub commit_at_all : {X : Type 0} (Other : Type 0) (count free : ℕ) (result : Result X Halt) → IfErr result IsOfCommit → (result ≡ Err halts.Full → free < 42 * count) → IfErr result (HaltsAt Other count free)
+commit_at_all Other count free (Ok done) is full = tt
+commit_at_all {X = X} Other count free (Err halt) is full = commit_at Other count free halt is (λ e. full (ap (failed X) e))
 
-at_more : (Fresh Other : Type 0) (count many free room : ℕ) (halt : Halt) → (Other → Fresh) → (free < 42 * count → room < 42 * many) → HaltsAt Fresh count free halt → HaltsAt Other many room halt
-at_more Fresh Other count many free room halts.NoDevice to short is = tt
-at_more Fresh Other count many free room halts.NotEmpty to short is = λ other. is (to other)
-at_more Fresh Other count many free room halts.Full to short is = short is
-at_more Fresh Other count many free room halts.Output to short is = tt
-at_more Fresh Other count many free room (halts.From stop) to short is = tt
-at_more Fresh Other count many free room (halts.To stop) to short is = tt
+at_more : (Was Other : Type 0) (count many free room : ℕ) (halt : Halt) → (Was → Other) → (free < 42 * count → room < 42 * many) → HaltsAt Was count free halt → HaltsAt Other many room halt
+at_more Was Other count many free room halts.NoDevice to short is = tt
+at_more Was Other count many free room halts.NotEmpty to short is = to is
+at_more Was Other count many free room halts.Full to short is = short is
+at_more Was Other count many free room halts.Output to short is = tt
+at_more Was Other count many free room (halts.From stop) to short is = tt
+at_more Was Other count many free room (halts.To stop) to short is = tt
 
-pub at_then : {X : Type 0} (Fresh Other : Type 0) (count many free room : ℕ) (result : Result X Halt) → (Other → Fresh) → (free < 42 * count → room < 42 * many) → IfErr result (HaltsAt Fresh count free) → IfErr result (HaltsAt Other many room)
-at_then Fresh Other count many free room (Ok done) to short is = tt
-at_then Fresh Other count many free room (Err halt) to short is = at_more Fresh Other count many free room halt to short is
+pub at_then : {X : Type 0} (Was Other : Type 0) (count many free room : ℕ) (result : Result X Halt) → (Was → Other) → (free < 42 * count → room < 42 * many) → IfErr result (HaltsAt Was count free) → IfErr result (HaltsAt Other many room)
+at_then Was Other count many free room (Ok done) to short is = tt
+at_then Was Other count many free room (Err halt) to short is = at_more Was Other count many free room halt to short is
 
 -- ---- root records in cells
 
 -- one cell has one root record
-one_in : (image : Image) (one other : Root) → IsRootOf image one → IsRootOf image other → one ≡ other
+pub one_in : (image : Image) (one other : Root) → IsRootOf image one → IsRootOf image other → one ≡ other
 one_in image one other is also =
     let both : Some (root_bytes one) ≡ Some (root_bytes other) = sym is.cell ∙ also.cell in
     let bytes : root_bytes one ≡ root_bytes other = cc in
     one_root one other is.in_range also.in_range bytes
 
-not_empty : (image : Image) (root : Root) → IsRootOf image root → image.cell ≡ None → ⊥
+pub not_empty : (image : Image) (root : Root) → IsRootOf image root → image.cell ≡ None → ⊥
 not_empty image root is none =
     let both : Some (root_bytes root) ≡ None = sym is.cell ∙ none in
     cc
@@ -226,18 +227,18 @@ refusing_unopened {X = X} from_tells to_tells from to free root halt at is none 
 }
 
 -- one was opened, and then more was done
-opened_refused : (from to : Image) (free room : ℕ) (root : Root) (is_new : Bool) (target : Session) (halt : Halt) → free < room + 2 → IsRootOf from root → IsOn to root.blocks root.order is_new target
-    → HaltsAt (IsFreshRoot root.blocks root.order target.root) root.mapped room halt → IsRefused from to free halt
-opened_refused from to free room root is_new target halts.NoDevice more at on is = tt
-opened_refused from to free room root true target halts.NotEmpty more at on is = absurd (is on.1)
-opened_refused from to free room root false target halts.NotEmpty more at on is = (root, target.root, at, on, is)
-opened_refused from to free room root is_new target halts.Full more at on is = (root, at, omega (arith, more, is))
-opened_refused from to free room root is_new target halts.Output more at on is = tt
-opened_refused from to free room root is_new target (halts.From stop) more at on is = tt
-opened_refused from to free room root is_new target (halts.To stop) more at on is = tt
+opened_refused : (Sees : Type 0) (from to : Image) (free room : ℕ) (root : Root) (is_new : Bool) (target : Session) (halt : Halt) → free < room + 2 → IsRootOf from root → IsOn to root.blocks root.order is_new target
+    → ((IsTrue is_new → ⊥) → Sees → Differ from to root target.root) → HaltsAt (IsOtherThan root target.root Sees) root.mapped room halt → IsRefused from to free halt
+opened_refused Sees from to free room root is_new target halts.NoDevice more at on differ is = tt
+opened_refused Sees from to free room root true target halts.NotEmpty more at on differ is = absurd (is.0 on.1)
+opened_refused Sees from to free room root false target halts.NotEmpty more at on differ is = (root, target.root, at, on, (is.0, λ alike. differ (λ never. absurd cc) (is.1 alike)))
+opened_refused Sees from to free room root is_new target halts.Full more at on differ is = (root, at, omega (arith, more, is))
+opened_refused Sees from to free room root is_new target halts.Output more at on differ is = tt
+opened_refused Sees from to free room root is_new target (halts.From stop) more at on differ is = tt
+opened_refused Sees from to free room root is_new target (halts.To stop) more at on differ is = tt
 
 opened_unlike : {X : Type 0} (from to : Image) (source target : Session) (is_new : Bool) (result : Result X Halt) → IsRootOf from source.root → IsOn to source.root.blocks source.root.order is_new target
-    → (((blocks_of source ≡ blocks_of target) × ((root_of source).order ≡ (root_of target).order) → ⊥) → result ≡ Err halts.NotEmpty) → AreUnlike from to → Refuses result
+    → ((AreAlike (root_of source) (root_of target) → ⊥) → result ≡ Err halts.NotEmpty) → AreUnlike from to → Refuses result
 opened_unlike from to source target true result at on unlike apart = absurd (not_empty to apart.1 apart.3 on.0)
 opened_unlike {X = X} from to source target false result at on unlike apart =
     let one : source.root ≡ apart.0 = one_in from source.root apart.0 at apart.2 in
@@ -248,17 +249,17 @@ opened_unlike {X = X} from to source target false result at on unlike apart =
     )) in
     subst (λ (r : Result X Halt). Refuses r) (sym is) tt
 
-opened_halt : {X : Type 0} (from_tells to_tells : Type 0) (from to : Image) (free room : ℕ) (root : Root) (is_new : Bool) (target : Session) (result : Result X Halt) → free < room + 2 → (from_tells → IsRootOf from root) → (to_tells → IsOn to root.blocks root.order is_new target)
-    → IfErr result (HaltsAt (IsFreshRoot root.blocks root.order target.root) root.mapped room) → IfErr result (λ halt. from_tells → to_tells → IsRefused from to free halt)
-opened_halt from_tells to_tells from to free room root is_new target (Ok done) more at on is = tt
-opened_halt from_tells to_tells from to free room root is_new target (Err halt) more at on is = λ from_told to_told. opened_refused from to free room root is_new target halt more (at from_told) (on to_told) is
+opened_halt : {X : Type 0} (Sees from_tells to_tells : Type 0) (from to : Image) (free room : ℕ) (root : Root) (is_new : Bool) (target : Session) (result : Result X Halt) → free < room + 2 → (from_tells → IsRootOf from root) → (to_tells → IsOn to root.blocks root.order is_new target)
+    → (from_tells → to_tells → (IsTrue is_new → ⊥) → Sees → Differ from to root target.root) → IfErr result (HaltsAt (IsOtherThan root target.root Sees) root.mapped room) → IfErr result (λ halt. from_tells → to_tells → IsRefused from to free halt)
+opened_halt Sees from_tells to_tells from to free room root is_new target (Ok done) more at on differ is = tt
+opened_halt Sees from_tells to_tells from to free room root is_new target (Err halt) more at on differ is = λ from_told to_told. opened_refused Sees from to free room root is_new target halt more (at from_told) (on to_told) (differ from_told to_told) is
 
-pub refusing_opened : {X : Type 0} (from_tells to_tells : Type 0) (from to : Image) (free room blocks order : ℕ) (source target : Session) (is_new : Bool) (result : Result X Halt) → free < room + 2 → (from_tells → IsRootOf from source.root)
-    → blocks ≡ blocks_of source → order ≡ (root_of source).order → (to_tells → IsOn to blocks order is_new target)
-    → IfErr result (HaltsAt (IsFreshRoot (blocks_of source) (root_of source).order (root_of target)) (root_of source).mapped room)
-    → (((blocks_of source ≡ blocks_of target) × ((root_of source).order ≡ (root_of target).order) → ⊥) → result ≡ Err halts.NotEmpty) → Refusing from_tells to_tells from to free result
-refusing_opened from_tells to_tells from to free room blocks order source target is_new result more at blocks_are order_is on halted unlike = record {
-  refused = opened_halt from_tells to_tells from to free room source.root is_new target result more at on_it halted;
+pub refusing_opened : {X : Type 0} (Sees from_tells to_tells : Type 0) (from to : Image) (free room blocks order : ℕ) (source target : Session) (is_new : Bool) (result : Result X Halt) → free < room + 2 → (from_tells → IsRootOf from source.root)
+    → blocks ≡ blocks_of source → order ≡ (root_of source).order → (to_tells → IsOn to blocks order is_new target) → (from_tells → to_tells → (IsTrue is_new → ⊥) → Sees → Differ from to source.root target.root)
+    → IfErr result (HaltsAt (IsOtherThan (root_of source) (root_of target) Sees) (root_of source).mapped room)
+    → ((AreAlike (root_of source) (root_of target) → ⊥) → result ≡ Err halts.NotEmpty) → Refusing from_tells to_tells from to free result
+refusing_opened Sees from_tells to_tells from to free room blocks order source target is_new result more at blocks_are order_is on differ halted unlike = record {
+  refused = opened_halt Sees from_tells to_tells from to free room source.root is_new target result more at on_it differ halted;
   unlike = λ from_told to_told apart. opened_unlike from to source target is_new result (at from_told) (on_it to_told) unlike apart;
 }
   where
@@ -291,10 +292,24 @@ on_new image session blocks order idle at =
     let fresh = blank_fresh image session new new at (new_is_blank new new refl) in
     record { blocks_are = stands.blocks; order_is = stands.order; commit = fresh.0; mapped = sym idle.mapped ∙ fresh.1 }
 
+-- of so many blocks and of this order, which are those of another root record
+pub on_as : (image : Image) (blocks other order same_order : ℕ) (is_new : Bool) (session : Session) → blocks ≡ other → order ≡ same_order → IsOn image blocks order is_new session → IsOn image other same_order is_new session
+on_as image blocks other order same_order is_new session are is on = subst (λ (n : ℕ). IsOn image n same_order is_new session) are (subst (λ (n : ℕ). IsOn image blocks n is_new session) is on)
+
+-- a device that has mapped blocks isn't new
+pub has_some : (image : Image) (blocks order : ℕ) (is_new : Bool) (session : Session) → IsOn image blocks order is_new session → 1 ≤ session.root.mapped → HasSome image
+has_some image blocks order true session on some = absurd (let none = on.1.mapped in omega (arith, none, some))
+has_some image blocks order false session on some = (session.root, on, some)
+
 pub on_behind : {X : Type 0} (tells : Type 0) (image mid : Image) (blocks order : ℕ) (session : X → Session) (is_new : X → Bool) (result : Result X Halt) → (tells → mid ≡ image) → IfOk result (λ x. tells → IsOn mid blocks order (is_new x) (session x))
     → IfOk result (λ x. tells → IsOn image blocks order (is_new x) (session x))
 on_behind tells image mid blocks order session is_new (Ok x) same on = λ told. subst (λ (i : Image). IsOn i blocks order (is_new x) (session x)) (same told) (on told)
 on_behind tells image mid blocks order session is_new (Err halt) same on = tt
+
+-- a device that there is is only looked at
+pub still_behind : {X : Type 0} (tells : Type 0) (image mid now : Image) (is_new : X → Bool) (result : Result X Halt) → (tells → mid ≡ image) → IfOk result (λ x. tells → (IsTrue (is_new x) → ⊥) → now ≡ mid) → IfOk result (λ x. tells → (IsTrue (is_new x) → ⊥) → now ≡ image)
+still_behind tells image mid now is_new (Ok x) same still = λ told never. still told never ∙ same told
+still_behind tells image mid now is_new (Err halt) same still = tt
 
 pub not_behind : {X : Type 0} (tells : Type 0) (image mid : Image) (free room : ℕ) (result : Result X Halt) → (tells → mid ≡ image) → room ≡ free → IfErr result (λ halt. tells → OpensNot mid room halt) → IfErr result (λ halt. tells → OpensNot image free halt)
 not_behind tells image mid free room (Ok x) same size none = tt

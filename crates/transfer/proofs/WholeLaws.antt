@@ -1,6 +1,6 @@
 -- What a move that was done read of a device, on any pages.
-use Rattle.std.proofs.Common.{◌≡◌, ◌<◌, ◌≤◌, ◌-◌, ◌∙◌, ◌++◌, ◌∷◌, [], zero, suc, ℕ, append-nil, get_or, false, true, List, Option, None, Some, Result, Ok, Err, inl, inr, refl, sym, ap, subst, map, length, arith}
-use Rattle.std.specs.Prelude.{◌↔◌, ◌⊎◌, All, Bool, Contains, IfOk, IsTrue, replicate}
+use Rattle.std.proofs.Common.{◌≡◌, ◌<◌, ◌≤◌, ◌∙◌, ◌++◌, ◌∷◌, [], zero, suc, ℕ, append-nil, get_or, false, true, List, Option, None, Some, Result, Ok, Err, inl, inr, refl, sym, ap, subst, map, length, arith}
+use Rattle.std.specs.Prelude.{◌≢◌, ◌↔◌, ◌⊎◌, All, Bool, Contains, IfOk, IsTrue, replicate}
 use Rattle.std.specs.FinMap.{from_entries}
 use Rattle.std.specs.List.{AllByRecursion}
 use Rattle.std.proofs.lemmas.Bool.{cases_eq}
@@ -45,7 +45,7 @@ use Rattle.session_calls.proofs.AlongLaws.{pages_still}
 use Rattle.device_session.proofs.KeepLaws.{block_then, still_keeps}
 use Rattle.device_session.proofs.OrderLaws.{places_up}
 use Rattle.device_session.proofs.ReadLaws.{HasRecord, IsArray, content_none, entry_read, grove_maps, grove_tiles, parts_records}
-use Rattle.transfer.specs.Whole.{BeginsWithin, CopiesOnce, CopiesTree, FillsOnce, ComparesAll, HasBlocks, HasOne, HasTwo, HasWholeTree, IsCopied, IsFilled, IsMoved, IsNew, IsRead, IsReadThrough, IsWholeMove, IsWithin, MovesWhole, SeesAll, WasFresh, WhereDone}
+use Rattle.transfer.specs.Whole.{BeginsWithin, CopiesOnce, CopiesTree, FillsOnce, ComparesAll, HasBlocks, HasOne, HasTwo, HasWholeTree, IsCopied, IsFilled, IsMoved, IsNew, IsRead, IsReadThrough, IsWholeMove, IsWithin, MovesWhole, SeesAll, SeesOther, WasFresh, WhereDone}
 use Rattle.transfer.specs.Refusals.{IsIdle, IsOn}
 use Rattle.transfer.specs.declared.halts.Halt.{Halt}
 use Rattle.transfer.specs.declared.halts.Moved.{Moved}
@@ -61,7 +61,7 @@ whatever P (Err halt) p = tt
 -- ---- a session that only reads
 
 -- leaves the pages
-pub pages_same : {S : Type 0} (P : PlatformGhosts S) (platform platform_now : S) (drawn drawn_now : Drawn) (session now : Session) → (P.tells → (there : S) → length (P.history there).present.recorded ≡ P.head there) → Along P 0 platform platform_now drawn drawn_now session now
+pub pages_same : {S : Type 0} {few : ℕ} (P : PlatformGhosts S) (platform platform_now : S) (drawn drawn_now : Drawn) (session now : Session) → (P.tells → (there : S) → length (P.history there).present.recorded ≡ P.head there) → Along P 0 few platform platform_now drawn drawn_now session now
     → P.tells → (P.history platform_now).present.readable ≡ (P.history platform).present.readable
 pages_same P platform platform_now drawn drawn_now session now pages along told =
     pages_still (P.history platform) (P.history platform_now) (P.head platform) (P.head platform_now) (along.cell told).extends (pages told platform) (pages told platform_now) (omega (arith, along.rises, along.adds))
@@ -126,6 +126,27 @@ sees_same from_tells to_tells from to mid source target blocks others is_true (O
       let there = all.two apart in
       inr (there.0, there.1, two_as from_tells to_tells from from to mid source source target target there.0 (λ told. refl) (λ told. ap (λ (i : Image). i.readable) (image told)) refl refl there.2);
 }
+
+-- that they are others was seen behind reads of the first device alone
+pub sees_other : (from_tells to_tells : Type 0) (from mid to : Image) (source target : Session) (blocks : List ℕ) → (from_tells → mid ≡ from) → (from_tells → HasBlocks from (root_of source) blocks) → SeesAll from_tells to_tells mid to source target blocks false → SeesOther from_tells to_tells from to source target
+sees_other from_tells to_tells from mid to source target blocks same listed sees = record {
+  blocks = blocks;
+  listed = listed;
+  sees = record {
+    others = sees.others;
+    listed = sees.listed;
+    count = sees.count;
+    same = λ never. absurd cc;
+    unlike = λ apart. by (sees.unlike apart);
+  };
+}
+  where
+    Two : Image → Type 0
+    Two image = (block : ℕ) × Contains blocks block × HasTwo from_tells to_tells image to source target block
+
+    by : (sees.others ≢ blocks) ⊎ Two mid → (sees.others ≢ blocks) ⊎ Two from
+    by (inl others) = inl others
+    by (inr two) = inr (two.0, two.1, two_as from_tells to_tells from mid to to source source target target two.0 (λ told. ap (λ (i : Image). i.readable) (same told)) (λ told. refl) refl refl two.2)
 
 -- ---- what was copied
 
@@ -199,7 +220,7 @@ read_through tells image later session blocks (Ok x) same listed count all = rec
 }
 
 -- a session's tree without a change
-bare_of : (session : Session) (pages : ℕ) → IsOpen session pages → is_touched session ≡ false → IsTreeOf session.root session.grove
+pub bare_of : (session : Session) (pages : ℕ) → IsOpen session pages → is_touched session ≡ false → IsTreeOf session.root session.grove
 bare_of session pages is_open untouched = subst (λ b. IsTreeFor b session.root session.grove) untouched is_open.tree
 
 -- no page could be named where there is a whole tree

@@ -1,5 +1,5 @@
 -- What a part of a move that has a session on either side begins with, and leaves of both.
-use Rattle.std.specs.Prelude.{◌≡◌, ◌<◌, ℕ, All, IfErr, IsOk, List, None, Result}
+use Rattle.std.specs.Prelude.{◌≡◌, ◌<◌, ◌≤◌, ◌+◌, ℕ, All, IfErr, IsOk, List, None, Result}
 use Rattle.sdbt_base.specs.declared.sinks.Sink.{Ghosts as SinkGhosts}
 use Rattle.sdbt_base.specs.declared.tapes.Tape.{Ghosts as TapeGhosts}
 use Rattle.platform.specs.declared.platforms.Platform.{Ghosts as PlatformGhosts}
@@ -21,19 +21,27 @@ pub record AreReady (from_tells to_tells : Type 0) (from to : Outside) (one othe
   pub within : All (λ block. block < blocks_of one) blocks
   pub alike : blocks_of other ≡ blocks_of one
 
--- both devices are only read: each session goes on with its tree, a fault is that of one platform, and a halt names a record that doesn't fit, if any
-pub record ReadsBoth {S R X : Type 0} (P : PlatformGhosts S) (Q : PlatformGhosts R) (first first_now : S) (second second_now : R) (source source_now target target_now : Session) (result : Result X Halt) : Type 0 where
-  pub from : (any : Drawn) → Along P 0 first first_now any any source source_now
-  pub to : (any : Drawn) → Along Q 0 second second_now any any target target_now
+-- both devices are only read, so often at most as is said of the two counts: each session goes on with its tree, a fault is that of one platform, and a halt names a record that doesn't fit,
+-- if any, of the second one a block's only where this holds
+pub record ReadsBoth {S R X : Type 0} (P : PlatformGhosts S) (Q : PlatformGhosts R) (Reads : ℕ → ℕ → Type 0) (Compared : Type 0) (first first_now : S) (second second_now : R) (source source_now target target_now : Session) (result : Result X Halt) : Type 0 where
+  pub few : ℕ
+  pub most : ℕ
+  pub reads : Reads few most
+  pub from : (any : Drawn) → Along P 0 few first first_now any any source source_now
+  pub to : (any : Drawn) → Along Q 0 most second second_now any any target target_now
   pub blame : (tape output ledger : ℕ) → Blames (counts (P.faults first) (Q.faults second) tape output ledger) (counts (P.faults first_now) (Q.faults second_now) tape output ledger) result
-  pub wrong : IfErr result (MeetsWrong P.tells Q.tells (P.history first_now).present (Q.history second_now).present)
+  pub wrong : IfErr result (MeetsWrong P.tells Q.tells Compared (P.history first_now).present (Q.history second_now).present)
   pub behind : IfErr result IsOfReads
   pub trees : (source_now.grove ≡ source.grove) × (target_now.grove ≡ target.grove)
 
--- the first device is only read, and the second one is filled: its session ends
-pub record FillsBoth {S R W V : Type 0} (P : PlatformGhosts S) (Q : PlatformGhosts R) (T : TapeGhosts W) (L : SinkGhosts V) (first first_now : S) (second second_now : R) (tape tape_now : W) (ledger ledger_now : V) (source source_now target : Session) (result : Result ℕ Halt) : Type 0 where
-  pub from : (any : Drawn) → Along P 0 first first_now any any source source_now
+-- the first device is only read, and the second one is filled: its session ends. So often is either read at most as is said of the two counts
+pub record FillsBoth {S R W V : Type 0} (P : PlatformGhosts S) (Q : PlatformGhosts R) (T : TapeGhosts W) (L : SinkGhosts V) (Reads : ℕ → ℕ → Type 0) (Compared : Type 0) (first first_now : S) (second second_now : R) (tape tape_now : W) (ledger ledger_now : V) (source source_now target : Session) (result : Result ℕ Halt) : Type 0 where
+  pub few : ℕ
+  pub most : ℕ
+  pub reads : Reads few most
+  pub from : (any : Drawn) → Along P 0 few first first_now any any source source_now
+  pub reads_to : Q.tells → Q.reads second_now ≤ Q.reads second + most
   pub to : Carries Q.tells (around Q T L second tape ledger) (around Q T L second_now tape_now ledger_now) target None (IsOk result)
   pub blame : (output : ℕ) → Blames (counts (P.faults first) (Q.faults second) (T.faults tape) output (L.faults ledger)) (counts (P.faults first_now) (Q.faults second_now) (T.faults tape_now) output (L.faults ledger_now)) result
-  pub wrong : IfErr result (MeetsWrong P.tells Q.tells (P.history first_now).present (Q.history second_now).present)
+  pub wrong : IfErr result (MeetsWrong P.tells Q.tells Compared (P.history first_now).present (Q.history second_now).present)
   pub behind : IfErr result IsBehindBoth

@@ -5,6 +5,7 @@ pub mod Listing
 pub mod Opening
 pub mod Running
 pub mod Refusals
+pub mod Reads
 pub mod Program
 pub mod Moving
 pub mod Both

@@ -41,5 +41,7 @@ pub record OpensTarget {R W V : Type 0} (Q : PlatformGhosts R) (T : TapeGhosts W
   pub stops : IfErr result IsOfOpening
   pub idle : IfOk result (λ target. IsIdle target.session)
   pub room : IfOk result (λ target. 20 ≤ room_of target.session)
+  -- a device that there is is only looked at
+  pub still : IfOk result (λ target. Q.tells → (IsTrue target.is_new → ⊥) → (Q.history to_now).present ≡ (Q.history to).present)
   pub on : IfOk result (λ target. Q.tells → IsOn (Q.history to).present blocks order target.is_new target.session)
   pub opens_not : IfErr result (λ halt. Q.tells → OpensNot (Q.history to).present (Q.capacity to - Q.head to) halt)

@@ -21,7 +21,7 @@ use Rattle.transfer.specs.Counts.{Counts, FromRose, LedgerRose, NoneFell, Output
 use Rattle.transfer.specs.Halts.{EndsAs, exit_of, last_line_of, moved_line}
 use Rattle.transfer.specs.Moving.{IsShort, Refuses}
 use Rattle.transfer.specs.Refusals.{AreUnlike, IsRefused}
-use Rattle.transfer.specs.Running.{HasMapped, Looked, LookedThere, MeetsWrong}
+use Rattle.transfer.specs.Running.{HasMapped, HasSome, Looked, LookedThere, MeetsWrong}
 use Rattle.transfer.specs.Whole.{MovesWhole}
 use Rattle.transfer.specs.declared.halts.Halt.{Halt}
 use Rattle.transfer.specs.declared.halts.Halt.TheVariants as halts
@@ -52,15 +52,17 @@ pub record Exits (words : List (List ℕ)) (status : ℕ) (before now : Counts) 
   pub refused : (status ≡ 2) ↔ (words ≢ [])
   pub blame : IsBlamedAt status before now
 
--- how a run went that was given no words: it moved a device, or halted; what it said of that, and its status. A record that is named doesn't fit its place; and that there is no device to be
--- moved, or that its root record can't be served, is said exactly where that was so, but for faults of its platform. On any images it is refused only as the root records in the cells say,
--- and where these are of other numbers of blocks, or of other orders, nothing is moved. A device is moved, or its root record cleared, only where its tree is whole, and all of it was copied. So many pages were free on the second platform
+-- how a run went that was given no words: it moved a device, or halted; what it said of that, and its status. A record that is named doesn't fit its place, and on the second platform it is
+-- one of a block only where a device with mapped blocks was there, whose blocks are compared. That there is no device to be moved, or that its root record can't be served, is said exactly
+-- where that was so, but for faults of its platform. On any images it is refused only as the root records in the cells say, and what look-ups below them find; and where these are of other
+-- numbers of blocks, or of other orders, nothing is moved. A device is moved, or its root record cleared, only where its tree is whole, and all of it was copied. So many pages were free on
+-- the second platform
 pub record Ran (from_tells to_tells : Type 0) (first : Image) (first_to : History) (from : Image) (to : History) (free status : ℕ) (written written_now : Option (List ℕ)) : Type 0 where
   pub moved : Result Moved Halt
   pub ending : Result (Unit {0}) Halt
   pub said : EndsAs moved ending written written_now
   pub status_is : status ≡ exit_of ending
-  pub wrong : IfErr moved (MeetsWrong from_tells to_tells from to.present)
+  pub wrong : IfErr moved (MeetsWrong from_tells to_tells (HasSome first_to.present) from to.present)
   pub looked : Looked from_tells first moved
   pub there : LookedThere to_tells first_to.present moved
   pub mapped : IfOk moved (λ one. from_tells → HasMapped first one.blocks)

@@ -1,37 +1,68 @@
 -- When a move is refused, on any images.
-use Rattle.std.specs.Prelude.{◌≡◌, ◌<◌, ◌+◌, ◌*◌, ℕ, Bool, true, false, None}
+use Rattle.std.specs.Prelude.{◌≡◌, ◌≢◌, ◌⊎◌, ◌<◌, ◌+◌, ◌-◌, ◌*◌, ℕ, Bool, true, false, Contains, List, Option, None}
 use Rattle.platform.specs.Image.{Image}
 use Rattle.root_codec.specs.declared.root.Root.{Root}
+use Rattle.node_codec.specs.declared.body.Entry.{Entry}
 use Rattle.page_store.specs.Kept.{IsRootOf}
+use Rattle.page_store.specs.Places.{FitsAt, root_want}
+use Rattle.btree_walk.specs.Finds.{Finds}
 use Rattle.device_session.specs.Open.{is_touched, root_of}
+use Rattle.device_session.specs.Reading.{ReadsAs}
 use Rattle.device_session.specs.Sessions.{Session}
 use Rattle.transfer.specs.Running.{IsBehindBoth}
+use Rattle.transfer.specs.Whole.{HasBlocks, IsFreshRoot}
 use Rattle.transfer.specs.declared.halts.Halt.{Halt}
 use Rattle.transfer.specs.declared.halts.Halt.TheVariants as halts
 
--- the root record of a device of so many blocks and of this order that was never written
-pub record IsFreshRoot (blocks order : ℕ) (root : Root) : Type 0 where
-  pub blocks_are : root.blocks ≡ blocks
-  pub order_is : root.order ≡ order
-  pub commit : root.commit ≡ 0
-  pub mapped : root.mapped ≡ 0
+-- as many blocks, and a tree of the same order
+abbrev pub AreAlike : Root → Root → Type 0
+AreAlike root other = (root.blocks ≡ other.blocks) × (root.order ≡ other.order)
 
--- why nothing was moved. There is a root record in either cell, and the second one isn't that of a device as large and of the same order that was never written; or there is one in the
--- first cell, and fewer pages are free on the second platform than 42 for each block that it says is mapped, and one more
+-- a look-up of the block over the pages, from the root record down, comes to this content: that of the data record that it finds, or zeros where it finds none
+pub record LooksUp (image : Image) (root : Root) (block : ℕ) (content : List ℕ) : Type 0 where
+  pub found : Option Entry
+  pub path : List ℕ
+  pub finds : Finds (FitsAt image.readable) root.order block found (root.level - 1) (root_want root) root.key path
+  pub reads : ReadsAs image.readable block found content
+
+-- a block of these has two contents: a look-up of it comes to the one on the one image, and to the other on the other
+pub record IsUnlike (from to : Image) (root other : Root) (blocks : List ℕ) : Type 0 where
+  pub block : ℕ
+  pub among : Contains blocks block
+  pub content : List ℕ
+  pub content_there : List ℕ
+  pub here : LooksUp from root block content
+  pub there : LooksUp to other block content_there
+  pub differ : content ≢ content_there
+
+-- two devices differ, on any pages: each node of either tree fits, and the one maps other blocks than the other, or a block has two contents
+pub record Differ (from to : Image) (root other : Root) : Type 0 where
+  pub blocks : List ℕ
+  pub blocks_there : List ℕ
+  pub listed : HasBlocks from root blocks
+  pub listed_there : HasBlocks to other blocks_there
+  pub apart : (blocks_there ≢ blocks) ⊎ IsUnlike from to root other blocks
+
+-- the second root record isn't that of a device as large as the first one's and of the same order that was never written; and where it is of one as large and of the same order, this holds
+abbrev pub IsOtherThan : Root → Root → Type 0 → Type 0
+IsOtherThan root other Differs = (IsFreshRoot root.blocks root.order other → ⊥) × (AreAlike root other → Differs)
+
+-- why nothing was moved. There is a root record in either cell, the second one isn't that of a device as large and of the same order that was never written, and where that device is as
+-- large and of the same order, the two differ; or there is one in the first cell, and fewer pages are free on the second platform than 42 for each block that it says is mapped, and one more
 abbrev pub IsRefused : Image → Image → ℕ → Halt → Type 0
-IsRefused from to free halts.NotEmpty = (root other : Root) × IsRootOf from root × IsRootOf to other × (IsFreshRoot root.blocks root.order other → ⊥)
+IsRefused from to free halts.NotEmpty = (root other : Root) × IsRootOf from root × IsRootOf to other × IsOtherThan root other (Differ from to root other)
 IsRefused from to free halts.Full = (root : Root) × IsRootOf from root × (free < 42 * root.mapped + 1)
 IsRefused from to free _ = Unit {0}
 
 -- there is a root record in either cell, and their devices have other numbers of blocks, or trees of other orders
 abbrev pub AreUnlike : Image → Image → Type 0
-AreUnlike from to = (root other : Root) × IsRootOf from root × IsRootOf to other × ((root.blocks ≡ other.blocks) × (root.order ≡ other.order) → ⊥)
+AreUnlike from to = (root other : Root) × IsRootOf from root × IsRootOf to other × (AreAlike root other → ⊥)
 
--- a halt between two open sessions: at another device, but where this holds; or where fewer pages are free than 42 for each of so many blocks
+-- a halt between two open sessions: at another device, where this holds; or where fewer pages are free than 42 for each of so many blocks
 abbrev pub HaltsAt : Type 0 → ℕ → ℕ → Halt → Type 0
-HaltsAt Fresh count free halts.NotEmpty = Fresh → ⊥
-HaltsAt Fresh count free halts.Full = free < 42 * count
-HaltsAt Fresh count free _ = Unit {0}
+HaltsAt Other count free halts.NotEmpty = Other
+HaltsAt Other count free halts.Full = free < 42 * count
+HaltsAt Other count free _ = Unit {0}
 
 -- a session without a change, that counts as many mapped blocks as its root record says
 pub record IsIdle (session : Session) : Type 0 where

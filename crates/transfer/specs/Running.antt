@@ -6,6 +6,7 @@ use Rattle.platform.specs.Image.{Image}
 use Rattle.platform.specs.History.{Turns}
 use Rattle.root_codec.specs.RootRecord.{root_bytes}
 use Rattle.root_codec.specs.declared.root.Root.{Root}
+use Rattle.page_store.specs.Kept.{IsRootOf}
 use Rattle.page_store.specs.Stands.{Stands}
 use Rattle.device_terms.specs.Served.{IsServedImage}
 use Rattle.device_course.specs.Course.{Made}
@@ -16,7 +17,7 @@ use Rattle.device_session.specs.Sessions.{Session}
 use Rattle.device_session.specs.declared.refusals.CommitReply.{CommitReply}
 use Rattle.device_session.specs.declared.refusals.CommitReply.TheVariants as replies
 use Rattle.session_calls.specs.Carrying.{IsReady}
-use Rattle.session_calls.specs.Damage.{IsWrongPage}
+use Rattle.session_calls.specs.Damage.{IsMiscountedAt, IsWrongNode, IsWrongPage, IsWrongPlace}
 use Rattle.session_calls.specs.declared.stops.DeviceStop.TheVariants as device
 use Rattle.transfer.specs.declared.halts.Halt.{Halt}
 use Rattle.transfer.specs.declared.halts.Halt.TheVariants as halts
@@ -51,11 +52,21 @@ pub record Clears (tells : Type 0) (before : Option Session) (old new : Outside)
   pub made : tells → (entry : State) → IsAt old.history.present before entry
       → ((Done → ⊥) × Made old.history new.history None entry [] (closed entry.device)) ⊎ Made old.history new.history None entry (None ∷ []) (closed None)
 
--- a record that is named doesn't fit its place on its platform, on any pages, where that tells
-abbrev pub MeetsWrong : Type 0 → Type 0 → Image → Image → Halt → Type 0
-MeetsWrong from_tells to_tells from to (halts.From (device.BadRecord addr)) = from_tells → IsWrongPage from addr
-MeetsWrong from_tells to_tells from to (halts.To (device.BadRecord addr)) = to_tells → IsWrongPage to addr
-MeetsWrong from_tells to_tells from to _ = Unit {0}
+-- what is named of the device that another one is moved to: a node that doesn't fit its place, or the root node of a tree that is miscounted; any other record that doesn't fit, as that of a
+-- block, only where blocks are compared
+abbrev pub IsWrongThere : Type 0 → Image → ℕ → Type 0
+IsWrongThere Compared image addr = IsWrongNode image addr ⊎ IsMiscountedAt image addr ⊎ (IsWrongPlace image addr × Compared)
+
+-- a record that is named doesn't fit its place on its platform, on any pages, where that tells. A block is written without a look at what there is of it, so that on the second platform the
+-- record of a block is named only where blocks are compared
+abbrev pub MeetsWrong : Type 0 → Type 0 → Type 0 → Image → Image → Halt → Type 0
+MeetsWrong from_tells to_tells Compared from to (halts.From (device.BadRecord addr)) = from_tells → IsWrongPage from addr
+MeetsWrong from_tells to_tells Compared from to (halts.To (device.BadRecord addr)) = to_tells → IsWrongThere Compared to addr
+MeetsWrong from_tells to_tells Compared from to _ = Unit {0}
+
+-- blocks are compared only with those that are mapped in a device that there is: the root record in its cell says that some are
+abbrev pub HasSome : Image → Type 0
+HasSome image = (root : Root) × IsRootOf image root × (1 ≤ root.mapped)
 
 -- a halt behind the mount of the device that is moved
 abbrev pub IsBehindMount : Halt → Type 0
@@ -93,22 +104,22 @@ pub record LookedThere {X : Type 0} (tells : Type 0) (image : Image) (result : R
   pub bad : tells → (IsServedImage image → ⊥) → IsAtRoot result
   pub bad_only : tells → result ≡ Err (halts.To device.BadRoot) → IsServedImage image → ⊥
 
--- a halt of the device that is moved, and of the one that it is moved to: at a record that doesn't fit its place, on any pages; or since a platform, the tape or the ledger failed, no memory
--- was given, or too few pages are free
+-- a halt of the device that is moved, and of the one that it is moved to: at a record that doesn't fit its place, on any pages, there at one of a block only where blocks are compared; or
+-- since a platform, the tape or the ledger failed, no memory was given, or too few pages are free
 abbrev pub HaltsFrom : Type 0 → Image → Halt → Type 0
 HaltsFrom tells image (halts.From (device.BadRecord addr)) = tells → IsWrongPage image addr
 HaltsFrom tells image (halts.From device.Platform) = Unit {0}
 HaltsFrom tells image (halts.From device.Memory) = Unit {0}
 HaltsFrom tells image _ = ⊥
 
-abbrev pub HaltsTo : Type 0 → Image → Halt → Type 0
-HaltsTo tells image halts.Full = Unit {0}
-HaltsTo tells image (halts.To (device.BadRecord addr)) = tells → IsWrongPage image addr
-HaltsTo tells image (halts.To device.Platform) = Unit {0}
-HaltsTo tells image (halts.To device.Tape) = Unit {0}
-HaltsTo tells image (halts.To device.Ledger) = Unit {0}
-HaltsTo tells image (halts.To device.Memory) = Unit {0}
-HaltsTo tells image _ = ⊥
+abbrev pub HaltsTo : Type 0 → Type 0 → Image → Halt → Type 0
+HaltsTo tells Compared image halts.Full = Unit {0}
+HaltsTo tells Compared image (halts.To (device.BadRecord addr)) = tells → IsWrongThere Compared image addr
+HaltsTo tells Compared image (halts.To device.Platform) = Unit {0}
+HaltsTo tells Compared image (halts.To device.Tape) = Unit {0}
+HaltsTo tells Compared image (halts.To device.Ledger) = Unit {0}
+HaltsTo tells Compared image (halts.To device.Memory) = Unit {0}
+HaltsTo tells Compared image _ = ⊥
 
 -- a halt at which no session is open on the second platform: no record is named
 abbrev pub IsOfOpening : Halt → Type 0

@@ -13,8 +13,14 @@ use Rattle.device_session.specs.Open.{blocks_of, is_touched, number_of, root_of}
 use Rattle.device_session.specs.Reading.{FindsContent, KeepsBlock}
 use Rattle.device_session.specs.Sessions.{Session}
 use Rattle.session_calls.specs.Damage.{IsMounted, IsWrongPage}
-use Rattle.transfer.specs.Refusals.{IsFreshRoot}
 use Rattle.transfer.specs.declared.halts.Halt.{Halt}
+
+-- the root record of a device of so many blocks and of this order that was never written
+pub record IsFreshRoot (blocks order : ℕ) (root : Root) : Type 0 where
+  pub blocks_are : root.blocks ≡ blocks
+  pub order_is : root.order ≡ order
+  pub commit : root.commit ≡ 0
+  pub mapped : root.mapped ≡ 0
 
 -- each node below the root record fits its place, and these are the blocks of their entries, in their order
 pub record HasBlocks (image : Image) (root : Root) (blocks : List ℕ) : Type 0 where
@@ -107,6 +113,12 @@ pub record SeesAll (from_tells to_tells : Type 0) (from to : Image) (source targ
   pub count : length others ≡ (root_of target).mapped
   pub same : IsTrue has → (others ≡ blocks) × All (HasOne from_tells to_tells from to source target) blocks
   pub unlike : (IsTrue has → ⊥) → (others ≢ blocks) ⊎ ((block : ℕ) × Contains blocks block × HasTwo from_tells to_tells from to source target block)
+
+-- these are the first device's blocks, and the second one's were read, which has others, or another content of one of them
+pub record SeesOther (from_tells to_tells : Type 0) (from to : Image) (source target : Session) : Type 0 where
+  pub blocks : List ℕ
+  pub listed : from_tells → HasBlocks from (root_of source) blocks
+  pub sees : SeesAll from_tells to_tells from to source target blocks false
 
 -- the root record in the cell has a tree: each node and each data record fits its place, and as many blocks are mapped as it says. So there is no page that a run could name
 pub record HasWholeTree (image : Image) : Type 0 where

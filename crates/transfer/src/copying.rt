@@ -1,5 +1,5 @@
 //! The copying of blocks from one session to another, and its commit.
-ghost use Rattle.std.specs.Prelude.{◌≡◌, ◌-◌, ◌<◌, ◌∷◌, [], ℕ, All, None, Some, Err, IfErr, IsOk, OnOk, length};
+ghost use Rattle.std.specs.Prelude.{◌≡◌, ◌-◌, ◌*◌, ◌<◌, ◌∷◌, [], ℕ, All, None, Some, Err, IfErr, IsOk, OnOk, length};
 ghost use Rattle.device_course.specs.States.{around};
 ghost use Rattle.device_session.specs.Open.{blocks_of, needed_by};
 ghost use Rattle.session_calls.specs.Along.{Along, Drawn, drawn_by};
@@ -34,11 +34,11 @@ pub(crate) fn copy_blocks<P: Platform, Q: Platform, T: Tape>(
     requires target { IsReady Q.tells (alone Q.Platform to.old) target.old }
     requires within { All (λ block. block < blocks_of source.old) blocks.now }
     requires alike { blocks_of target.old ≡ blocks_of source.old }
-    ensures from { (any : Drawn) → Along P.Platform 0 from.old from.new any any source.old source.new }
-    ensures to { Along Q.Platform (length blocks.now) to.old to.new (drawn_by T.Tape tape.old) (drawn_by T.Tape tape.new) target.old target.new }
+    ensures from { (any : Drawn) → Along P.Platform 0 (21 * length blocks.now) from.old from.new any any source.old source.new }
+    ensures to { Along Q.Platform (length blocks.now) (40 * length blocks.now) to.old to.new (drawn_by T.Tape tape.old) (drawn_by T.Tape tape.new) target.old target.new }
     ensures blame { (output ledger : ℕ) → Blames (counts (P.faults from.old) (Q.faults to.old) (T.faults tape.old) output ledger)
         (counts (P.faults from.new) (Q.faults to.new) (T.faults tape.new) output ledger) result }
-    ensures wrong { IfErr result (MeetsWrong P.tells Q.tells (P.history from.new).present (Q.history to.new).present) }
+    ensures wrong { IfErr result (MeetsWrong P.tells Q.tells ⊥ (P.history from.new).present (Q.history to.new).present) }
     ensures leads { P.tells → Q.tells → (device there : Device) (array other : OpenSession) → IsAt (P.history from.old).present (Some source.old) (mounted device array)
         → IsAt (Q.history to.old).present (Some target.old) (mounted there other)
         → Copies (P.history from.new).present (Q.history to.new).present source.new target.new device there array
@@ -71,11 +71,11 @@ fn copy_block<P: Platform, Q: Platform, T: Tape>(
     requires target { IsReady Q.tells (alone Q.Platform to.old) target.old }
     requires within { block < blocks_of source.old }
     requires alike { blocks_of target.old ≡ blocks_of source.old }
-    ensures from { (any : Drawn) → Along P.Platform 0 from.old from.new any any source.old source.new }
-    ensures to { Along Q.Platform 1 to.old to.new (drawn_by T.Tape tape.old) (drawn_by T.Tape tape.new) target.old target.new }
+    ensures from { (any : Drawn) → Along P.Platform 0 21 from.old from.new any any source.old source.new }
+    ensures to { Along Q.Platform 1 40 to.old to.new (drawn_by T.Tape tape.old) (drawn_by T.Tape tape.new) target.old target.new }
     ensures blame { (output ledger : ℕ) → Blames (counts (P.faults from.old) (Q.faults to.old) (T.faults tape.old) output ledger)
         (counts (P.faults from.new) (Q.faults to.new) (T.faults tape.new) output ledger) result }
-    ensures wrong { IfErr result (MeetsWrong P.tells Q.tells (P.history from.new).present (Q.history to.new).present) }
+    ensures wrong { IfErr result (MeetsWrong P.tells Q.tells ⊥ (P.history from.new).present (Q.history to.new).present) }
     ensures leads { P.tells → Q.tells → (device there : Device) (array other : OpenSession) → IsAt (P.history from.old).present (Some source.old) (mounted device array)
         → IsAt (Q.history to.old).present (Some target.old) (mounted there other)
         → Copies (P.history from.new).present (Q.history to.new).present source.new target.new device there array
@@ -108,6 +108,7 @@ pub(crate) fn commit_target<Q: Platform, T: Tape, L: Sink>(
         (counts from (Q.faults to.new) (T.faults tape.new) output (L.faults ledger.new)) result }
     ensures full { result ≡ Err Halt.Full → Q.capacity to.old - Q.head to.old < needed_by target }
     ensures wrong { IfErr result IsOfCommit }
+    ensures unread { Q.tells → Q.reads to.new ≡ Q.reads to.old }
     ensures leads { Q.tells → (there : Device) (other : OpenSession) → IsAt (Q.history to.old).present (Some target) (mounted there other)
         → Commits (Q.history to.old) (Q.history to.new) there other result }
 {

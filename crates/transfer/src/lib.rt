@@ -8,6 +8,7 @@ ghost use Rattle.device_terms.specs.Served.{IsServedImage};
 ghost use Rattle.device_course.specs.States.{around};
 ghost use Rattle.transfer.specs.Counts.{counts};
 ghost use Rattle.transfer.specs.Program.{Exits, FromAlone, MovesDevice, Ran, ToAlone};
+ghost use Rattle.transfer.specs.Reads.{ReadsFew};
 ghost use Rattle.transfer.specs.Running.{alone};
 
 mod copying;
@@ -50,6 +51,9 @@ pub fn run_transfer<P: Platform, Q: Platform, T: Tape, O: Sink, L: Sink>(
     // What was said, and, on any pages, which record is named, when nothing is moved, and that what is moved is whole.
     ensures ran { map string_bytes words.now ≡ [] → Ran P.tells Q.tells (P.history from.old).present (Q.history to.old) (P.history from.new).present (Q.history to.new) (Q.capacity to.old - Q.head to.old) result
         (O.written output.old) (O.written output.new) }
+
+    // Each tree is walked over once at most, and few pages are read of each block.
+    ensures reads { map string_bytes words.now ≡ [] → ReadsFew P.Platform Q.Platform 1 from.old from.new to.old to.new }
 
     // From one device to another one, or to none: the first one is cleared only once the second one is a copy, whatever stops the run.
     ensures moved { map string_bytes words.now ≡ [] → P.tells → Q.tells → (device : Device) (there : Option Device)

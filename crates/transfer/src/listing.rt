@@ -1,5 +1,5 @@
 //! Which blocks a device has mapped.
-ghost use Rattle.std.specs.Prelude.{◌≡◌, ◌<◌, All, IfErr, IfOk, Some, length, map};
+ghost use Rattle.std.specs.Prelude.{◌≡◌, ◌-◌, ◌<◌, All, IfErr, IfOk, Some, length, map};
 ghost use Rattle.platform.specs.Calls.{Looks};
 ghost use Rattle.sdbt_base.specs.Counts.{counts};
 ghost use Rattle.device_session.specs.Open.{blocks_of, IsOpen, root_of};
@@ -10,6 +10,7 @@ ghost use Rattle.sdbt_base.specs.Arrays.{Device, Session as OpenSession, mounted
 ghost use Rattle.device_course.specs.States.{IsAt};
 ghost use Rattle.transfer.specs.Moving.{IsSoundStop};
 ghost use Rattle.transfer.specs.Listing.{IsListStop, IsOfEntries, stop_of_walk};
+ghost use Rattle.transfer.specs.Reads.{Walks};
 ghost use Rattle.transfer.specs.Whole.{HasBlocks};
 
 use btree_walk::{Entries, WalkRefusal, entries};
@@ -32,6 +33,7 @@ pub(crate) fn list_blocks<P: Platform>(
     // On any pages: each node fits, and the blocks are those of its entries.
     ensures listed { P.tells → IfOk result (λ blocks. HasBlocks (P.history platform.old).present (root_of session.now) blocks.items) }
     ensures looks { Looks P.Platform platform.old platform.new }
+    ensures walks { P.tells → Walks (P.history platform.old).present (root_of session.now) 0 (P.reads platform.new - P.reads platform.old) }
     ensures blame { IsBlamed (counts (P.faults platform.old) 0 0 0 0) (counts (P.faults platform.new) 0 0 0 0) result }
     ensures wrong { IfErr result (IsListStop (P.tells × IsMounted (P.history platform.old).present session.now) (P.history platform.new).present) }
     // Of a device these are its mapped blocks, in their order.

@@ -1,5 +1,5 @@
 //! Whether two devices have the same blocks.
-ghost use Rattle.std.specs.Prelude.{◌≡◌, ◌<◌, ◌↔◌, All, Some, IfOk, IsTrue, length};
+ghost use Rattle.std.specs.Prelude.{◌≡◌, ◌<◌, ◌≤◌, ◌*◌, ◌↔◌, All, Some, IfOk, IsTrue, length};
 ghost use Rattle.device_session.specs.Open.{blocks_of, number_of, root_of};
 ghost use Rattle.session_calls.specs.Carrying.{IsReady};
 ghost use Rattle.transfer.specs.Both.{AreReady, ReadsBoth};
@@ -38,7 +38,8 @@ pub(crate) fn has_same<P: Platform, Q: Platform>(
     to: &mut Q,
 ) -> Result<bool, Halt>
     requires { AreReady P.tells Q.tells (alone P.Platform from.old) (alone Q.Platform to.old) source.old target.old blocks.now }
-    ensures both { ReadsBoth P.Platform Q.Platform from.old from.new to.old to.new source.old source.new target.old target.new result }
+    ensures both { ReadsBoth P.Platform Q.Platform (λ few most. (few ≤ 21 * length blocks.now) × (most ≤ 21 * length blocks.now)) (1 ≤ length blocks.now)
+        from.old from.new to.old to.new source.old source.new target.old target.new result }
     ensures leads { P.tells → Q.tells → (device there : Device) (array other : OpenSession) → IsAt (P.history from.old).present (Some source.old) (mounted device array)
         → IsAt (Q.history to.old).present (Some target.old) (mounted there other)
         → Matches (P.history from.new).present (Q.history to.new).present source.new target.new device there array other
@@ -72,7 +73,7 @@ fn has_same_block<P: Platform, Q: Platform>(
     requires target { IsReady Q.tells (alone Q.Platform to.old) target.old }
     requires within { block < blocks_of source.old }
     requires alike { blocks_of target.old ≡ blocks_of source.old }
-    ensures both { ReadsBoth P.Platform Q.Platform from.old from.new to.old to.new source.old source.new target.old target.new result }
+    ensures both { ReadsBoth P.Platform Q.Platform (λ few most. (few ≤ 21) × (most ≤ 21)) (Unit {0}) from.old from.new to.old to.new source.old source.new target.old target.new result }
     ensures leads { P.tells → Q.tells → (device there : Device) (array other : OpenSession) → IsAt (P.history from.old).present (Some source.old) (mounted device array)
         → IsAt (Q.history to.old).present (Some target.old) (mounted there other)
         → Matches (P.history from.new).present (Q.history to.new).present source.new target.new device there array other

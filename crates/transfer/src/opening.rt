@@ -1,5 +1,5 @@
 //! The device that another one comes to: the one that there is, or a new one.
-ghost use Rattle.std.specs.Prelude.{◌≡◌, ◌≤◌, ◌%◌, Err};
+ghost use Rattle.std.specs.Prelude.{◌≡◌, ◌≤◌, ◌+◌, ◌%◌, None, Err};
 ghost use Rattle.transfer.specs.Opening.{OpensTarget, halt_of_format};
 ghost use Rattle.transfer.specs.Running.{LookedThere};
 
@@ -34,6 +34,8 @@ pub(crate) fn open_target<Q: Platform, T: Tape, L: Sink>(
     requires ordered { (4 ≤ order) × (order ≤ 64) × (order % 2 ≡ 0) }
     ensures target { OpensTarget Q.Platform T.Tape L.Sink to.old to.new tape.old tape.new ledger.old ledger.new blocks order result }
     ensures there { LookedThere Q.tells (Q.history to.old).present result }
+    // The cell is looked at once, and twice more where a device is made.
+    ensures looks { Q.tells → (Q.reads to.new ≤ Q.reads to.old + 3) × (((Q.history to.old).present.cell ≡ None → ⊥) → Q.reads to.new ≤ Q.reads to.old + 1) }
 {
     match mount_session(alloc, to, CACHED_NODES) {
         Ok(Some(session)) => Ok(Target {
@@ -59,6 +61,7 @@ fn make_target<Q: Platform, T: Tape, L: Sink>(
     requires empty { Q.tells → (Q.history to.old).present.cell ≡ None }
     ensures target { OpensTarget Q.Platform T.Tape L.Sink to.old to.new tape.old tape.new ledger.old ledger.new blocks order result }
     ensures there { Q.tells → result ≡ Err (Halt.To DeviceStop.BadRoot) → ⊥ }
+    ensures looks { Q.tells → Q.reads to.new ≤ Q.reads to.old + 2 }
 {
     match format(alloc, to, tape, ledger, blocks, order) {
         Ok(()) => {}

@@ -1,8 +1,9 @@
 //! A run: the device that is moved, the one that it comes to, and the last line.
-ghost use Rattle.std.specs.Prelude.{◌≡◌, ◌-◌, ◌<◌, ◌≤◌, [], ℕ, All, None, Some, Err, IfErr, IfOk, IsOk, IsTrue, Option, length};
-ghost use Rattle.device_session.specs.Open.{blocks_of, needed_by, number_of, root_of};
+ghost use Rattle.std.specs.Prelude.{◌≡◌, ◌-◌, ◌*◌, ◌<◌, ◌≤◌, [], ℕ, false, All, None, Some, Err, IfErr, IfOk, IsOk, IsTrue, Option, length};
+ghost use Rattle.device_session.specs.Open.{blocks_of, is_touched, needed_by, number_of, root_of};
 ghost use Rattle.device_session.specs.Reading.{room_of};
-ghost use Rattle.transfer.specs.Refusals.{HaltsAt, IsFreshRoot, IsIdle};
+ghost use Rattle.transfer.specs.Reads.{ReadsCompared, ReadsFew, ReadsFilled, ReadsFound};
+ghost use Rattle.transfer.specs.Refusals.{AreAlike, HaltsAt, IsIdle, IsOtherThan};
 ghost use Rattle.device_course.specs.States.{around};
 ghost use Rattle.session_calls.specs.Along.{Along, Drawn};
 ghost use Rattle.session_calls.specs.Carrying.{IsReady};
@@ -17,8 +18,8 @@ ghost use Rattle.transfer.specs.Both.{AreReady, FillsBoth, ReadsBoth};
 ghost use Rattle.transfer.specs.Counts.{counts};
 ghost use Rattle.transfer.specs.Halts.{Blames};
 ghost use Rattle.session_calls.specs.Spans.{Spans};
-ghost use Rattle.transfer.specs.Whole.{CopiesOnce, FillsOnce, HasBlocks, IsFilled, IsMoved, IsNew, IsRead, IsReadThrough, MovesWhole, SeesAll, WhereDone};
-ghost use Rattle.transfer.specs.Running.{Clears, HasMapped, IsBehindMount, Looked, LookedThere, MeetsWrong, alone};
+ghost use Rattle.transfer.specs.Whole.{CopiesOnce, FillsOnce, HasBlocks, IsFilled, IsMoved, IsNew, IsRead, IsReadThrough, MovesWhole, SeesAll, SeesOther, WhereDone};
+ghost use Rattle.transfer.specs.Running.{Clears, HasMapped, HasSome, IsBehindMount, Looked, LookedThere, MeetsWrong, alone};
 
 use crate::copying::{commit_target, copy_blocks};
 use crate::halts::{Halt, Moved, put_last_line, put_moved};
@@ -50,6 +51,7 @@ pub(crate) fn run<P: Platform, Q: Platform, T: Tape, O: Sink, L: Sink>(
     ensures blame { Blames (counts (P.faults from.old) (Q.faults to.old) (T.faults tape.old) (O.faults output.old) (L.faults ledger.old))
         (counts (P.faults from.new) (Q.faults to.new) (T.faults tape.new) (O.faults output.new) (L.faults ledger.new)) result }
     ensures went { Went P.tells Q.tells (P.history from.old) (P.history from.new) (Q.history to.old) (Q.history to.new) (Q.capacity to.old - Q.head to.old) result (O.written output.old) (O.written output.new) }
+    ensures reads { ReadsFew P.Platform Q.Platform 1 from.old from.new to.old to.new }
 {
     match move_device(alloc, from, to, tape, ledger) {
         Ok(moved) => put_moved(&moved, output),
@@ -71,9 +73,9 @@ fn move_device<P: Platform, Q: Platform, T: Tape, L: Sink>(
     ensures blame { (output : ℕ) → Blames (counts (P.faults from.old) (Q.faults to.old) (T.faults tape.old) output (L.faults ledger.old))
         (counts (P.faults from.new) (Q.faults to.new) (T.faults tape.new) output (L.faults ledger.new)) result }
     // On any pages: which record is named.
-    ensures wrong { IfErr result (MeetsWrong P.tells Q.tells (P.history from.new).present (Q.history to.new).present) }
+    ensures wrong { IfErr result (MeetsWrong P.tells Q.tells (HasSome (Q.history to.old).present) (P.history from.new).present (Q.history to.new).present) }
     ensures looked { Looked P.tells (P.history from.old).present result }
-    ensures there { LookedThere Q.tells (Q.history to.old).present result }
+    ensures there { LookedThere Q.tells (Q.history to.old).present result × ReadsFew P.Platform Q.Platform 1 from.old from.new to.old to.new }
     ensures refused { Refusing P.tells Q.tells (P.history from.old).present (Q.history to.old).present (Q.capacity to.old - Q.head to.old) result }
     ensures mapped { IfOk result (λ moved. P.tells → HasMapped (P.history from.old).present moved.blocks) }
     ensures whole { MovesWhole P.tells Q.tells (P.history from.old).present (P.history from.new).present (Q.history to.old) (Q.history to.new) result }
@@ -98,21 +100,21 @@ fn move_session<P: Platform, Q: Platform, T: Tape, L: Sink>(
     tape: &mut T,
     ledger: &mut L,
 ) -> Result<Moved, Halt>
-    // The session's cache has room for a node of each level.
-    requires ready { IsReady P.tells (alone P.Platform from.old) first × (20 ≤ room_of first) }
+    // The session has no change, and its cache has room for a node of each level.
+    requires ready { IsReady P.tells (alone P.Platform from.old) first × (20 ≤ room_of first) × (is_touched first ≡ false) }
     ensures from { Clears P.tells (Some first) (alone P.Platform from.old) (alone P.Platform from.new) (IsOk result) }
     ensures to { Spans Q.tells (around Q.Platform T.Tape L.Sink to.old tape.old ledger.old)
         (around Q.Platform T.Tape L.Sink to.new tape.new ledger.new) (IsOk result) }
     ensures blame { (output : ℕ) → Blames (counts (P.faults from.old) (Q.faults to.old) (T.faults tape.old) output (L.faults ledger.old))
         (counts (P.faults from.new) (Q.faults to.new) (T.faults tape.new) output (L.faults ledger.new)) result }
-    ensures wrong { IfErr result (MeetsWrong P.tells Q.tells (P.history from.new).present (Q.history to.new).present) }
+    ensures wrong { IfErr result (MeetsWrong P.tells Q.tells (HasSome (Q.history to.old).present) (P.history from.new).present (Q.history to.new).present) }
     ensures leads { P.tells → Q.tells → (device : Device) (there : Option Device) → IsAt (P.history from.old).present (Some first) (mounted device (session_on device))
         → Stands (Q.history to.old).present there → IsServedImage (Q.history to.old).present
         → Moves (P.history from.old) (P.history from.new) (Q.history to.old) (Q.history to.new) device there (IsShort device 1 (Q.capacity to.old - Q.head to.old)) result }
     ensures refused { Refusing P.tells Q.tells (P.history from.old).present (Q.history to.old).present (Q.capacity to.old - Q.head to.old) result }
     ensures mapped { IfOk result (λ moved. moved.blocks ≡ first.mapped) }
     ensures moves { WhereDone P.tells (P.history from.new).present result (IsMoved P.tells Q.tells (P.history from.old).present (Q.history to.old) (Q.history to.new) first) }
-    ensures there { LookedThere Q.tells (Q.history to.old).present result }
+    ensures there { LookedThere Q.tells (Q.history to.old).present result × ReadsFew P.Platform Q.Platform 0 from.old from.new to.old to.new }
     ensures behind { IfErr result IsBehindMount }
 {
     let mut source = first;
@@ -133,19 +135,20 @@ fn fill<P: Platform, Q: Platform, T: Tape, L: Sink>(
     tape: &mut T,
     ledger: &mut L,
 ) -> Result<u64, Halt>
-    requires ready { IsReady P.tells (alone P.Platform from.old) source.old }
-    ensures from { (any : Drawn) → Along P.Platform 0 from.old from.new any any source.old source.new }
+    requires ready { IsReady P.tells (alone P.Platform from.old) source.old × (is_touched source.old ≡ false) }
+    ensures from { (few : ℕ) × ((any : Drawn) → Along P.Platform 0 few from.old from.new any any source.old source.new) }
     ensures to { Spans Q.tells (around Q.Platform T.Tape L.Sink to.old tape.old ledger.old)
         (around Q.Platform T.Tape L.Sink to.new tape.new ledger.new) (IsOk result) }
     ensures blame { (output : ℕ) → Blames (counts (P.faults from.old) (Q.faults to.old) (T.faults tape.old) output (L.faults ledger.old))
         (counts (P.faults from.new) (Q.faults to.new) (T.faults tape.new) output (L.faults ledger.new)) result }
-    ensures wrong { IfErr result (MeetsWrong P.tells Q.tells (P.history from.new).present (Q.history to.new).present) }
+    ensures wrong { IfErr result (MeetsWrong P.tells Q.tells (HasSome (Q.history to.old).present) (P.history from.new).present (Q.history to.new).present) }
     ensures leads { P.tells → Q.tells → (device : Device) (there : Option Device) → IsAt (P.history from.old).present (Some source.old) (mounted device (session_on device))
         → Stands (Q.history to.old).present there → IsServedImage (Q.history to.old).present
         → Reaches (Q.history to.old) (Q.history to.new) device there (IsShort device 1 (Q.capacity to.old - Q.head to.old)) result }
     ensures there { LookedThere Q.tells (Q.history to.old).present result }
     ensures refused { Refusing P.tells Q.tells (P.history from.old).present (Q.history to.old).present (Q.capacity to.old - Q.head to.old) result }
     ensures behind { IfErr result IsBehindMount }
+    ensures reads { ReadsFew P.Platform Q.Platform 0 from.old from.new to.old to.new }
     // On any pages: all of the first device was read, and copied.
     ensures moves { IfOk result (λ number. IsMoved P.tells Q.tells (P.history from.old).present (Q.history to.old) (Q.history to.new) source.old) }
 {
@@ -179,9 +182,11 @@ fn fill_target<P: Platform, Q: Platform, T: Tape, L: Sink>(
     requires target { IsReady Q.tells (around Q.Platform T.Tape L.Sink to.old tape.old ledger.old) target }
     // Its cache has room for a node of each level.
     requires room { 20 ≤ room_of target }
-    ensures both { FillsBoth P.Platform Q.Platform T.Tape L.Sink from.old from.new to.old to.new tape.old tape.new ledger.old ledger.new source.old source.new target result }
-    ensures refused { IsIdle target → IfErr result (HaltsAt (IsFreshRoot (blocks_of source.old) (root_of source.old).order (root_of target)) (root_of source.old).mapped (Q.capacity to.old - Q.head to.old)) }
-    ensures unlike { ((blocks_of source.old ≡ blocks_of target) × ((root_of source.old).order ≡ (root_of target).order) → ⊥) → result ≡ Err Halt.NotEmpty }
+    ensures both { FillsBoth P.Platform Q.Platform T.Tape L.Sink (λ few most. IsIdle target → ReadsFilled P.tells Q.tells (P.history from.old).present (Q.history to.old).present source.old target is_new few most)
+        (1 ≤ (root_of target).mapped) from.old from.new to.old to.new tape.old tape.new ledger.old ledger.new source.old source.new target result }
+    ensures refused { IsIdle target → IfErr result (HaltsAt (IsOtherThan (root_of source.old) (root_of target)
+        (SeesOther P.tells Q.tells (P.history from.old).present (Q.history to.old).present source.old target)) (root_of source.old).mapped (Q.capacity to.old - Q.head to.old)) }
+    ensures unlike { (AreAlike (root_of source.old) (root_of target) → ⊥) → (result ≡ Err Halt.NotEmpty) × (from.new ≡ from.old) × (to.new ≡ to.old) }
     ensures read { IfOk result (λ number. IsReadThrough P.tells (P.history from.old).present source.old) }
     ensures fills { (IsTrue is_new → Q.tells → HasBlocks (Q.history to.old).present (root_of target) []) → IsIdle target
         → IfOk result (λ number. IsFilled P.tells Q.tells (P.history from.old).present (Q.history to.old) (Q.history to.new) source.old target (IsNew is_new target)) }
@@ -212,8 +217,10 @@ fn fill_found<P: Platform, Q: Platform, T: Tape, L: Sink>(
     ledger: &mut L,
 ) -> Result<u64, Halt>
     requires { AreReady P.tells Q.tells (alone P.Platform from.old) (around Q.Platform T.Tape L.Sink to.old tape.old ledger.old) source.old found blocks.now }
-    ensures both { FillsBoth P.Platform Q.Platform T.Tape L.Sink from.old from.new to.old to.new tape.old tape.new ledger.old ledger.new source.old source.new found result }
-    ensures refused { needed_by found ≡ 0 → IfErr result (HaltsAt ((number_of found ≡ 0) × (found.mapped ≡ 0)) (length blocks.now) (Q.capacity to.old - Q.head to.old)) }
+    ensures both { FillsBoth P.Platform Q.Platform T.Tape L.Sink (λ few most. found.mapped ≡ (root_of found).mapped → ReadsFound Q.tells (Q.history to.old).present found blocks.now few most)
+        (1 ≤ (root_of found).mapped) from.old from.new to.old to.new tape.old tape.new ledger.old ledger.new source.old source.new found result }
+    ensures refused { needed_by found ≡ 0 → IfErr result (HaltsAt (((number_of found ≡ 0) × (found.mapped ≡ 0) → ⊥)
+        × SeesAll P.tells Q.tells (P.history from.old).present (Q.history to.old).present source.old found blocks.now false) (length blocks.now) (Q.capacity to.old - Q.head to.old)) }
     ensures fills { found.mapped ≡ (root_of found).mapped → IfOk result (λ number. FillsOnce P.tells Q.tells (P.history from.old).present (Q.history to.old) (Q.history to.new) source.old found blocks.now
         ((number_of found ≡ 0) × (found.mapped ≡ 0))) }
     ensures read { IfOk result (λ number. All (IsRead P.tells (P.history from.old).present source.old) blocks.now) }
@@ -245,7 +252,8 @@ fn has_all<P: Platform, Q: Platform>(
     to: &mut Q,
 ) -> Result<bool, Halt>
     requires { AreReady P.tells Q.tells (alone P.Platform from.old) (alone Q.Platform to.old) source.old target.old blocks.now }
-    ensures both { ReadsBoth P.Platform Q.Platform from.old from.new to.old to.new source.old source.new target.old target.new result }
+    ensures both { ReadsBoth P.Platform Q.Platform (ReadsCompared Q.tells (Q.history to.old).present target.old blocks.now) (1 ≤ (root_of target.old).mapped)
+        from.old from.new to.old to.new source.old source.new target.old target.new result }
     // On any pages: the second device's blocks were read, and where it is so, a look-up of each comes to one content on both; else they are others, or have other contents.
     ensures sees { IfOk result (SeesAll P.tells Q.tells (P.history from.old).present (Q.history to.old).present source.old target.old blocks.now) }
     ensures leads { P.tells → Q.tells → (device there : Device) → IsAt (P.history from.old).present (Some source.old) (mounted device (session_on device))
@@ -271,8 +279,9 @@ fn copy<P: Platform, Q: Platform, T: Tape, L: Sink>(
     ledger: &mut L,
 ) -> Result<u64, Halt>
     requires { AreReady P.tells Q.tells (alone P.Platform from.old) (around Q.Platform T.Tape L.Sink to.old tape.old ledger.old) source.old first blocks.now }
-    ensures both { FillsBoth P.Platform Q.Platform T.Tape L.Sink from.old from.new to.old to.new tape.old tape.new ledger.old ledger.new source.old source.new first result }
-    ensures refused { needed_by first ≡ 0 → IfErr result (HaltsAt (Unit {0}) (length blocks.now) (Q.capacity to.old - Q.head to.old)) }
+    ensures both { FillsBoth P.Platform Q.Platform T.Tape L.Sink (λ few most. (few ≤ 21 * length blocks.now) × (most ≤ 40 * length blocks.now)) ⊥
+        from.old from.new to.old to.new tape.old tape.new ledger.old ledger.new source.old source.new first result }
+    ensures refused { needed_by first ≡ 0 → IfErr result (HaltsAt ⊥ (length blocks.now) (Q.capacity to.old - Q.head to.old)) }
     // On any pages: they were copied before the commit.
     ensures copied { IfOk result (λ number. CopiesOnce P.tells Q.tells (P.history from.old).present (Q.history to.old) (Q.history to.new) source.old first blocks.now) }
     ensures leads { P.tells → Q.tells → (device there : Device) → IsAt (P.history from.old).present (Some source.old) (mounted device (session_on device))

@@ -1,5 +1,5 @@
 //! Calls on either side, each with the halt of its side.
-ghost use Rattle.std.specs.Prelude.{◌≡◌, ◌<◌, ◌≤◌, ℕ, All, Some, Err, IfErr, IfOk, OnOk, length};
+ghost use Rattle.std.specs.Prelude.{◌≡◌, ◌-◌, ◌<◌, ◌≤◌, ℕ, All, Some, Err, IfErr, IfOk, OnOk, length};
 ghost use Rattle.device_session.specs.Damage.{HasPut};
 ghost use Rattle.device_session.specs.Open.{blocks_of, root_of};
 ghost use Rattle.session_calls.specs.Along.{Along, Drawn, drawn_by};
@@ -10,6 +10,7 @@ ghost use Rattle.std.specs.FinMap as map;
 ghost use Rattle.sdbt_base.specs.Arrays.{Device, Session as OpenSession, mounted, padded, written};
 ghost use Rattle.device_course.specs.States.{IsAt};
 ghost use Rattle.transfer.specs.Moving.{IsReadHalt, ReadsHere, WritesHere};
+ghost use Rattle.transfer.specs.Reads.{Walks};
 ghost use Rattle.transfer.specs.Running.{HaltsFrom, HaltsTo, alone};
 ghost use Rattle.transfer.specs.Whole.{HasBlocks, ReadsTree};
 
@@ -31,7 +32,7 @@ pub(crate) fn read_source<P: Platform>(
     requires size { length out.old ≡ 4096 }
     requires ready { IsReady P.tells (alone P.Platform from.old) source.old }
     requires within { block < blocks_of source.old }
-    ensures along { (any : Drawn) → Along P.Platform 0 from.old from.new any any source.old source.new }
+    ensures along { (any : Drawn) → Along P.Platform 0 21 from.old from.new any any source.old source.new }
     ensures blame { (to tape output ledger : ℕ) → Blames (counts (P.faults from.old) to tape output ledger)
         (counts (P.faults from.new) to tape output ledger) result }
     ensures wrong { IfErr result (HaltsFrom P.tells (P.history from.new).present) }
@@ -57,11 +58,11 @@ pub(crate) fn read_target<Q: Platform>(
     requires size { length out.old ≡ 4096 }
     requires ready { IsReady Q.tells (alone Q.Platform to.old) target.old }
     requires within { block < blocks_of target.old }
-    ensures along { (any : Drawn) → Along Q.Platform 0 to.old to.new any any target.old target.new }
+    ensures along { (any : Drawn) → Along Q.Platform 0 21 to.old to.new any any target.old target.new }
     ensures blame { (from tape output ledger : ℕ) → Blames (counts from (Q.faults to.old) tape output ledger)
         (counts from (Q.faults to.new) tape output ledger) result }
     ensures full { result ≡ Err Halt.Full → ⊥ }
-    ensures wrong { IfErr result (HaltsTo Q.tells (Q.history to.new).present) }
+    ensures wrong { IfErr result (HaltsTo Q.tells (Unit {0}) (Q.history to.new).present) }
     ensures leads { Q.tells → (there : Device) (array : OpenSession) → IsAt (Q.history to.old).present (Some target.old) (mounted there array)
         → ReadsHere (Q.history to.new).present target.new there array block out.new result }
     // On any pages: a block that doesn't fit is none of zeros, nor like another one.
@@ -85,11 +86,12 @@ pub(crate) fn write_target<Q: Platform, T: Tape>(
     requires size { length content.now ≤ 4096 }
     requires ready { IsReady Q.tells (alone Q.Platform to.old) target.old }
     requires within { block < blocks_of target.old }
-    ensures along { Along Q.Platform 1 to.old to.new (drawn_by T.Tape tape.old) (drawn_by T.Tape tape.new) target.old target.new }
+    ensures along { Along Q.Platform 1 40 to.old to.new (drawn_by T.Tape tape.old) (drawn_by T.Tape tape.new) target.old target.new }
     ensures blame { (from output ledger : ℕ) → Blames (counts from (Q.faults to.old) (T.faults tape.old) output ledger)
         (counts from (Q.faults to.new) (T.faults tape.new) output ledger) result }
     ensures full { result ≡ Err Halt.Full → Q.head to.new ≡ Q.capacity to.new }
-    ensures wrong { IfErr result (HaltsTo Q.tells (Q.history to.new).present) }
+    // A record of a block is not read here.
+    ensures wrong { IfErr result (HaltsTo Q.tells ⊥ (Q.history to.new).present) }
     ensures leads { Q.tells → (there : Device) (array : OpenSession) → IsAt (Q.history to.old).present (Some target.old) (mounted there array)
         → WritesHere (Q.history to.new).present target.new there (written array block content.now) result }
     // On any pages: behind a write that was done a look-up of the block comes to the content, and one of each other block to what it came to before.
@@ -115,7 +117,8 @@ pub(crate) fn list_source<P: Platform>(
     ensures count { IfOk result (λ blocks. length blocks.items ≡ (root_of source.now).mapped) }
     // On any pages: each node fits, and the blocks are those of its entries.
     ensures listed { P.tells → IfOk result (λ blocks. HasBlocks (P.history from.old).present (root_of source.now) blocks.items) }
-    ensures along { (any : Drawn) → Along P.Platform 0 from.old from.new any any source.now source.now }
+    ensures along { (any : Drawn) → Along P.Platform 0 (P.reads from.new - P.reads from.old) from.old from.new any any source.now source.now }
+    ensures walks { P.tells → Walks (P.history from.old).present (root_of source.now) 0 (P.reads from.new - P.reads from.old) }
     ensures blame { (to tape output ledger : ℕ) → Blames (counts (P.faults from.old) to tape output ledger)
         (counts (P.faults from.new) to tape output ledger) result }
     ensures wrong { IfErr result (HaltsFrom P.tells (P.history from.new).present) }
@@ -139,11 +142,12 @@ pub(crate) fn list_target<Q: Platform>(
     ensures count { IfOk result (λ blocks. length blocks.items ≡ (root_of target.now).mapped) }
     // On any pages: each node fits, and the blocks are those of its entries.
     ensures listed { Q.tells → IfOk result (λ blocks. HasBlocks (Q.history to.old).present (root_of target.now) blocks.items) }
-    ensures along { (any : Drawn) → Along Q.Platform 0 to.old to.new any any target.now target.now }
+    ensures along { (any : Drawn) → Along Q.Platform 0 (Q.reads to.new - Q.reads to.old) to.old to.new any any target.now target.now }
+    ensures walks { Q.tells → Walks (Q.history to.old).present (root_of target.now) 0 (Q.reads to.new - Q.reads to.old) }
     ensures blame { (from tape output ledger : ℕ) → Blames (counts from (Q.faults to.old) tape output ledger)
         (counts from (Q.faults to.new) tape output ledger) result }
     ensures full { result ≡ Err Halt.Full → ⊥ }
-    ensures wrong { IfErr result (HaltsTo Q.tells (Q.history to.new).present) }
+    ensures wrong { IfErr result (HaltsTo Q.tells ⊥ (Q.history to.new).present) }
     ensures image { Q.tells → (Q.history to.new).present ≡ (Q.history to.old).present }
     ensures lists { Q.tells → (there : Device) (array : OpenSession) → IsAt (Q.history to.old).present (Some target.now) (mounted there array)
         → IfOk result (λ blocks. blocks.items ≡ map.keys there.contents) × IfErr result IsReadHalt }

@@ -88,3 +88,12 @@ returns-in-Err-clause-moved g c none from_told to_told device there stands serve
     (moves_ended _ _ from_told to_told _ _ _ _ _ _ _ _ device there went.moved c.in-Err.halt stands served stands_to served_to (g.met.P.Platform.has_room c.run.new.from)
     (g.met.P.Platform.counts_pages from_told c.run.new.from ∙ (c.in-Err.ensures.from.head ∙ sym (g.met.P.Platform.counts_pages from_told c.args.from.now))) c.in-Err.ensures.from c.in-Err.ensures.to went.said
     (went.leads from_told to_told device there stands served stands_to served_to))
+
+pub returns-then-not-is_empty-clause-reads : goal.returns-then-not-is_empty-clause-reads
+returns-then-not-is_empty-clause-reads g c none = absurd (some_words string_bytes c.args.words.now (sym c.if-not-is_empty.ensures) none)
+
+pub returns-in-Ok-clause-reads : goal.returns-in-Ok-clause-reads
+returns-in-Ok-clause-reads g c none = c.in-Ok.ensures.reads
+
+pub returns-in-Err-clause-reads : goal.returns-in-Err-clause-reads
+returns-in-Err-clause-reads g c none = c.in-Err.ensures.reads

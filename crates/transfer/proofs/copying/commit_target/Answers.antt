@@ -53,3 +53,9 @@ returns-in-Ok-clause-full g c is = commit_short g.Q.Platform _ _ _ _ _ _ c.args.
 
 pub returns-in-Err-clause-full : goal.returns-in-Err-clause-full
 returns-in-Err-clause-full g c is = absurd cc
+
+pub returns-in-Ok-clause-unread : goal.returns-in-Ok-clause-unread
+returns-in-Ok-clause-unread g c = c.in-Ok.ensures.goes.unread
+
+pub returns-in-Err-clause-unread : goal.returns-in-Err-clause-unread
+returns-in-Err-clause-unread g c = c.in-Err.ensures.goes.unread

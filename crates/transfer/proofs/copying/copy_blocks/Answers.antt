@@ -1,4 +1,4 @@
-use Rattle.std.proofs.Common.{◌≡◌, ◌<◌, ◌+◌, ◌∙◌, ℕ, length, refl, ap, subst, arith}
+use Rattle.std.proofs.Common.{◌≡◌, ◌<◌, ◌+◌, ◌*◌, ◌∙◌, ℕ, length, refl, ap, subst, arith}
 use Rattle.std.proofs.lemmas.List.Elements.{All-get_or}
 use Rattle.device_session.specs.Open.{blocks_of}
 use Rattle.session_calls.specs.Along.{Along, drawn_by}
@@ -56,8 +56,10 @@ loop-block-preserved g c =
     let T = g.T.Tape in
     let same = (c.in_ok-copy_block.ensures.blame 0 0).quiet in
     record {
-      source = λ any. along_then g.P.Platform 0 0 _ _ _ any any any _ _ _ (before.source any) (c.copy_block.ensures.from any);
-      target = along_then g.Q.Platform c.loop-block.block-index 1 _ _ _ (drawn_by T c.args.tape.now) (drawn_by T c.loop-block.tape) (drawn_by T c.copy_block.new.tape) _ _ _ before.target c.copy_block.ensures.to;
+      source = λ any. along_more g.P.Platform 0 0 (21 * c.loop-block.block-index + 21) (21 * (c.loop-block.block-index + 1)) _ _ any any _ _ (omega arith) (omega arith)
+          (along_then g.P.Platform 0 0 (21 * c.loop-block.block-index) 21 _ _ _ any any any _ _ _ (before.source any) (c.copy_block.ensures.from any));
+      target = along_more g.Q.Platform (c.loop-block.block-index + 1) (c.loop-block.block-index + 1) (40 * c.loop-block.block-index + 40) (40 * (c.loop-block.block-index + 1)) _ _ (drawn_by T c.args.tape.now) (drawn_by T c.copy_block.new.tape) _ _ (omega arith) (omega arith)
+          (along_then g.Q.Platform c.loop-block.block-index 1 (40 * c.loop-block.block-index) 40 _ _ _ (drawn_by T c.args.tape.now) (drawn_by T c.loop-block.tape) (drawn_by T c.copy_block.new.tape) _ _ _ before.target c.copy_block.ensures.to);
       from_quiet = ap (λ (n : Counts). n.from) same ∙ before.from_quiet;
       to_quiet = ap (λ (n : Counts). n.to) same ∙ before.to_quiet;
       leads = λ from_told to_told device there array other at at_other.
@@ -88,13 +90,15 @@ loop-block-preserved g c =
     }
 
 pub returns-in_err-copy_block-clause-from : goal.returns-in_err-copy_block-clause-from
-returns-in_err-copy_block-clause-from g c any = along_then g.P.Platform 0 0 _ _ _ any any any _ _ _ (c.loop-block.invariant.source any) (c.copy_block.ensures.from any)
+returns-in_err-copy_block-clause-from g c any =
+    along_more g.P.Platform 0 0 (21 * c.loop-block.block-index + 21) (21 * length c.args.blocks.now) _ _ any any _ _ (omega arith) (omega (arith, c.loop-block-test.true))
+    (along_then g.P.Platform 0 0 (21 * c.loop-block.block-index) 21 _ _ _ any any any _ _ _ (c.loop-block.invariant.source any) (c.copy_block.ensures.from any))
 
 pub returns-in_err-copy_block-clause-to : goal.returns-in_err-copy_block-clause-to
 returns-in_err-copy_block-clause-to g c =
     let T = g.T.Tape in
-    along_more g.Q.Platform (c.loop-block.block-index + 1) (length c.args.blocks.now) _ _ (drawn_by T c.args.tape.now) (drawn_by T c.copy_block.new.tape) _ _ (omega (arith, c.loop-block-test.true))
-    (along_then g.Q.Platform c.loop-block.block-index 1 _ _ _ (drawn_by T c.args.tape.now) (drawn_by T c.loop-block.tape) (drawn_by T c.copy_block.new.tape) _ _ _ c.loop-block.invariant.target c.copy_block.ensures.to)
+    along_more g.Q.Platform (c.loop-block.block-index + 1) (length c.args.blocks.now) (40 * c.loop-block.block-index + 40) (40 * length c.args.blocks.now) _ _ (drawn_by T c.args.tape.now) (drawn_by T c.copy_block.new.tape) _ _ (omega (arith, c.loop-block-test.true)) (omega (arith, c.loop-block-test.true))
+    (along_then g.Q.Platform c.loop-block.block-index 1 (40 * c.loop-block.block-index) 40 _ _ _ (drawn_by T c.args.tape.now) (drawn_by T c.loop-block.tape) (drawn_by T c.copy_block.new.tape) _ _ _ c.loop-block.invariant.target c.copy_block.ensures.to)
 
 pub returns-in_err-copy_block-clause-blame : goal.returns-in_err-copy_block-clause-blame
 returns-in_err-copy_block-clause-blame g c output ledger =
@@ -102,12 +106,14 @@ returns-in_err-copy_block-clause-blame g c output ledger =
     (c.in_err-copy_block.ensures.blame output ledger))
 
 pub returns-clause-from : goal.returns-clause-from
-returns-clause-from g c any = c.loop-block.invariant.source any
+returns-clause-from g c any =
+    let all : c.loop-block.block-index ≡ length c.args.blocks.now = omega arith in
+    subst (λ (n : ℕ). Along g.P.Platform 0 (21 * n) c.args.from.now c.loop-block.from any any c.args.source.now c.loop-block.source) all (c.loop-block.invariant.source any)
 
 pub returns-clause-to : goal.returns-clause-to
 returns-clause-to g c =
     let all : c.loop-block.block-index ≡ length c.args.blocks.now = omega arith in
-    subst (λ (n : ℕ). Along g.Q.Platform n c.args.to.now c.loop-block.to (drawn_by g.T.Tape c.args.tape.now) (drawn_by g.T.Tape c.loop-block.tape) c.args.target.now c.loop-block.target) all c.loop-block.invariant.target
+    subst (λ (n : ℕ). Along g.Q.Platform n (40 * n) c.args.to.now c.loop-block.to (drawn_by g.T.Tape c.args.tape.now) (drawn_by g.T.Tape c.loop-block.tape) c.args.target.now c.loop-block.target) all c.loop-block.invariant.target
 
 pub returns-clause-blame : goal.returns-clause-blame
 returns-clause-blame g c output ledger = blames_done _ _ _ (same_counts _ _ _ _ _ _ _ _ _ _ c.loop-block.invariant.from_quiet c.loop-block.invariant.to_quiet c.loop-block.invariant.tape_quiet refl refl)

@@ -1,20 +1,22 @@
 use Rattle.std.proofs.Common.{◌≡◌, ◌<◌, List, Err, ap, subst, sym}
-use Rattle.std.specs.Prelude.{All}
+use Rattle.std.specs.Prelude.{◌⊎◌, All}
 use Rattle.node_codec.specs.declared.body.Entry.{Entry}
 use Rattle.root_codec.specs.RootRecord.{FitsRoot}
 use Rattle.root_codec.specs.declared.root.Root.{Root}
 use Rattle.btree_walk.specs.Nodes.{FirstWrongOf, NodesOf}
 use Rattle.btree_walk.specs.declared.refusals.WalkRefusal.{WalkRefusal}
-use Rattle.session_calls.specs.Damage.{IsMounted, IsWrongPage}
+use Rattle.session_calls.specs.Damage.{IsMiscountedAt, IsMounted, IsWrongNode}
 use Rattle.session_calls.specs.declared.stops.DeviceStop.{DeviceStop}
 use Rattle.transfer.specs.Listing.{IsListStop}
-use Rattle.std.proofs.Common.{◌∙◌, ℕ, length, map}
+use Rattle.std.proofs.Common.{◌-◌, ◌∙◌, ℕ, length, map, arith}
 use Rattle.std.specs.FinMap as maps
 use Rattle.std.specs.declared.vec.Vec.{Vec}
 use Rattle.transfer.specs.Moving.{IsSoundStop}
 use Rattle.transfer.proofs.CopyLaws.{listed_keys}
 use Rattle.transfer.proofs.MovingLaws.{lists_done, walk_sound}
 use Rattle.transfer.proofs.ListLaws.{entries_stopped, entries_within, list_counted, list_miscounted, list_stopped, lows_listed, lows_many}
+use Rattle.transfer.specs.Reads.{Walks}
+use Rattle.transfer.proofs.ReadsLaws.{walks_cut, walks_done, walks_none}
 use Rattle.transfer.proofs.listing.list_blocks.Goals as goal
 
 pub returns-then-len-root-clause-wrong : goal.returns-then-len-root-clause-wrong
@@ -72,7 +74,7 @@ returns-in-Ok-entries-clause-wrong g c known =
     let same : root ≡ c.args.session.now.root = c.root-root.ensures in
     let lists = c.in-Ok-entries.ensures.listed known.0 in
     let of : NodesOf image.readable c.args.session.now.root lists.nodes = subst (λ (r : Root). NodesOf image.readable r lists.nodes) same lists.are in
-    subst (λ (r : Root). IsWrongPage (P.history c.entries.new.platform).present r.addr) (sym same)
+    subst (λ (r : Root). IsWrongNode (P.history c.entries.new.platform).present r.addr ⊎ IsMiscountedAt (P.history c.entries.new.platform).present r.addr) (sym same)
     (list_miscounted image (P.history c.entries.new.platform).present c.args.session.now lists.nodes c.requires.open.served.in_range known.1 of
     (λ many. absurd (c.if-len-root.false (c.len.ensures ∙ ap length lists.is ∙ many ∙ sym (ap (λ (r : Root). r.mapped) same)))) (c.in-Ok-entries.ensures.looks.image known.0))
 
@@ -93,3 +95,32 @@ returns-then-len-root-clause-listed g c told =
     let lists = c.in-Ok-entries.ensures.listed told in
     lows_listed (λ (v : Vec ℕ _). v.items) c.lows_of.result c.in-Ok-entries.list image c.args.session.now.root lists.nodes root.blocks c.lows_of.ensures.blocks lists.is
     (subst (λ (r : Root). NodesOf image.readable r lists.nodes) same lists.are)
+
+pub returns-then-len-root-clause-walks : goal.returns-then-len-root-clause-walks
+returns-then-len-root-clause-walks g c told =
+    let P = g.P.Platform in
+    let image = (P.history c.args.platform.now).present in
+    let reads = P.reads c.args.platform.now in
+    let reads_now = P.reads c.entries.new.platform in
+    subst (λ (r : Root). Walks image r 0 (reads_now - reads)) c.root-root.ensures (walks_done image c.root-root.result.now reads reads_now c.in-Ok-entries.list (c.in-Ok-entries.ensures.listed told))
+
+pub returns-in-Ok-entries-clause-walks : goal.returns-in-Ok-entries-clause-walks
+returns-in-Ok-entries-clause-walks g c told =
+    let P = g.P.Platform in
+    let image = (P.history c.args.platform.now).present in
+    let reads = P.reads c.args.platform.now in
+    let reads_now = P.reads c.entries.new.platform in
+    subst (λ (r : Root). Walks image r 0 (reads_now - reads)) c.root-root.ensures (walks_done image c.root-root.result.now reads reads_now c.in-Ok-entries.list (c.in-Ok-entries.ensures.listed told))
+
+pub returns-clause-walks : goal.returns-clause-walks
+returns-clause-walks g c told =
+    let P = g.P.Platform in
+    let image = (P.history c.args.platform.now).present in
+    let reads = P.reads c.args.platform.now in
+    let reads_now = P.reads c.entries.new.platform in
+    subst (λ (r : Root). Walks image r 0 (reads_now - reads)) c.root-root.ensures (walks_cut image c.root-root.result.now reads reads_now (c.in-Err.ensures.cut told))
+
+pub returns-in_default-clause-walks : goal.returns-in_default-clause-walks
+returns-in_default-clause-walks g c told =
+    let P = g.P.Platform in
+    walks_none (P.history c.args.platform.now).present c.args.session.now.root 0 (P.reads c.args.platform.now - P.reads c.args.platform.now) (omega arith)

@@ -1,9 +1,9 @@
-use Rattle.std.proofs.Common.{◌≡◌, ◌<◌, ◌∙◌, ℕ, refl, ap, arith}
+use Rattle.std.proofs.Common.{◌≡◌, ◌<◌, ◌≤◌, ◌+◌, ◌*◌, ◌∙◌, ℕ, length, refl, ap, arith}
 use Rattle.std.proofs.lemmas.List.Elements.{All-get_or}
 use Rattle.device_session.specs.Open.{blocks_of}
 use Rattle.session_calls.proofs.AlongLaws.{along_start, along_then}
-use Rattle.session_calls.proofs.CallLaws.{no_draw}
-use Rattle.transfer.proofs.HaltLaws.{halted}
+use Rattle.session_calls.proofs.CallLaws.{along_more, no_draw}
+use Rattle.transfer.proofs.HaltLaws.{halted, meets_where}
 use Rattle.transfer.specs.Counts.{Counts}
 use Rattle.std.proofs.Common.{[], ◌∷◌, List, false, get_or, subst, sym, take, true}
 use Rattle.transfer.specs.Whole.{HasOne}
@@ -18,8 +18,15 @@ use Rattle.transfer.proofs.matching.has_same.Goals as goal
 
 pub returns-then-not-branch-clause-both : goal.returns-then-not-branch-clause-both
 returns-then-not-branch-clause-both g c = record {
-  from = λ any. along_then g.P.Platform 0 0 _ _ _ any any any _ _ _ (c.loop-block.invariant.source any) (c.has_same_block.ensures.both.from any);
-  to = λ any. along_then g.Q.Platform 0 0 _ _ _ any any any _ _ _ (c.loop-block.invariant.target any) (c.has_same_block.ensures.both.to any);
+  few = 21 * c.loop-block.block-index + c.has_same_block.ensures.both.few;
+  most = 21 * c.loop-block.block-index + c.has_same_block.ensures.both.most;
+  reads =
+      let within = c.loop-block-test.true in
+      let some = c.has_same_block.ensures.both.reads.0 in
+      let more = c.has_same_block.ensures.both.reads.1 in
+      (omega (arith, within, some), omega (arith, within, more));
+  from = λ any. along_then g.P.Platform 0 0 (21 * c.loop-block.block-index) c.has_same_block.ensures.both.few _ _ _ any any any _ _ _ (c.loop-block.invariant.source any) (c.has_same_block.ensures.both.from any);
+  to = λ any. along_then g.Q.Platform 0 0 (21 * c.loop-block.block-index) c.has_same_block.ensures.both.most _ _ _ any any any _ _ _ (c.loop-block.invariant.target any) (c.has_same_block.ensures.both.to any);
   blame = λ tape output ledger. blames_then _ _ _ _ (same_counts _ _ _ _ _ _ _ _ _ _ c.loop-block.invariant.from_quiet c.loop-block.invariant.to_quiet refl refl refl)
       (blames_done _ _ _ (c.in_ok-has_same_block.ensures.both.blame tape output ledger).quiet);
   wrong = tt;
@@ -29,17 +36,27 @@ returns-then-not-branch-clause-both g c = record {
 
 pub returns-in_err-has_same_block-clause-both : goal.returns-in_err-has_same_block-clause-both
 returns-in_err-has_same_block-clause-both g c = rw (halted c.from_residual.result c.in_err-has_same_block.field-0.0 c.from_residual.ensures.1) (record {
-  from = λ any. along_then g.P.Platform 0 0 _ _ _ any any any _ _ _ (c.loop-block.invariant.source any) (c.has_same_block.ensures.both.from any);
-  to = λ any. along_then g.Q.Platform 0 0 _ _ _ any any any _ _ _ (c.loop-block.invariant.target any) (c.has_same_block.ensures.both.to any);
+  few = 21 * c.loop-block.block-index + c.has_same_block.ensures.both.few;
+  most = 21 * c.loop-block.block-index + c.has_same_block.ensures.both.most;
+  reads =
+      let within = c.loop-block-test.true in
+      let some = c.has_same_block.ensures.both.reads.0 in
+      let more = c.has_same_block.ensures.both.reads.1 in
+      (omega (arith, within, some), omega (arith, within, more));
+  from = λ any. along_then g.P.Platform 0 0 (21 * c.loop-block.block-index) c.has_same_block.ensures.both.few _ _ _ any any any _ _ _ (c.loop-block.invariant.source any) (c.has_same_block.ensures.both.from any);
+  to = λ any. along_then g.Q.Platform 0 0 (21 * c.loop-block.block-index) c.has_same_block.ensures.both.most _ _ _ any any any _ _ _ (c.loop-block.invariant.target any) (c.has_same_block.ensures.both.to any);
   blame = λ tape output ledger. blames_then _ _ _ _ (same_counts _ _ _ _ _ _ _ _ _ _ c.loop-block.invariant.from_quiet c.loop-block.invariant.to_quiet refl refl refl)
       (c.in_err-has_same_block.ensures.both.blame tape output ledger);
-  wrong = c.in_err-has_same_block.ensures.both.wrong;
+  wrong = meets_where _ _ (Unit {0}) (1 ≤ length c.args.blocks.now) _ _ c.in_err-has_same_block.field-0.0 (λ told any. (let within = c.loop-block-test.true in omega (arith, within))) c.in_err-has_same_block.ensures.both.wrong;
   behind = c.in_err-has_same_block.ensures.both.behind;
   trees = (c.in_err-has_same_block.ensures.both.trees.0 ∙ c.loop-block.invariant.source_tree, c.in_err-has_same_block.ensures.both.trees.1 ∙ c.loop-block.invariant.target_tree);
 })
 
 pub returns-clause-both : goal.returns-clause-both
 returns-clause-both g c = record {
+  few = 21 * c.loop-block.block-index;
+  most = 21 * c.loop-block.block-index;
+  reads = (omega arith, omega arith);
   from = λ any. c.loop-block.invariant.source any;
   to = λ any. c.loop-block.invariant.target any;
   blame = λ tape output ledger. blames_done _ _ _ (same_counts _ _ _ _ _ _ _ _ _ _ c.loop-block.invariant.from_quiet c.loop-block.invariant.to_quiet refl refl refl);
@@ -85,8 +102,14 @@ loop-block-preserved g c =
     let before = c.loop-block.invariant in
     let same = (c.in_ok-has_same_block.ensures.both.blame 0 0 0).quiet in
     record {
-      source = λ any. along_then g.P.Platform 0 0 _ _ _ any any any _ _ _ (before.source any) (c.has_same_block.ensures.both.from any);
-      target = λ any. along_then g.Q.Platform 0 0 _ _ _ any any any _ _ _ (before.target any) (c.has_same_block.ensures.both.to any);
+      source = λ any.
+          let some = c.has_same_block.ensures.both.reads.0 in
+          along_more g.P.Platform 0 0 (21 * c.loop-block.block-index + c.has_same_block.ensures.both.few) (21 * (c.loop-block.block-index + 1)) _ _ any any _ _ (omega arith) (omega (arith, some))
+          (along_then g.P.Platform 0 0 (21 * c.loop-block.block-index) c.has_same_block.ensures.both.few _ _ _ any any any _ _ _ (before.source any) (c.has_same_block.ensures.both.from any));
+      target = λ any.
+          let more = c.has_same_block.ensures.both.reads.1 in
+          along_more g.Q.Platform 0 0 (21 * c.loop-block.block-index + c.has_same_block.ensures.both.most) (21 * (c.loop-block.block-index + 1)) _ _ any any _ _ (omega arith) (omega (arith, more))
+          (along_then g.Q.Platform 0 0 (21 * c.loop-block.block-index) c.has_same_block.ensures.both.most _ _ _ any any any _ _ _ (before.target any) (c.has_same_block.ensures.both.to any));
       from_quiet = ap (λ (n : Counts). n.from) same ∙ before.from_quiet;
       leads = λ from_told to_told device there array other at at_other.
           let so_far = before.leads from_told to_told device there array other at at_other in

@@ -1,4 +1,4 @@
-use Rattle.std.proofs.Common.{◌≡◌, Some, length, take}
+use Rattle.std.proofs.Common.{◌≡◌, ◌*◌, Some, length, take}
 use Rattle.std.specs.Prelude.{All}
 use Rattle.sdbt_base.specs.Arrays.{Device, Session as OpenSession, content_of, mounted}
 use Rattle.device_course.specs.States.{IsAt}
@@ -8,8 +8,8 @@ use Rattle.transfer.proofs.matching.has_same.Given as goal
 
 abbrev pub invariant-loop-block : goal.invariant-loop-block
 invariant-loop-block g l = record {
-  source : (any : Drawn) → Along g.P.Platform 0 l.fn.from l.from any any l.fn.source l.source;
-  target : (any : Drawn) → Along g.Q.Platform 0 l.fn.to l.to any any l.fn.target l.target;
+  source : (any : Drawn) → Along g.P.Platform 0 (21 * l.block-index) l.fn.from l.from any any l.fn.source l.source;
+  target : (any : Drawn) → Along g.Q.Platform 0 (21 * l.block-index) l.fn.to l.to any any l.fn.target l.target;
   from_quiet : g.P.Platform.faults l.from ≡ g.P.Platform.faults l.fn.from;
   leads : g.P.Platform.tells → g.Q.Platform.tells → (device there : Device) (array other : OpenSession) → IsAt (g.P.Platform.history l.fn.from).present (Some l.fn.source) (mounted device array)
       → IsAt (g.Q.Platform.history l.fn.to).present (Some l.fn.target) (mounted there other)

@@ -1,4 +1,4 @@
-use Rattle.std.proofs.Common.{◌∙◌, ℕ, List, refl, subst, sym}
+use Rattle.std.proofs.Common.{◌∙◌, ℕ, List, refl, subst, sym, arith}
 use Rattle.device_session.specs.Reading.{FindsContent}
 use Rattle.session_calls.proofs.AlongLaws.{along_start}
 use Rattle.transfer.proofs.BlameLaws.{blames_as, blames_done, blames_then}
@@ -8,16 +8,22 @@ use Rattle.transfer.proofs.matching.has_same_block.Goals as goal
 
 pub returns-in_err-read_source-clause-both : goal.returns-in_err-read_source-clause-both
 returns-in_err-read_source-clause-both g c = rw (halted c.from_residual.result c.in_err-read_source.field-0.0 c.from_residual.ensures.1) (record {
+  few = 21;
+  most = 0;
+  reads = (omega arith, omega arith);
   from = λ any. c.in_err-read_source.ensures.along any;
   to = λ any. along_start g.Q.Platform c.args.to.now any c.args.target.now c.requires.target.is_open;
   blame = λ tape output ledger. blames_as _ _ c.in_err-read_source.field-0.0 (c.in_err-read_source.ensures.blame (g.Q.Platform.faults c.args.to.now) tape output ledger);
-  wrong = meets_from _ _ _ _ c.in_err-read_source.field-0.0 c.in_err-read_source.ensures.wrong;
+  wrong = meets_from _ _ _ _ _ c.in_err-read_source.field-0.0 c.in_err-read_source.ensures.wrong;
   behind = reads_from _ _ c.in_err-read_source.field-0.0 c.in_err-read_source.ensures.wrong;
   trees = (c.in_err-read_source.ensures.reads.tree, refl);
 })
 
 pub returns-in-Ok-clause-both : goal.returns-in-Ok-clause-both
 returns-in-Ok-clause-both g c = record {
+  few = 21;
+  most = 21;
+  reads = (omega arith, omega arith);
   from = λ any. c.read_source.ensures.along any;
   to = λ any. c.read_target.ensures.along any;
   blame = λ tape output ledger. blames_then _ _ _ _ (c.in_ok-read_source.ensures.blame (g.Q.Platform.faults c.args.to.now) tape output ledger).quiet
@@ -29,12 +35,15 @@ returns-in-Ok-clause-both g c = record {
 
 pub returns-in-Err-clause-both : goal.returns-in-Err-clause-both
 returns-in-Err-clause-both g c = record {
+  few = 21;
+  most = 21;
+  reads = (omega arith, omega arith);
   from = λ any. c.read_source.ensures.along any;
   to = λ any. c.read_target.ensures.along any;
   blame = λ tape output ledger. blames_then _ _ _ _ (c.in_ok-read_source.ensures.blame (g.Q.Platform.faults c.args.to.now) tape output ledger).quiet
       (blames_as _ _ c.in-Err.halt (c.in-Err.ensures.blame (g.P.Platform.faults c.read_source.new.from) tape output ledger));
-  wrong = meets_to _ _ _ _ c.in-Err.halt c.in-Err.ensures.wrong;
-  behind = reads_to _ _ c.in-Err.halt c.in-Err.ensures.wrong c.in-Err.ensures.full;
+  wrong = meets_to _ _ _ _ _ c.in-Err.halt c.in-Err.ensures.wrong;
+  behind = reads_to _ _ _ c.in-Err.halt c.in-Err.ensures.wrong c.in-Err.ensures.full;
   trees = (c.in_ok-read_source.ensures.reads.tree, c.in-Err.ensures.reads.tree);
 }
 

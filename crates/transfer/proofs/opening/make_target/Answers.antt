@@ -2,6 +2,7 @@ use Rattle.std.proofs.Common.{◌≤◌, ◌∙◌, Some, Ok, Err, inl, refl, sy
 use Rattle.platform.proofs.Moments.{During-now}
 use Rattle.sdbt_base.specs.Arrays.{closed, new_device}
 use Rattle.device_terms.specs.Served.{IsServedImage}
+use Rattle.device_course.specs.States.{around}
 use Rattle.device_course.proofs.FitsLaws.{behind_added}
 use Rattle.device_course.proofs.MadeLaws.{shut}
 use Rattle.device_session.specs.Reading.{room_of}
@@ -23,7 +24,7 @@ use Rattle.transfer.proofs.opening.make_target.Goals as goal
 pub returns-in-Ok-Some-clause-target : goal.returns-in-Ok-Some-clause-target
 returns-in-Ok-Some-clause-target g c = record {
   opened = let format = c.format.ensures in
-      opens_formatted _ _ _ _ _ _ c.in-Ok-Some.session
+      opens_formatted _ _ _ _ (around g.Q.Platform g.T.Tape g.L.Sink c.format.new.platform c.format.new.tape c.format.new.ledger) _ c.in-Ok-Some.session
       (formatted_of {X = Unit {0}} FormatRefusal _ c.args.blocks c.args.order _ _ _ tt format.grows.0.capacity format.grows.0.rises format.discloses (λ told full. (format.kept told (inl full)).1) c.requires.empty c.in-Ok.ensures.certifies
       (behind_added g.Q.Platform g.L.Sink.written 1 c.args.to.now c.format.new.platform c.args.ledger.now c.format.new.ledger g.met.Q.Platform.counts_pages (omega arith) format.synced) (λ told. (c.in-Ok.ensures.made told).0) (λ told. (c.in-Ok.ensures.made told).1) format.time)
       (opens_found g.Q.Platform _ _ c.format.new.platform c.mount_session.new.platform _ _ c.in-Ok-Some.session c.mount_session.result (c.in-Ok-Some.is ∙ ap Ok c.in-Ok-Some.field-0-is) refl refl refl refl refl refl c.mount_session.ensures.looks
@@ -45,6 +46,7 @@ returns-in-Ok-Some-clause-target g c = record {
   room = let room = room_found g.Q.Platform _ _ _ c.in-Ok-Some.session c.mount_session.result (c.in-Ok-Some.is ∙ ap Ok c.in-Ok-Some.field-0-is) c.mount_session.ensures.finds in
       let enough : 20 ≤ room_of c.in-Ok-Some.session = omega (arith, room) in
       enough;
+  still = λ told never. absurd (never refl);
   on = λ told. (
     c.requires.empty told,
     on_new (g.Q.Platform.history c.mount_session.new.platform).present c.in-Ok-Some.session c.args.blocks c.args.order
@@ -60,7 +62,7 @@ returns-in-Ok-None-clause-target g c = record {
   opened = tt;
   stopped = let format = c.format.ensures in
       let looks = c.mount_session.ensures.looks in
-      spans_formatted _ _ _ _ _ _ _
+      spans_formatted _ _ _ _ (around g.Q.Platform g.T.Tape g.L.Sink c.format.new.platform c.format.new.tape c.format.new.ledger) _ _
       (formatted_of {X = Unit {0}} FormatRefusal _ c.args.blocks c.args.order _ _ _ tt format.grows.0.capacity format.grows.0.rises format.discloses (λ told full. (format.kept told (inl full)).1) c.requires.empty c.in-Ok.ensures.certifies
       (behind_added g.Q.Platform g.L.Sink.written 1 c.args.to.now c.format.new.platform c.args.ledger.now c.format.new.ledger g.met.Q.Platform.counts_pages (omega arith) format.synced) (λ told. (c.in-Ok.ensures.made told).0) (λ told. (c.in-Ok.ensures.made told).1) format.time)
       (spans_look g.Q.Platform _ _ _ refl refl looks.head looks.capacity (g.met.Q.Platform.has_room c.mount_session.new.platform) looks.image looks.time);
@@ -79,6 +81,7 @@ returns-in-Ok-None-clause-target g c = record {
   stops = tt;
   idle = tt;
   room = tt;
+  still = tt;
   on = tt;
   opens_not = λ told. tt;
 }
@@ -88,7 +91,7 @@ returns-in-Err-mount_session-clause-target g c = record {
   opened = tt;
   stopped = let format = c.format.ensures in
       let looks = c.mount_session.ensures.looks in
-      spans_formatted _ _ _ _ _ _ _
+      spans_formatted _ _ _ _ (around g.Q.Platform g.T.Tape g.L.Sink c.format.new.platform c.format.new.tape c.format.new.ledger) _ _
       (formatted_of {X = Unit {0}} FormatRefusal _ c.args.blocks c.args.order _ _ _ tt format.grows.0.capacity format.grows.0.rises format.discloses (λ told full. (format.kept told (inl full)).1) c.requires.empty c.in-Ok.ensures.certifies
       (behind_added g.Q.Platform g.L.Sink.written 1 c.args.to.now c.format.new.platform c.args.ledger.now c.format.new.ledger g.met.Q.Platform.counts_pages (omega arith) format.synced) (λ told. (c.in-Ok.ensures.made told).0) (λ told. (c.in-Ok.ensures.made told).1) format.time)
       (spans_look g.Q.Platform _ _ _ refl refl looks.head looks.capacity (g.met.Q.Platform.has_room c.mount_session.new.platform) looks.image looks.time);
@@ -108,6 +111,7 @@ returns-in-Err-mount_session-clause-target g c = record {
   stops = mount_to _ _ _ c.in-Err-mount_session.stop c.in-Err-mount_session.ensures.stops;
   idle = tt;
   room = tt;
+  still = tt;
   on = tt;
   opens_not = λ told. tt;
 }
@@ -135,6 +139,7 @@ returns-in-Err-clause-target g c = record {
   stops = subst IsOfOpening (sym c.halt_of.ensures) (format_halt c.in-Err.refusal);
   idle = tt;
   room = tt;
+  still = tt;
   on = tt;
   opens_not = λ told. rw c.halt_of.ensures (format_opens_not g.Q.Platform g.T.Tape _ _ _ _ _ _ c.in-Err.refusal c.in-Err.ensures.cause told (c.requires.empty told));
 }
@@ -153,3 +158,26 @@ returns-in-Err-mount_session-clause-there g c told is =
 
 pub returns-in-Err-clause-there : goal.returns-in-Err-clause-there
 returns-in-Err-clause-there g c told is = format_not_root c.in-Err.refusal c.halt_of.result c.halt_of.ensures cc
+
+pub returns-in-Ok-Some-clause-looks : goal.returns-in-Ok-Some-clause-looks
+returns-in-Ok-Some-clause-looks g c told =
+    let one = (c.format.ensures.spends.0 told).by_one in
+    let other = (c.mount_session.ensures.reads told).by_one in
+    omega (arith, one, other)
+
+pub returns-in-Ok-None-clause-looks : goal.returns-in-Ok-None-clause-looks
+returns-in-Ok-None-clause-looks g c told =
+    let one = (c.format.ensures.spends.0 told).by_one in
+    let other = (c.mount_session.ensures.reads told).by_one in
+    omega (arith, one, other)
+
+pub returns-in-Err-mount_session-clause-looks : goal.returns-in-Err-mount_session-clause-looks
+returns-in-Err-mount_session-clause-looks g c told =
+    let one = (c.format.ensures.spends.0 told).by_one in
+    let other = (c.mount_session.ensures.reads told).by_one in
+    omega (arith, one, other)
+
+pub returns-in-Err-clause-looks : goal.returns-in-Err-clause-looks
+returns-in-Err-clause-looks g c told =
+    let one = (c.format.ensures.spends.0 told).by_one in
+    omega (arith, one)

@@ -9,7 +9,7 @@ use Rattle.transfer.proofs.HaltLaws.{mount_to}
 use Rattle.transfer.proofs.LookedLaws.{there_found, there_none, there_stop}
 use Rattle.transfer.proofs.OpenLaws.{mount_stopped, nones_behind}
 use Rattle.transfer.proofs.ToLaws.{found_none, opens_behind, opens_found, spans_behind, spans_look}
-use Rattle.transfer.proofs.RefusalLaws.{idle_found, not_behind, on_behind, on_found, room_found}
+use Rattle.transfer.proofs.RefusalLaws.{idle_found, not_behind, on_behind, on_found, room_found, still_behind}
 use Rattle.transfer.proofs.opening.open_target.Goals as goal
 
 pub returns-in-Ok-Some-clause-target : goal.returns-in-Ok-Some-clause-target
@@ -30,6 +30,7 @@ returns-in-Ok-Some-clause-target g c = record {
   room = let room = room_found g.Q.Platform _ _ _ c.in-Ok-Some.session c.mount_session.result (c.in-Ok-Some.is ∙ ap Ok c.in-Ok-Some.field-0-is) c.mount_session.ensures.finds in
       let enough : 20 ≤ room_of c.in-Ok-Some.session = omega (arith, room) in
       enough;
+  still = λ told never. c.mount_session.ensures.looks.image told;
   on = on_found g.Q.Platform c.args.to.now c.mount_session.new.platform c.in-Ok-Some.session c.mount_session.result (c.in-Ok-Some.is ∙ ap Ok c.in-Ok-Some.field-0-is) c.mount_session.ensures.finds;
   opens_not = tt;
 }
@@ -53,6 +54,7 @@ returns-in-Ok-None-clause-target g c = record {
   stops = c.make_target.ensures.target.stops;
   idle = c.make_target.ensures.target.idle;
   room = c.make_target.ensures.target.room;
+  still = still_behind _ _ _ _ (λ (t : Target). t.is_new) c.make_target.result c.mount_session.ensures.looks.image c.make_target.ensures.target.still;
   on = on_behind _ _ _ c.args.blocks c.args.order (λ (t : Target). t.session) (λ (t : Target). t.is_new) c.make_target.result c.mount_session.ensures.looks.image c.make_target.ensures.target.on;
   opens_not = let looks = c.mount_session.ensures.looks in
       not_behind _ _ _ _ _ c.make_target.result looks.image (omega (arith, looks.head, looks.capacity)) c.make_target.ensures.target.opens_not;
@@ -73,6 +75,7 @@ returns-in-Err-clause-target g c = record {
   stops = mount_to _ _ _ c.in-Err.stop c.in-Err.ensures.stops;
   idle = tt;
   room = tt;
+  still = tt;
   on = tt;
   opens_not = λ told. tt;
 }
@@ -90,3 +93,21 @@ returns-in-Ok-None-clause-there g c =
 
 pub returns-in-Err-clause-there : goal.returns-in-Err-clause-there
 returns-in-Err-clause-there g c = there_stop _ _ _ c.in-Err.stop (λ told. g.met.Q.Platform.counts_pages told c.args.to.now) c.in-Err.ensures.stops
+
+pub returns-in-Ok-Some-clause-looks : goal.returns-in-Ok-Some-clause-looks
+returns-in-Ok-Some-clause-looks g c told =
+    let once = (c.mount_session.ensures.reads told).by_one in
+    (omega (arith, once), λ full. once)
+
+pub returns-in-Ok-None-clause-looks : goal.returns-in-Ok-None-clause-looks
+returns-in-Ok-None-clause-looks g c told =
+    let once = (c.mount_session.ensures.reads told).by_one in
+    let twice = c.make_target.ensures.looks told in (
+      omega (arith, once, twice),
+      λ full. absurd (full (found_none g.Q.Platform c.args.to.now c.mount_session.new.platform c.mount_session.result (c.in-Ok-None.is ∙ ap Ok c.in-Ok-None.field-0-is) c.mount_session.ensures.finds told)),
+    )
+
+pub returns-in-Err-clause-looks : goal.returns-in-Err-clause-looks
+returns-in-Err-clause-looks g c told =
+    let once = (c.mount_session.ensures.reads told).by_one in
+    (omega (arith, once), λ full. once)

@@ -1,5 +1,5 @@
 use Rattle.session_calls.proofs.CarryLaws.{carries_along, carries_end, carries_then}
-use Rattle.std.proofs.Common.{◌≡◌, ◌-◌, ℕ, List, Some, Err, ap, subst, length, arith}
+use Rattle.std.proofs.Common.{◌≡◌, ◌-◌, ◌*◌, ℕ, List, Some, Err, ap, subst, length, arith}
 use Rattle.std.specs.FinMap as maps
 use Rattle.sdbt_base.specs.Arrays.{Session as OpenSession, mounted, session_on}
 use Rattle.device_session.specs.Open.{needed_by}
@@ -17,9 +17,13 @@ use Rattle.transfer.proofs.WholeLaws.{whatever, within_then}
 
 pub returns-in_err-copy_blocks-clause-both : goal.returns-in_err-copy_blocks-clause-both
 returns-in_err-copy_blocks-clause-both g c = rw (halted c.from_residual.result c.in_err-copy_blocks.field-0.0 c.from_residual.ensures.1) (record {
+  few = 21 * length c.args.blocks.now;
+  most = 40 * length c.args.blocks.now;
+  reads = (omega arith, omega arith);
   from = λ any. c.copy_blocks.ensures.from any;
+  reads_to = c.copy_blocks.ensures.to.reads;
   to = carries_end _ _ _ _ _ _ _ (λ going. tt)
-      (carries_along g.Q.Platform g.T.Tape g.L.Sink (length c.args.blocks.now) c.args.to.now c.copy_blocks.new.to c.args.tape.now c.copy_blocks.new.tape c.args.ledger.now _ _ c.requires.target c.copy_blocks.ensures.to);
+      (carries_along g.Q.Platform g.T.Tape g.L.Sink (length c.args.blocks.now) (40 * length c.args.blocks.now) c.args.to.now c.copy_blocks.new.to c.args.tape.now c.copy_blocks.new.tape c.args.ledger.now _ _ c.requires.target c.copy_blocks.ensures.to);
   blame = λ output. blames_as _ _ c.in_err-copy_blocks.field-0.0 (c.in_err-copy_blocks.ensures.blame output (g.L.Sink.faults c.args.ledger.now));
   wrong = c.in_err-copy_blocks.ensures.wrong;
   behind = copy_behind c.in_err-copy_blocks.field-0.0 c.in_err-copy_blocks.ensures.behind;
@@ -27,12 +31,18 @@ returns-in_err-copy_blocks-clause-both g c = rw (halted c.from_residual.result c
 
 pub returns-clause-both : goal.returns-clause-both
 returns-clause-both g c = record {
+  few = 21 * length c.args.blocks.now;
+  most = 40 * length c.args.blocks.now;
+  reads = (omega arith, omega arith);
   from = λ any. c.copy_blocks.ensures.from any;
+  reads_to = λ told. let less = c.copy_blocks.ensures.to.reads told in
+      let same = c.commit_target.ensures.unread told in
+      omega (arith, less, same);
   to = carries_then _ _ _ _ c.args.first c.copy_blocks.new.target _ _ _ tt
-      (carries_along g.Q.Platform g.T.Tape g.L.Sink (length c.args.blocks.now) c.args.to.now c.copy_blocks.new.to c.args.tape.now c.copy_blocks.new.tape c.args.ledger.now _ _ c.requires.target c.copy_blocks.ensures.to)
+      (carries_along g.Q.Platform g.T.Tape g.L.Sink (length c.args.blocks.now) (40 * length c.args.blocks.now) c.args.to.now c.copy_blocks.new.to c.args.tape.now c.copy_blocks.new.tape c.args.ledger.now _ _ c.requires.target c.copy_blocks.ensures.to)
       c.commit_target.ensures.carries;
   blame = λ output. blames_then _ _ _ _ (c.in_ok-copy_blocks.ensures.blame output (g.L.Sink.faults c.args.ledger.now)).quiet (c.commit_target.ensures.blame (g.P.Platform.faults c.copy_blocks.new.from) output);
-  wrong = meets_commit_all _ _ _ _ c.commit_target.result c.commit_target.ensures.wrong;
+  wrong = meets_commit_all _ _ _ _ _ c.commit_target.result c.commit_target.ensures.wrong;
   behind = behind_commit_all c.commit_target.result c.commit_target.ensures.wrong;
 }
 
@@ -72,7 +82,7 @@ copy_blocks-requires g c = record { source = c.requires.source; target = record 
 
 pub returns-in_err-copy_blocks-clause-refused : goal.returns-in_err-copy_blocks-clause-refused
 returns-in_err-copy_blocks-clause-refused g c none =
-    rw (halted c.from_residual.result c.in_err-copy_blocks.field-0.0 c.from_residual.ensures.1) (copy_at (Unit {0}) (length c.args.blocks.now) _ c.in_err-copy_blocks.field-0.0 c.in_err-copy_blocks.ensures.behind (λ is.
+    rw (halted c.from_residual.result c.in_err-copy_blocks.field-0.0 c.from_residual.ensures.1) (copy_at ⊥ (length c.args.blocks.now) _ c.in_err-copy_blocks.field-0.0 c.in_err-copy_blocks.ensures.behind (λ is.
     let full = c.in_err-copy_blocks.ensures.full (ap Err is) in
     let along = c.copy_blocks.ensures.to in
     omega (arith, full.0, full.1, along.adds, along.capacity)))
@@ -80,7 +90,7 @@ returns-in_err-copy_blocks-clause-refused g c none =
 pub returns-clause-refused : goal.returns-clause-refused
 returns-clause-refused g c none =
     let along = c.copy_blocks.ensures.to in
-    commit_at_all (Unit {0}) (length c.args.blocks.now) _ c.commit_target.result c.commit_target.ensures.wrong (λ is.
+    commit_at_all ⊥ (length c.args.blocks.now) _ c.commit_target.result c.commit_target.ensures.wrong (λ is.
     let full = c.commit_target.ensures.full is in
     omega (arith, full, along.needs, along.adds, along.rises, along.capacity, none))
 

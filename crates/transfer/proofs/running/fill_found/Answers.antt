@@ -1,11 +1,12 @@
-use Rattle.std.proofs.Common.{◌≡◌, ◌<◌, ◌∙◌, ℕ, true, false, sym, subst, arith}
+use Rattle.std.proofs.Common.{◌≡◌, ◌<◌, ◌≤◌, ◌+◌, ◌∙◌, ℕ, true, false, sym, subst, arith}
 use Rattle.device_course.proofs.MadeLaws.{made_kept}
 use Rattle.std.specs.Prelude.{All}
 use Rattle.session_calls.specs.Along.{drawn_by}
 use Rattle.session_calls.proofs.AlongLaws.{along_then}
 use Rattle.session_calls.proofs.CallLaws.{no_draw}
 use Rattle.session_calls.proofs.CarryLaws.{carries_along, carries_end, carries_then}
-use Rattle.transfer.proofs.HaltLaws.{halted}
+use Rattle.transfer.proofs.HaltLaws.{halted, meets_where_all}
+use Rattle.transfer.proofs.ReadsLaws.{found_compared, found_copied}
 use Rattle.transfer.proofs.BlameLaws.{blames_as, blames_done, blames_halt, blames_then}
 use Rattle.transfer.proofs.FillLaws.{fresh_blank, number_at, reaches_halted, reaches_other, reaches_since, reaches_still, stale_other}
 use Rattle.transfer.proofs.RefusalLaws.{at_then, reads_at, reads_behind}
@@ -17,9 +18,13 @@ use Rattle.transfer.proofs.WholeLaws.{fills_copied, fills_same}
 
 pub returns-in_err-has-clause-both : goal.returns-in_err-has-clause-both
 returns-in_err-has-clause-both g c = rw (halted c.from_residual.result c.in_err-has.field-0.0 c.from_residual.ensures.1) (record {
+  few = c.has_all.ensures.both.few;
+  most = c.has_all.ensures.both.most;
+  reads = λ idle. found_compared _ _ _ _ _ _ c.has_all.ensures.both.reads;
   from = λ any. c.has_all.ensures.both.from any;
+  reads_to = (c.has_all.ensures.both.to no_draw).reads;
   to = carries_end _ _ _ _ _ _ _ (λ going. tt)
-      (carries_along g.Q.Platform g.T.Tape g.L.Sink 0 c.args.to.now c.has_all.new.to c.args.tape.now c.args.tape.now c.args.ledger.now _ _ c.requires.target (c.has_all.ensures.both.to (drawn_by g.T.Tape c.args.tape.now)));
+      (carries_along g.Q.Platform g.T.Tape g.L.Sink 0 c.has_all.ensures.both.most c.args.to.now c.has_all.new.to c.args.tape.now c.args.tape.now c.args.ledger.now _ _ c.requires.target (c.has_all.ensures.both.to (drawn_by g.T.Tape c.args.tape.now)));
   blame = λ output. blames_as _ _ c.in_err-has.field-0.0 (c.in_err-has.ensures.both.blame (g.T.Tape.faults c.args.tape.now) output (g.L.Sink.faults c.args.ledger.now));
   wrong = c.in_err-has.ensures.both.wrong;
   behind = reads_behind c.in_err-has.field-0.0 c.in_err-has.ensures.both.behind;
@@ -27,9 +32,13 @@ returns-in_err-has-clause-both g c = rw (halted c.from_residual.result c.in_err-
 
 pub returns-then-has-clause-both : goal.returns-then-has-clause-both
 returns-then-has-clause-both g c = record {
+  few = c.has_all.ensures.both.few;
+  most = c.has_all.ensures.both.most;
+  reads = λ idle. found_compared _ _ _ _ _ _ c.has_all.ensures.both.reads;
   from = λ any. c.has_all.ensures.both.from any;
+  reads_to = (c.has_all.ensures.both.to no_draw).reads;
   to = carries_end _ _ _ _ _ _ _ (λ going. tt)
-      (carries_along g.Q.Platform g.T.Tape g.L.Sink 0 c.args.to.now c.has_all.new.to c.args.tape.now c.args.tape.now c.args.ledger.now _ _ c.requires.target (c.has_all.ensures.both.to (drawn_by g.T.Tape c.args.tape.now)));
+      (carries_along g.Q.Platform g.T.Tape g.L.Sink 0 c.has_all.ensures.both.most c.args.to.now c.has_all.new.to c.args.tape.now c.args.tape.now c.args.ledger.now _ _ c.requires.target (c.has_all.ensures.both.to (drawn_by g.T.Tape c.args.tape.now)));
   blame = λ output. blames_done _ _ _ (c.in_ok-has.ensures.both.blame (g.T.Tape.faults c.args.tape.now) output (g.L.Sink.faults c.args.ledger.now)).quiet;
   wrong = tt;
   behind = tt;
@@ -37,20 +46,33 @@ returns-then-has-clause-both g c = record {
 
 pub returns-then-fresh-clause-both : goal.returns-then-fresh-clause-both
 returns-then-fresh-clause-both g c = record {
-  from = λ any. along_then g.P.Platform 0 0 _ _ _ any any any _ _ _ (c.has_all.ensures.both.from any) (c.copy.ensures.both.from any);
+  few = c.has_all.ensures.both.few + c.copy.ensures.both.few;
+  most = c.has_all.ensures.both.most + c.copy.ensures.both.most;
+  reads = λ idle.
+      let fresh = c.is_fresh-fresh.ensures.0 c.if-fresh.true in
+      let none = fresh.1 in
+      found_copied _ _ _ _ c.has_all.ensures.both.few c.has_all.ensures.both.most c.copy.ensures.both.few c.copy.ensures.both.most fresh (sym idle ∙ none) c.has_all.ensures.both.reads c.copy.ensures.both.reads.0 c.copy.ensures.both.reads.1;
+  from = λ any. along_then g.P.Platform 0 0 c.has_all.ensures.both.few c.copy.ensures.both.few _ _ _ any any any _ _ _ (c.has_all.ensures.both.from any) (c.copy.ensures.both.from any);
+  reads_to = λ told. let less = (c.has_all.ensures.both.to no_draw).reads told in
+      let more = c.copy.ensures.both.reads_to told in
+      omega (arith, less, more);
   to = carries_then _ _ _ _ c.args.found c.has_all.new.target _ _ _ tt
-      (carries_along g.Q.Platform g.T.Tape g.L.Sink 0 c.args.to.now c.has_all.new.to c.args.tape.now c.args.tape.now c.args.ledger.now _ _ c.requires.target (c.has_all.ensures.both.to (drawn_by g.T.Tape c.args.tape.now)))
+      (carries_along g.Q.Platform g.T.Tape g.L.Sink 0 c.has_all.ensures.both.most c.args.to.now c.has_all.new.to c.args.tape.now c.args.tape.now c.args.ledger.now _ _ c.requires.target (c.has_all.ensures.both.to (drawn_by g.T.Tape c.args.tape.now)))
       c.copy.ensures.both.to;
   blame = λ output. blames_then _ _ _ _ (c.in_ok-has.ensures.both.blame (g.T.Tape.faults c.args.tape.now) output (g.L.Sink.faults c.args.ledger.now)).quiet (c.copy.ensures.both.blame output);
-  wrong = c.copy.ensures.both.wrong;
+  wrong = meets_where_all _ _ ⊥ (1 ≤ c.args.found.root.mapped) _ _ c.copy.result (λ told never. absurd never) c.copy.ensures.both.wrong;
   behind = c.copy.ensures.both.behind;
 }
 
 pub returns-else-fresh-clause-both : goal.returns-else-fresh-clause-both
 returns-else-fresh-clause-both g c = record {
+  few = c.has_all.ensures.both.few;
+  most = c.has_all.ensures.both.most;
+  reads = λ idle. found_compared _ _ _ _ _ _ c.has_all.ensures.both.reads;
   from = λ any. c.has_all.ensures.both.from any;
+  reads_to = (c.has_all.ensures.both.to no_draw).reads;
   to = carries_end _ _ _ _ _ _ _ (λ going. tt)
-      (carries_along g.Q.Platform g.T.Tape g.L.Sink 0 c.args.to.now c.has_all.new.to c.args.tape.now c.args.tape.now c.args.ledger.now _ _ c.requires.target (c.has_all.ensures.both.to (drawn_by g.T.Tape c.args.tape.now)));
+      (carries_along g.Q.Platform g.T.Tape g.L.Sink 0 c.has_all.ensures.both.most c.args.to.now c.has_all.new.to c.args.tape.now c.args.tape.now c.args.ledger.now _ _ c.requires.target (c.has_all.ensures.both.to (drawn_by g.T.Tape c.args.tape.now)));
   blame = λ output. let same = (c.in_ok-has.ensures.both.blame (g.T.Tape.faults c.args.tape.now) output (g.L.Sink.faults c.args.ledger.now)).quiet in
       blames_halt _ _ _ same same;
   wrong = tt;
@@ -112,12 +134,15 @@ returns-in_err-has-clause-refused g c none = rw (halted c.from_residual.result c
 pub returns-then-fresh-clause-refused : goal.returns-then-fresh-clause-refused
 returns-then-fresh-clause-refused g c none =
     let along = c.has_all.ensures.both.to no_draw in
-    at_then _ _ _ _ _ _ c.copy.result (λ fresh. tt) (λ short. omega (arith, short, along.adds, along.rises, along.capacity)) (c.copy.ensures.refused (omega (arith, none, along.needs)))
+    at_then _ _ _ _ _ _ c.copy.result (λ never. absurd never) (λ short. omega (arith, short, along.adds, along.rises, along.capacity)) (c.copy.ensures.refused (omega (arith, none, along.needs)))
 
 pub returns-else-fresh-clause-refused : goal.returns-else-fresh-clause-refused
-returns-else-fresh-clause-refused g c none fresh =
-    let never : true ≡ false = sym (c.is_fresh-fresh.ensures.1 fresh) ∙ c.if-fresh.false in
-    cc
+returns-else-fresh-clause-refused g c none = (
+  (λ fresh.
+      let never : true ≡ false = sym (c.is_fresh-fresh.ensures.1 fresh) ∙ c.if-fresh.false in
+      cc),
+  subst (SeesAll g.P.Platform.tells g.Q.Platform.tells (g.P.Platform.history c.args.from.now).present (g.Q.Platform.history c.args.to.now).present c.args.source.now c.args.found c.args.blocks.now) c.if-has.false c.in_ok-has.ensures.sees,
+)
 
 pub returns-in_err-has-clause-read : goal.returns-in_err-has-clause-read
 returns-in_err-has-clause-read g c = rw (halted c.from_residual.result c.in_err-has.field-0.0 c.from_residual.ensures.1) tt

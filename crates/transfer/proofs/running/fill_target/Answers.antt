@@ -1,4 +1,4 @@
-use Rattle.std.proofs.Common.{◌≡◌, ◌∙◌, inl, inr, Some, false, true, refl, sym, ap, subst, length, ◌<◌, ℕ, List, arith}
+use Rattle.std.proofs.Common.{◌≡◌, ◌≤◌, ◌+◌, ◌-◌, ◌∙◌, inl, inr, Some, false, true, refl, sym, ap, subst, length, ◌<◌, ℕ, List, arith}
 use Rattle.std.specs.Prelude.{All}
 use Rattle.device_session.specs.Open.{blocks_of}
 use Rattle.sdbt_base.specs.Arrays.{mounted, session_on}
@@ -10,17 +10,22 @@ use Rattle.session_calls.proofs.AlongLaws.{along_start, along_then}
 use Rattle.session_calls.proofs.CallLaws.{no_draw}
 use Rattle.session_calls.proofs.CarryLaws.{carries_end, carries_start}
 use Rattle.transfer.proofs.BlameLaws.{blames_as, blames_halt, blames_then}
-use Rattle.transfer.proofs.HaltLaws.{behind_from, halted, meets_from}
+use Rattle.transfer.proofs.HaltLaws.{behind_from, halted, meets_from, meets_where_all}
+use Rattle.transfer.proofs.ReadsLaws.{filled_found, filled_new, filled_none, filled_walked}
 use Rattle.transfer.proofs.FillLaws.{alike_of, reaches_halted, reaches_other, unlike_other}
 use Rattle.device_session.proofs.CountLaws.{needs_none}
 use Rattle.transfer.proofs.RefusalLaws.{at_then, reads_at, reads_from}
 use Rattle.transfer.proofs.running.fill_target.Goals as goal
 use Rattle.transfer.specs.Whole.{HasBlocks}
-use Rattle.transfer.proofs.WholeLaws.{copied_read, read_through}
+use Rattle.transfer.proofs.WholeLaws.{copied_read, read_through, sees_other}
 use Rattle.transfer.proofs.WholeLaws.{filled, fills_new}
 
 pub returns-then-not-is_alike-clause-both : goal.returns-then-not-is_alike-clause-both
 returns-then-not-is_alike-clause-both g c = record {
+  few = 0;
+  most = 0;
+  reads = λ idle. filled_none _ _ _ _ _ _ _;
+  reads_to = λ told. omega arith;
   from = λ any. along_start g.P.Platform c.args.from.now any c.args.source.now c.requires.source.is_open;
   to = carries_end _ _ _ _ _ _ _ (λ going. tt) (carries_start _ _ c.args.target c.requires.target);
   blame = λ output. blames_halt _ _ _ refl refl;
@@ -30,25 +35,37 @@ returns-then-not-is_alike-clause-both g c = record {
 
 pub returns-in_err-blocks-clause-both : goal.returns-in_err-blocks-clause-both
 returns-in_err-blocks-clause-both g c = rw (halted c.from_residual.result c.in_err-blocks.field-0.0 c.from_residual.ensures.1) (record {
+  few = g.P.Platform.reads c.list_source.new.from - g.P.Platform.reads c.args.from.now;
+  most = 0;
+  reads = λ idle. filled_walked _ _ _ _ _ _ _ (g.P.Platform.reads c.list_source.new.from - g.P.Platform.reads c.args.from.now) c.list_source.ensures.walks;
+  reads_to = λ told. omega arith;
   from = λ any. c.list_source.ensures.along any;
   to = carries_end _ _ _ _ _ _ _ (λ going. tt) (carries_start _ _ c.args.target c.requires.target);
   blame = λ output. blames_as _ _ c.in_err-blocks.field-0.0 (c.in_err-blocks.ensures.blame (g.Q.Platform.faults c.args.to.now) (g.T.Tape.faults c.args.tape.now) output (g.L.Sink.faults c.args.ledger.now));
-  wrong = meets_from _ _ _ _ c.in_err-blocks.field-0.0 c.in_err-blocks.ensures.wrong;
+  wrong = meets_from _ _ _ _ _ c.in_err-blocks.field-0.0 c.in_err-blocks.ensures.wrong;
   behind = behind_from _ _ c.in_err-blocks.field-0.0 c.in_err-blocks.ensures.wrong;
 })
 
 pub returns-then-is_new-clause-both : goal.returns-then-is_new-clause-both
 returns-then-is_new-clause-both g c = record {
-  from = λ any. along_then g.P.Platform 0 0 _ _ _ any any any _ _ _ (c.list_source.ensures.along any) (c.copy.ensures.both.from any);
+  few = (g.P.Platform.reads c.list_source.new.from - g.P.Platform.reads c.args.from.now) + c.copy.ensures.both.few;
+  most = c.copy.ensures.both.most;
+  reads = λ idle. filled_new _ _ _ _ _ _ _ c.deref.result.now (g.P.Platform.reads c.list_source.new.from - g.P.Platform.reads c.args.from.now) c.copy.ensures.both.few c.copy.ensures.both.most c.if-is_new.true c.list_source.ensures.walks (ap length c.deref.ensures.value ∙ c.in_ok-blocks.ensures.count) c.copy.ensures.both.reads.0 c.copy.ensures.both.reads.1;
+  from = λ any. along_then g.P.Platform 0 0 (g.P.Platform.reads c.list_source.new.from - g.P.Platform.reads c.args.from.now) c.copy.ensures.both.few _ _ _ any any any _ _ _ (c.list_source.ensures.along any) (c.copy.ensures.both.from any);
+  reads_to = c.copy.ensures.both.reads_to;
   to = c.copy.ensures.both.to;
   blame = λ output. blames_then _ _ _ _ (c.in_ok-blocks.ensures.blame (g.Q.Platform.faults c.args.to.now) (g.T.Tape.faults c.args.tape.now) output (g.L.Sink.faults c.args.ledger.now)).quiet (c.copy.ensures.both.blame output);
-  wrong = c.copy.ensures.both.wrong;
+  wrong = meets_where_all _ _ ⊥ (1 ≤ c.args.target.root.mapped) _ _ c.copy.result (λ told never. absurd never) c.copy.ensures.both.wrong;
   behind = c.copy.ensures.both.behind;
 }
 
 pub returns-clause-both : goal.returns-clause-both
 returns-clause-both g c = record {
-  from = λ any. along_then g.P.Platform 0 0 _ _ _ any any any _ _ _ (c.list_source.ensures.along any) (c.fill_found.ensures.both.from any);
+  few = (g.P.Platform.reads c.list_source.new.from - g.P.Platform.reads c.args.from.now) + c.fill_found.ensures.both.few;
+  most = c.fill_found.ensures.both.most;
+  reads = λ idle. filled_found _ _ _ _ _ _ _ c.deref-else-is_new.result.now (g.P.Platform.reads c.list_source.new.from - g.P.Platform.reads c.args.from.now) c.fill_found.ensures.both.few c.fill_found.ensures.both.most (λ is. absurd cc) c.list_source.ensures.walks (ap length c.deref-else-is_new.ensures.value ∙ c.in_ok-blocks.ensures.count) (c.fill_found.ensures.both.reads idle.mapped);
+  from = λ any. along_then g.P.Platform 0 0 (g.P.Platform.reads c.list_source.new.from - g.P.Platform.reads c.args.from.now) c.fill_found.ensures.both.few _ _ _ any any any _ _ _ (c.list_source.ensures.along any) (c.fill_found.ensures.both.from any);
+  reads_to = c.fill_found.ensures.both.reads_to;
   to = c.fill_found.ensures.both.to;
   blame = λ output. blames_then _ _ _ _ (c.in_ok-blocks.ensures.blame (g.Q.Platform.faults c.args.to.now) (g.T.Tape.faults c.args.tape.now) output (g.L.Sink.faults c.args.ledger.now)).quiet (c.fill_found.ensures.both.blame output);
   wrong = c.fill_found.ensures.both.wrong;
@@ -98,9 +115,14 @@ returns-clause-leads g c from_told to_told device there at at_there new =
     (alike_of (g.P.Platform.history c.args.from.now).present (g.Q.Platform.history c.args.to.now).present c.args.source.now c.args.target device there _ _ at at_there (c.if-not-is_alike.ensures.0 refl))
 
 pub returns-then-not-is_alike-clause-refused : goal.returns-then-not-is_alike-clause-refused
-returns-then-not-is_alike-clause-refused g c idle fresh =
-    let never : false ≡ true = c.if-not-is_alike.ensures.1 (sym fresh.blocks_are, sym fresh.order_is) in
-    cc
+returns-then-not-is_alike-clause-refused g c idle = (
+  (λ fresh.
+      let never : false ≡ true = c.if-not-is_alike.ensures.1 (sym fresh.blocks_are, sym fresh.order_is) in
+      cc),
+  λ alike.
+      let never : false ≡ true = c.if-not-is_alike.ensures.1 alike in
+      cc,
+)
 
 pub returns-in_err-blocks-clause-refused : goal.returns-in_err-blocks-clause-refused
 returns-in_err-blocks-clause-refused g c idle = rw (halted c.from_residual.result c.in_err-blocks.field-0.0 c.from_residual.ensures.1) (reads_at _ _ _ c.in_err-blocks.field-0.0 (reads_from _ _ c.in_err-blocks.field-0.0 c.in_err-blocks.ensures.wrong))
@@ -108,12 +130,16 @@ returns-in_err-blocks-clause-refused g c idle = rw (halted c.from_residual.resul
 pub returns-then-is_new-clause-refused : goal.returns-then-is_new-clause-refused
 returns-then-is_new-clause-refused g c idle =
     let many : length c.deref.result.now ≡ c.args.source.now.root.mapped = ap length c.deref.ensures.value ∙ c.in_ok-blocks.ensures.count in
-    at_then _ _ _ _ _ _ c.copy.result (λ fresh. tt) (λ short. omega (arith, short, many)) (c.copy.ensures.refused (needs_none c.args.target (g.Q.Platform.head c.args.to.now) c.requires.target.is_open idle.untouched))
+    at_then _ _ _ _ _ _ c.copy.result (λ never. absurd never) (λ short. omega (arith, short, many)) (c.copy.ensures.refused (needs_none c.args.target (g.Q.Platform.head c.args.to.now) c.requires.target.is_open idle.untouched))
 
 pub returns-clause-refused : goal.returns-clause-refused
 returns-clause-refused g c idle =
     let many : length c.deref-else-is_new.result.now ≡ c.args.source.now.root.mapped = ap length c.deref-else-is_new.ensures.value ∙ c.in_ok-blocks.ensures.count in
-    at_then _ _ _ _ _ _ c.fill_found.result (λ fresh. (fresh.commit, idle.mapped ∙ fresh.mapped)) (λ short. omega (arith, short, many))
+    at_then _ _ _ _ _ _ c.fill_found.result (λ other. (
+      (λ fresh. other.0 (fresh.commit, idle.mapped ∙ fresh.mapped)),
+      λ alike. sees_other g.P.Platform.tells g.Q.Platform.tells (g.P.Platform.history c.args.from.now).present (g.P.Platform.history c.list_source.new.from).present (g.Q.Platform.history c.args.to.now).present c.args.source.now c.args.target c.deref-else-is_new.result.now c.list_source.ensures.image
+          (λ told. subst (HasBlocks (g.P.Platform.history c.args.from.now).present c.args.source.now.root) (sym c.deref-else-is_new.ensures.value) (c.in_ok-blocks.ensures.listed told)) other.1,
+    )) (λ short. omega (arith, short, many))
     (c.fill_found.ensures.refused (needs_none c.args.target (g.Q.Platform.head c.args.to.now) c.requires.target.is_open idle.untouched))
 
 pub returns-in_err-blocks-clause-unlike : goal.returns-in_err-blocks-clause-unlike

@@ -1,4 +1,4 @@
-use Rattle.std.proofs.Common.{◌≡◌, ◌∙◌, Some, false, true, inl, refl, sym, ap, subst}
+use Rattle.std.proofs.Common.{◌≡◌, ◌≤◌, ◌+◌, ◌-◌, ◌*◌, ◌∙◌, Some, false, true, length, inl, refl, sym, ap, subst, arith}
 use Rattle.std.specs.Prelude.{Bool}
 use Rattle.transfer.proofs.WholeLaws.{sees_same}
 use Rattle.std.specs.FinMap as maps
@@ -10,32 +10,53 @@ use Rattle.session_calls.proofs.AlongLaws.{along_start, along_then}
 use Rattle.session_calls.proofs.CallLaws.{no_draw}
 use Rattle.transfer.proofs.BlameLaws.{blames_as, blames_done, blames_then}
 use Rattle.transfer.proofs.FillLaws.{matches_as, same_contents}
-use Rattle.transfer.proofs.HaltLaws.{halted, meets_to}
+use Rattle.transfer.proofs.HaltLaws.{halted, meets_to, meets_where, meets_where_all}
+use Rattle.transfer.proofs.ReadsLaws.{walks_more}
 use Rattle.transfer.proofs.RefusalLaws.{reads_to}
 use Rattle.transfer.proofs.running.has_all.Goals as goal
 
 pub returns-in_err-others-clause-both : goal.returns-in_err-others-clause-both
 returns-in_err-others-clause-both g c = rw (halted c.from_residual.result c.in_err-others.field-0.0 c.from_residual.ensures.1) (record {
+  few = 0;
+  most = g.Q.Platform.reads c.list_target.new.to - g.Q.Platform.reads c.args.to.now;
+  reads = record { compared = 0; within = omega arith; mapped = omega arith; first = omega arith; second = c.list_target.ensures.walks };
   from = λ any. along_start g.P.Platform c.args.from.now any c.args.source.now c.requires.source.is_open;
   to = λ any. c.list_target.ensures.along any;
   blame = λ tape output ledger. blames_as _ _ c.in_err-others.field-0.0 (c.in_err-others.ensures.blame (g.P.Platform.faults c.args.from.now) tape output ledger);
-  wrong = meets_to _ _ _ _ c.in_err-others.field-0.0 c.in_err-others.ensures.wrong;
-  behind = reads_to _ _ c.in_err-others.field-0.0 c.in_err-others.ensures.wrong c.in_err-others.ensures.full;
+  wrong = meets_where _ _ ⊥ (1 ≤ c.args.target.now.root.mapped) _ _ c.in_err-others.field-0.0 (λ told never. absurd never) (meets_to _ _ ⊥ _ _ c.in_err-others.field-0.0 c.in_err-others.ensures.wrong);
+  behind = reads_to _ _ _ c.in_err-others.field-0.0 c.in_err-others.ensures.wrong c.in_err-others.ensures.full;
   trees = (refl, refl);
 })
 
 pub returns-then-eq-clause-both : goal.returns-then-eq-clause-both
-returns-then-eq-clause-both g c = record {
-  from = λ any. c.has_same.ensures.both.from any;
-  to = λ any. along_then g.Q.Platform 0 0 _ _ _ any any any _ _ _ (c.list_target.ensures.along any) (c.has_same.ensures.both.to any);
-  blame = λ tape output ledger. blames_then _ _ _ _ (c.in_ok-others.ensures.blame (g.P.Platform.faults c.args.from.now) tape output ledger).quiet (c.has_same.ensures.both.blame tape output ledger);
-  wrong = c.has_same.ensures.both.wrong;
-  behind = c.has_same.ensures.both.behind;
-  trees = c.has_same.ensures.both.trees;
-}
+returns-then-eq-clause-both g c =
+    let listed = c.in_ok-others.ensures.count in
+    let are = ap length (sym c.as_slice.ensures.value ∙ (bytes_eq-Decides _ _).0 (sym (c.if-eq.ensures))) in
+    let many : length c.args.blocks.now ≡ c.args.target.now.root.mapped = sym are ∙ listed in
+    record {
+      few = c.has_same.ensures.both.few;
+      most = (g.Q.Platform.reads c.list_target.new.to - g.Q.Platform.reads c.args.to.now) + c.has_same.ensures.both.most;
+      reads = record {
+        compared = length c.args.blocks.now;
+        within = omega arith;
+        mapped = omega (arith, many);
+        first = c.has_same.ensures.both.reads.0;
+        second = λ told. let more = c.has_same.ensures.both.reads.1 in
+            walks_more _ _ 0 (21 * length c.args.blocks.now) ((g.Q.Platform.reads c.list_target.new.to - g.Q.Platform.reads c.args.to.now) + c.has_same.ensures.both.most) (g.Q.Platform.reads c.list_target.new.to - g.Q.Platform.reads c.args.to.now) (omega (arith, more)) (c.list_target.ensures.walks told);
+      };
+      from = λ any. c.has_same.ensures.both.from any;
+      to = λ any. along_then g.Q.Platform 0 0 (g.Q.Platform.reads c.list_target.new.to - g.Q.Platform.reads c.args.to.now) c.has_same.ensures.both.most _ _ _ any any any _ _ _ (c.list_target.ensures.along any) (c.has_same.ensures.both.to any);
+      blame = λ tape output ledger. blames_then _ _ _ _ (c.in_ok-others.ensures.blame (g.P.Platform.faults c.args.from.now) tape output ledger).quiet (c.has_same.ensures.both.blame tape output ledger);
+      wrong = meets_where_all _ _ (1 ≤ length c.args.blocks.now) (1 ≤ c.args.target.now.root.mapped) _ _ c.has_same.result (λ told some. omega (arith, some, many)) c.has_same.ensures.both.wrong;
+      behind = c.has_same.ensures.both.behind;
+      trees = c.has_same.ensures.both.trees;
+    }
 
 pub returns-clause-both : goal.returns-clause-both
 returns-clause-both g c = record {
+  few = 0;
+  most = g.Q.Platform.reads c.list_target.new.to - g.Q.Platform.reads c.args.to.now;
+  reads = record { compared = 0; within = omega arith; mapped = omega arith; first = omega arith; second = c.list_target.ensures.walks };
   from = λ any. along_start g.P.Platform c.args.from.now any c.args.source.now c.requires.source.is_open;
   to = λ any. c.list_target.ensures.along any;
   blame = λ tape output ledger. blames_done _ _ _ (c.in_ok-others.ensures.blame (g.P.Platform.faults c.args.from.now) tape output ledger).quiet;

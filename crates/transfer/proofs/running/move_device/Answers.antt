@@ -7,19 +7,27 @@ use Rattle.transfer.specs.Counts.{counts}
 use Rattle.transfer.proofs.BlameLaws.{blames_halt, blames_then, from_quiet, from_stopped, of_platform}
 use Rattle.transfer.proofs.FromLaws.{clears_look, clears_mounted, ready_found}
 use Rattle.transfer.proofs.LookedLaws.{looked_found, looked_none, looked_stop, mapped_found, there_before, there_no_device}
+use Rattle.transfer.specs.Running.{HasSome}
 use Rattle.transfer.proofs.HaltLaws.{mount_from}
 use Rattle.transfer.proofs.MoveLaws.{at_mounted, moves_behind, moves_stopped}
 use Rattle.transfer.proofs.OpenLaws.{formatted_found, mount_sound}
 use Rattle.transfer.proofs.ToLaws.{found_none, spans_not}
-use Rattle.transfer.proofs.RefusalLaws.{refusing_behind, refusing_from, refusing_none, room_found}
+use Rattle.transfer.proofs.RefusalLaws.{idle_found, refusing_behind, refusing_from, refusing_none, room_found}
 use Rattle.transfer.proofs.running.move_device.Goals as goal
+use Rattle.transfer.proofs.ReadsLaws.{few_behind, few_stopped}
 use Rattle.transfer.proofs.WholeLaws.{whole_found, whole_looked}
 
 pub move_session-requires : goal.move_session-requires
 move_session-requires g c =
     let room = room_found g.P.Platform _ _ _ c.in-Ok-Some.source c.mount_session.result (c.in-Ok-Some.is ∙ ap Ok c.in-Ok-Some.field-0-is) c.mount_session.ensures.finds in
     let enough : 20 ≤ room_of c.in-Ok-Some.source = omega (arith, room) in
-    record { ready = (ready_found g.P.Platform c.args.from.now c.mount_session.new.platform c.in-Ok-Some.source c.mount_session.result (c.in-Ok-Some.is ∙ ap Ok c.in-Ok-Some.field-0-is) c.mount_session.ensures.finds, enough) }
+    record {
+      ready = (
+        ready_found g.P.Platform c.args.from.now c.mount_session.new.platform c.in-Ok-Some.source c.mount_session.result (c.in-Ok-Some.is ∙ ap Ok c.in-Ok-Some.field-0-is) c.mount_session.ensures.finds,
+        enough,
+        (idle_found g.P.Platform c.args.from.now c.mount_session.new.platform c.in-Ok-Some.source c.mount_session.result (c.in-Ok-Some.is ∙ ap Ok c.in-Ok-Some.field-0-is) c.mount_session.ensures.finds).untouched,
+      );
+    }
 
 pub returns-in-Ok-Some-clause-from : goal.returns-in-Ok-Some-clause-from
 returns-in-Ok-Some-clause-from g c =
@@ -61,7 +69,7 @@ returns-in-Err-clause-blame g c output =
     from_stopped _ _ before now c.in-Err.stop (of_platform _ _ _ output _) refl c.in-Err.ensures.blame.fell c.in-Err.ensures.blame.cause
 
 pub returns-in-Err-clause-wrong : goal.returns-in-Err-clause-wrong
-returns-in-Err-clause-wrong g c = mount_from g.P.Platform.tells g.Q.Platform.tells (g.P.Platform.history c.mount_session.new.platform).present (g.Q.Platform.history c.args.to.now).present _ _ _ c.in-Err.stop c.in-Err.ensures.stops
+returns-in-Err-clause-wrong g c = mount_from g.P.Platform.tells g.Q.Platform.tells (HasSome (g.Q.Platform.history c.args.to.now).present) (g.P.Platform.history c.mount_session.new.platform).present (g.Q.Platform.history c.args.to.now).present _ _ _ c.in-Err.stop c.in-Err.ensures.stops
 
 pub returns-in-Ok-Some-clause-looked : goal.returns-in-Ok-Some-clause-looked
 returns-in-Ok-Some-clause-looked g c =
@@ -100,10 +108,10 @@ returns-in-Ok-Some-clause-mapped g c =
     mapped_found g.P.Platform c.args.from.now c.mount_session.new.platform c.in-Ok-Some.source c.mount_session.result c.move_session.result (c.in-Ok-Some.is ∙ ap Ok c.in-Ok-Some.field-0-is) c.mount_session.ensures.finds c.move_session.ensures.mapped
 
 pub returns-in-Ok-None-clause-there : goal.returns-in-Ok-None-clause-there
-returns-in-Ok-None-clause-there g c = there_no_device _ _
+returns-in-Ok-None-clause-there g c = (there_no_device _ _, few_stopped g.P.Platform g.Q.Platform c.args.from.now c.mount_session.new.platform c.args.to.now (λ told. (c.mount_session.ensures.reads told).by_one))
 
 pub returns-in-Err-clause-there : goal.returns-in-Err-clause-there
-returns-in-Err-clause-there g c = there_before _ _ c.in-Err.stop
+returns-in-Err-clause-there g c = (there_before _ _ c.in-Err.stop, few_stopped g.P.Platform g.Q.Platform c.args.from.now c.mount_session.new.platform c.args.to.now (λ told. (c.mount_session.ensures.reads told).by_one))
 
 pub returns-in-Ok-Some-clause-refused : goal.returns-in-Ok-Some-clause-refused
 returns-in-Ok-Some-clause-refused g c = refusing_behind _ _ _ _ _ _ c.move_session.result c.mount_session.ensures.looks.image c.move_session.ensures.refused
@@ -124,3 +132,9 @@ returns-in-Ok-None-clause-whole g c = whole_looked g.Q.Platform.tells g.P.Platfo
 
 pub returns-in-Err-clause-whole : goal.returns-in-Err-clause-whole
 returns-in-Err-clause-whole g c = whole_looked g.Q.Platform.tells g.P.Platform c.args.from.now c.mount_session.new.platform _ _ _ c.mount_session.ensures.looks
+
+pub returns-in-Ok-Some-clause-there : goal.returns-in-Ok-Some-clause-there
+returns-in-Ok-Some-clause-there g c = (
+  c.move_session.ensures.there.0,
+  few_behind g.P.Platform g.Q.Platform c.args.from.now c.mount_session.new.platform c.move_session.new.from c.args.to.now c.move_session.new.to c.mount_session.ensures.looks (λ told. (c.mount_session.ensures.reads told).by_one) c.move_session.ensures.there.1,
+)

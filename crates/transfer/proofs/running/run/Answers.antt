@@ -37,7 +37,7 @@ returns-in-Ok-clause-went g c = record {
   said = c.put_moved.ensures.put;
   wrong = tt;
   looked = c.in-Ok.ensures.looked;
-  there = c.in-Ok.ensures.there;
+  there = c.in-Ok.ensures.there.0;
   mapped = c.in-Ok.ensures.mapped;
   whole = c.in-Ok.ensures.whole;
   refused = tt;
@@ -51,10 +51,16 @@ returns-in-Err-clause-went g c = record {
   said = (c.put_last_line.result, refl, c.put_last_line.ensures.told);
   wrong = c.in-Err.ensures.wrong;
   looked = c.in-Err.ensures.looked;
-  there = c.in-Err.ensures.there;
+  there = c.in-Err.ensures.there.0;
   mapped = tt;
   whole = c.in-Err.ensures.whole;
   refused = c.in-Err.ensures.refused.refused;
   unlike = c.in-Err.ensures.refused.unlike;
   leads = c.in-Err.ensures.leads;
 }
+
+pub returns-in-Ok-clause-reads : goal.returns-in-Ok-clause-reads
+returns-in-Ok-clause-reads g c = c.in-Ok.ensures.there.1
+
+pub returns-in-Err-clause-reads : goal.returns-in-Err-clause-reads
+returns-in-Err-clause-reads g c = c.in-Err.ensures.there.1

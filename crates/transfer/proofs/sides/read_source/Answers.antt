@@ -1,6 +1,6 @@
-use Rattle.std.proofs.Common.{refl}
+use Rattle.std.proofs.Common.{◌+◌, refl, arith}
 use Rattle.session_calls.specs.Damage.{IsMounted}
-use Rattle.session_calls.proofs.CallLaws.{no_draw}
+use Rattle.session_calls.proofs.CallLaws.{along_more, no_draw}
 use Rattle.transfer.specs.Counts.{counts}
 use Rattle.transfer.proofs.BlameLaws.{blames_done, from_quiet, from_stopped, of_platform}
 use Rattle.transfer.proofs.MovingLaws.{read_sound}
@@ -8,10 +8,14 @@ use Rattle.transfer.proofs.HaltLaws.{read_from}
 use Rattle.transfer.proofs.sides.read_source.Goals as goal
 
 pub returns-in-Ok-clause-along : goal.returns-in-Ok-clause-along
-returns-in-Ok-clause-along g c any = (c.in-Ok.ensures.goes any).along
+returns-in-Ok-clause-along g c any =
+    let level = c.requires.ready.is_open.level in
+    along_more g.P.Platform 0 0 (c.args.source.now.grove.level + 1) 21 _ _ any any _ _ (omega arith) (omega (arith, level)) (c.in-Ok.ensures.goes any).along
 
 pub returns-in-Err-clause-along : goal.returns-in-Err-clause-along
-returns-in-Err-clause-along g c any = (c.in-Err.ensures.goes any).along
+returns-in-Err-clause-along g c any =
+    let level = c.requires.ready.is_open.level in
+    along_more g.P.Platform 0 0 (c.args.source.now.grove.level + 1) 21 _ _ any any _ _ (omega arith) (omega (arith, level)) (c.in-Err.ensures.goes any).along
 
 pub returns-in-Ok-clause-blame : goal.returns-in-Ok-clause-blame
 returns-in-Ok-clause-blame g c to tape output ledger =

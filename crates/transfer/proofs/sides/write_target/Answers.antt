@@ -1,4 +1,4 @@
-use Rattle.std.proofs.Common.{refl, arith}
+use Rattle.std.proofs.Common.{◌*◌, refl, arith}
 use Rattle.session_calls.specs.Along.{drawn_by}
 use Rattle.session_calls.specs.Damage.{IsMounted}
 use Rattle.session_calls.proofs.AlongLaws.{along_start}
@@ -10,10 +10,14 @@ use Rattle.transfer.proofs.HaltLaws.{write_to}
 use Rattle.transfer.proofs.sides.write_target.Goals as goal
 
 pub returns-in-Ok-clause-along : goal.returns-in-Ok-clause-along
-returns-in-Ok-clause-along g c = c.in-Ok.ensures.goes.along
+returns-in-Ok-clause-along g c =
+    let level = c.requires.ready.is_open.level in
+    along_more g.Q.Platform 1 1 (2 * c.args.target.now.grove.level) 40 _ _ (drawn_by g.T.Tape c.args.tape.now) (drawn_by g.T.Tape c.write_block.new.tape) _ _ (omega arith) (omega (arith, level)) c.in-Ok.ensures.goes.along
 
 pub returns-in-Err-clause-along : goal.returns-in-Err-clause-along
-returns-in-Err-clause-along g c = c.in-Err.ensures.goes.along
+returns-in-Err-clause-along g c =
+    let level = c.requires.ready.is_open.level in
+    along_more g.Q.Platform 1 1 (2 * c.args.target.now.grove.level) 40 _ _ (drawn_by g.T.Tape c.args.tape.now) (drawn_by g.T.Tape c.write_block.new.tape) _ _ (omega arith) (omega (arith, level)) c.in-Err.ensures.goes.along
 
 pub returns-in-Ok-clause-blame : goal.returns-in-Ok-clause-blame
 returns-in-Ok-clause-blame g c from output ledger =
@@ -39,7 +43,7 @@ returns-in-Err-clause-wrong g c =
 pub returns-then-head-capacity-clause-along : goal.returns-then-head-capacity-clause-along
 returns-then-head-capacity-clause-along g c =
     let drawn = drawn_by g.T.Tape c.args.tape.now in
-    along_more g.Q.Platform 0 1 _ _ drawn drawn _ _ (omega arith) (along_start g.Q.Platform c.args.to.now drawn c.args.target.now c.requires.ready.is_open)
+    along_more g.Q.Platform 0 1 0 40 _ _ drawn drawn _ _ (omega arith) (omega arith) (along_start g.Q.Platform c.args.to.now drawn c.args.target.now c.requires.ready.is_open)
 
 pub returns-then-head-capacity-clause-blame : goal.returns-then-head-capacity-clause-blame
 returns-then-head-capacity-clause-blame g c from output ledger = blames_halt _ _ _ refl refl
