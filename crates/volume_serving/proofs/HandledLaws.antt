@@ -310,7 +310,7 @@ shown_one old new reply next later shows = (moment new, later, omega arith, subs
 pub record SaysOf (tells : Type 0) (blocks : ℕ) (old : World) (now : Session) (table_now : List Volume) (new : Outside) (text : List ℕ) (reply : Reply) : Type 0 where
   pub extends : tells → Extends old.outside.history new.history
   pub turn : (held : Session) → old.session ≡ Some held
-      → IsTurnOn (sizes blocks new.head new.capacity) (Did tells new.history) (paused old.outside held old.table) text reply (paused new now table_now)
+      → IsTurnOn (sizes blocks new.head new.capacity) (Did tells blocks new.capacity new.history) (paused old.outside held old.table) text reply (paused new now table_now)
   pub drew : DrewUntil (tally_of old.outside) (text ∷ []) (reply ∷ []) (tally_of new)
   pub cut : DrewUntil (tally_of old.outside) (text ∷ []) [] (tally_of new)
   pub read : tells → (held : Session) → ReadsOn new.reads (paused old.outside held old.table) (text ∷ []) []
@@ -338,11 +338,17 @@ still_of draws tape tape_now pages pages_now it undrawn unadded none = λ k. tal
 pub served_says : (tells : Type 0) (blocks : ℕ) (old : World) (session now : Session) (table_now : List Volume) (new : Outside) (text : List ℕ) (it : Line) (reply : Reply) → old.session ≡ Some session → Spells text it → (tells → Extends old.outside.history new.history)
     → (tells → IsMounted new.history.present now) → blocks_of now ≡ blocks_of session → TurnsTable (sizes blocks new.head new.capacity) (needed_by session) (needed_by now) old.table it reply table_now
     × DoesAny (λ Claim. tells → Claim old.outside.history.present session new.history.present now) (λ Claim. tells → WasOver (moment old.outside.history) (moment new.history) new.history (Claim old.outside.history.present session)) old.table reply it table_now
-    → DrewFor (tally_of old.outside) it reply (tally_of new) → ((Draws it → ⊥) → tally_of new ≡ tally_of old.outside) → (tells → new.reads ≤ old.outside.reads + reads_with old.table it reply) → SaysOf tells blocks old now table_now new text reply
-served_says tells blocks old session now table_now new text it reply going spelled extends goes blocks_same any drew still few = record {
+    → DrewFor (tally_of old.outside) it reply (tally_of new) → ((Draws it → ⊥) → tally_of new ≡ tally_of old.outside) → (tells → new.reads ≤ old.outside.reads + reads_with old.table it reply) → (tells → length new.history.present.recorded ≡ new.head) → SaysOf tells blocks old now table_now new text reply
+served_says tells blocks old session now table_now new text it reply going spelled extends goes blocks_same any drew still few pages = record {
   extends = extends;
-  turn = λ held is. subst (λ (s : Session). IsTurnOn (sizes blocks new.head new.capacity) (Did tells new.history) (paused old.outside s old.table) text reply (paused new now table_now)) (same_held old session held going is)
-      (inl (it, spelled, any.0, did_now tells old.outside.history new.history session now old.table it reply table_now old.outside.reads new.reads few extends goes blocks_same any.1));
+  turn = λ held is. subst (λ (s : Session). IsTurnOn (sizes blocks new.head new.capacity) (Did tells blocks new.capacity new.history) (paused old.outside s old.table) text reply (paused new now table_now)) (same_held old session held going is)
+      (inl (
+        it,
+        spelled,
+        any.0,
+        did_now tells blocks new.capacity old.outside.history new.history session now old.table it reply table_now old.outside.reads new.reads few extends goes blocks_same
+            (λ told. subst (λ (n : ℕ). TurnsTable (sizes blocks n new.capacity) (needed_by session) (needed_by now) old.table it reply table_now) (sym (pages told)) any.0) any.1,
+      ));
   drew = until_line (tally_of old.outside) (tally_of new) text it reply spelled drew;
   cut = until_cut (tally_of old.outside) (tally_of new) text it drew.0 spelled still drew.2.drew;
   read = λ told held. inr (it, spelled, omega (arith, few told, with_reply old.table it reply));

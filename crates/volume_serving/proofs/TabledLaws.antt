@@ -100,29 +100,32 @@ turns_later blocks pages pages_now capacity DidSo Does here last (line ∷ lines
 -- ---- what was found or left
 
 -- what was so in a part of a run is so in the longer history
-did_longer : (tells : Type 0) (old new : History) (here : Pause) (it : Line) (reply : Reply) (next : Pause) → (tells → Extends old new) → Did tells old here it reply next → Did tells new here it reply next
-did_longer tells old new here it reply next extends did told =
+did_longer : (tells : Type 0) (blocks capacity : ℕ) (old new : History) (here : Pause) (it : Line) (reply : Reply) (next : Pause) → (tells → Extends old new) → Did tells blocks capacity old here it reply next → Did tells blocks capacity new here it reply next
+did_longer tells blocks capacity old new here it reply next extends did told =
     let longer = extends told in
     let was = did told in
     let led = was.0 in
     let there : image_at new here.at ≡ image_at old here.at = longer.same here.at (omega (arith, led.later, led.within)) in
     let behind : image_at new next.at ≡ image_at old next.at = longer.same next.at led.within in (
       record { later = led.later; within = omega (arith, led.within, longer.later); mounted = subst (λ (i : Image). IsMounted i next.session) (sym behind) led.mounted; blocks = led.blocks; reads = led.reads },
+      subst (λ (i : Image). TurnsTable (sizes blocks (length i.recorded) capacity) (needed_by here.session) (needed_by next.session) here.table it reply next.table) (sym behind) was.1,
       does_follows (Across (image_at old here.at) here.session (image_at old next.at) next.session) (λ Claim. WasOver here.at next.at old (Claim (image_at old here.at) here.session))
           (Across (image_at new here.at) here.session (image_at new next.at) next.session) (λ Claim. WasOver here.at next.at new (Claim (image_at new here.at) here.session)) here.table next.table reply it
           (λ Claim does. subst (λ (i : Image). Claim i here.session (image_at new next.at) next.session) (sym there) (subst (λ (i : Image). Claim (image_at old here.at) here.session i next.session) (sym behind) does))
-          (λ Claim had. was_longer here.at next.at old new (Claim (image_at new here.at) here.session) longer led.within (subst (λ (i : Image). WasOver here.at next.at old (Claim i here.session)) (sym there) had)) was.1,
+          (λ Claim had. was_longer here.at next.at old new (Claim (image_at new here.at) here.session) longer led.within (subst (λ (i : Image). WasOver here.at next.at old (Claim i here.session)) (sym there) had)) was.2,
     )
 
 -- what a line did is so of where it began and ended
-pub did_now : (tells : Type 0) (old new : History) (session now : Session) (table : List Volume) (it : Line) (reply : Reply) (next : List Volume) (reads reads_now : ℕ) → (tells → reads_now ≤ reads + reads_with table it reply) → (tells → Extends old new) → (tells → IsMounted new.present now) → blocks_of now ≡ blocks_of session
+pub did_now : (tells : Type 0) (blocks capacity : ℕ) (old new : History) (session now : Session) (table : List Volume) (it : Line) (reply : Reply) (next : List Volume) (reads reads_now : ℕ) → (tells → reads_now ≤ reads + reads_with table it reply) → (tells → Extends old new) → (tells → IsMounted new.present now) → blocks_of now ≡ blocks_of session
+    → (tells → TurnsTable (sizes blocks (length new.present.recorded) capacity) (needed_by session) (needed_by now) table it reply next)
     → DoesAny (λ Claim. tells → Claim old.present session new.present now) (λ Claim. tells → WasOver (moment old) (moment new) new (Claim old.present session)) table reply it next
-    → Did tells new (pause (moment old) session table reads) it reply (pause (moment new) now next reads_now)
-did_now tells old new session now table it reply next reads reads_now few extends goes blocks does told =
+    → Did tells blocks capacity new (pause (moment old) session table reads) it reply (pause (moment new) now next reads_now)
+did_now tells blocks capacity old new session now table it reply next reads reads_now few extends goes many turned does told =
     let longer = extends told in
     let there : image_at new (moment old) ≡ old.present = longer.same (moment old) (omega arith) ∙ image_at-now old (moment old) (omega arith) in
     let behind : image_at new (moment new) ≡ new.present = image_at-now new (moment new) (omega arith) in (
-      record { later = longer.later; within = omega arith; mounted = subst (λ (i : Image). IsMounted i now) (sym behind) (goes told); blocks = blocks; reads = few told },
+      record { later = longer.later; within = omega arith; mounted = subst (λ (i : Image). IsMounted i now) (sym behind) (goes told); blocks = many; reads = few told },
+      subst (λ (i : Image). TurnsTable (sizes blocks (length i.recorded) capacity) (needed_by session) (needed_by now) table it reply next) (sym behind) (turned told),
       does_follows (λ Claim. tells → Claim old.present session new.present now) (λ Claim. tells → WasOver (moment old) (moment new) new (Claim old.present session)) (Across (image_at new (moment old)) session (image_at new (moment new)) now)
           (λ Claim. WasOver (moment old) (moment new) new (Claim (image_at new (moment old)) session)) table next reply it
           (λ Claim does. subst (λ (i : Image). Claim i session (image_at new (moment new)) now) (sym there) (subst (λ (i : Image). Claim old.present session i now) (sym behind) (does told)))
@@ -151,12 +154,13 @@ pub tables_then : (tells : Type 0) (blocks : ℕ) (start : Pause) (between after
     → OnTables tells blocks start after table_now old new (lines ++ more) (replies ++ others) ending
 tables_then tells blocks start between after table_mid table_now old mid new lines more replies others ending later same one more_of =
     let here : Sizes = sizes blocks new.head new.capacity in
-    let DidSo : Pause → Line → Reply → Pause → Type 0 = Did tells new.history in
+    let DidSo : Pause → Line → Reply → Pause → Type 0 = Did tells blocks new.capacity new.history in
     let held : Session = one.going.0 in
     let two = more_of held one.going.1 in
-    let grown : AreTurnsOn (sizes blocks new.head mid.capacity) DidSo start lines replies one.last =
-    turns_later blocks mid.head new.head mid.capacity (Did tells mid.history) DidSo start one.last lines replies later.rises (λ p it reply next did. did_longer tells mid.history new.history p it reply next two.extends did) one.turns in
-    let first : AreTurnsOn here DidSo start lines replies one.last = subst (λ (n : ℕ). AreTurnsOn (sizes blocks new.head n) DidSo start lines replies one.last) (sym later.capacity) grown in
+    let Later : Pause → Line → Reply → Pause → Type 0 = Did tells blocks mid.capacity new.history in
+    let grown : AreTurnsOn (sizes blocks new.head mid.capacity) Later start lines replies one.last =
+    turns_later blocks mid.head new.head mid.capacity (Did tells blocks mid.capacity mid.history) Later start one.last lines replies later.rises (λ p it reply next did. did_longer tells blocks mid.capacity mid.history new.history p it reply next two.extends did) one.turns in
+    let first : AreTurnsOn here DidSo start lines replies one.last = subst (λ (n : ℕ). AreTurnsOn (sizes blocks new.head n) (Did tells blocks n new.history) start lines replies one.last) (sym later.capacity) grown in
     record {
       last = two.last;
       extends = λ told. Extends-trans old.history mid.history new.history (one.extends told) (two.extends told);
@@ -171,7 +175,7 @@ pub tables_longer : (tells : Type 0) (blocks : ℕ) (start : Pause) (after : Opt
 tables_longer tells blocks start after table_now old new lines more replies stop line on = record {
   last = on.last;
   extends = on.extends;
-  turns = turns_longer (sizes blocks new.head new.capacity) (Did tells new.history) start on.last lines more replies on.turns;
+  turns = turns_longer (sizes blocks new.head new.capacity) (Did tells blocks new.capacity new.history) start on.last lines more replies on.turns;
   going = tt;
   reads = λ told. reads_longer new.reads on.last lines more replies (on.reads told);
   stopped = if_stopped_longer (λ (stop : DeviceStop) (it : Line). StopsAny tells new.history.present blocks on.last.table it stop) lines more replies stop line on.stopped;

@@ -1,5 +1,5 @@
 -- Which replies lines have over the table in memory, what a line found, left and kept with the sessions that it began and ended with, how many pages it read, and at which line the device may stop a run, on any pages.
-use Rattle.std.specs.Prelude.{◌≡◌, ◌≤◌, ◌+◌, ◌⊎◌, ℕ, List, [], ◌∷◌, Option, Some, Ok, Err, OnOk}
+use Rattle.std.specs.Prelude.{◌≡◌, ◌≤◌, ◌+◌, ◌⊎◌, ℕ, List, [], ◌∷◌, Option, Some, Ok, Err, OnOk, length}
 use Rattle.platform.specs.History.{Extends, History, image_at, moment}
 use Rattle.device_course.specs.States.{Outside}
 use Rattle.device_session.specs.Open.{blocks_of, needed_by}
@@ -54,9 +54,10 @@ pub record LedTo (history : History) (here : Pause) (it : Line) (reply : Reply) 
   pub reads : next.reads ≤ here.reads + reads_with here.table it reply
 
 -- what a line did, by its reply, where it began and ended: what it found was so of the session that it began with, at the moment at which it began, and what it left, and kept, is so of that and of the session and
--- the moment that it ended with. What a destroy had left before its commit was so at a moment between the two
-abbrev pub Did : Type 0 → History → Pause → Line → Reply → Pause → Type 0
-Did tells history here it reply next = tells → LedTo history here it reply next
+-- the moment that it ended with. What a destroy had left before its commit was so at a moment between the two. Where pages lacked for it, they lacked there
+abbrev pub Did : Type 0 → ℕ → ℕ → History → Pause → Line → Reply → Pause → Type 0
+Did tells blocks capacity history here it reply next = tells → LedTo history here it reply next
+    × TurnsTable (sizes blocks (length (image_at history next.at).recorded) capacity) (needed_by here.session) (needed_by next.session) here.table it reply next.table
     × DoesAny (Across (image_at history here.at) here.session (image_at history next.at) next.session) (λ Claim. WasOver here.at next.at history (Claim (image_at history here.at) here.session)) here.table reply it next.table
 
 -- a reply to a line that began here, and where it ended, of which this is so; a line outside the grammar ends where it began
@@ -77,12 +78,12 @@ IsNow now after table last = (session : Session) × (after ≡ Some session) × 
 abbrev pub ReadsOn : ℕ → Pause → List (List ℕ) → List Reply → Type 0
 ReadsOn reads last lines replies = (reads ≤ last.reads) ⊎ IfNext replies lines (λ line. (it : Line) × Spells line it × (reads ≤ last.reads + reads_for last.table it))
 
--- over a device of so many blocks, from here on, each reply is one that its line may have over the table behind those before it; where pages lacked, they lack at the end; what a line found,
+-- over a device of so many blocks, from here on, each reply is one that its line may have over the table behind those before it; where pages lacked, they lack at the end too; what a line found,
 -- left and kept is so of where it began and ended, and it read no more than it may; and the line at which the device stopped the run is one that is not refused, and that may stop so
 pub record OnTables (tells : Type 0) (blocks : ℕ) (start : Pause) (after : Option Session) (table_now : List Volume) (old new : Outside) (lines : List (List ℕ)) (replies : List Reply) (ending : Ending) : Type 0 where
   pub last : Pause
   pub extends : tells → Extends old.history new.history
-  pub turns : AreTurnsOn (sizes blocks new.head new.capacity) (Did tells new.history) start lines replies last
+  pub turns : AreTurnsOn (sizes blocks new.head new.capacity) (Did tells blocks new.capacity new.history) start lines replies last
   pub going : OnOk ending (IsNow new after table_now last)
   pub reads : tells → ReadsOn new.reads last lines replies
   pub stopped : IfStopped (λ stop it. StopsAny tells new.history.present blocks last.table it stop) lines replies ending

@@ -27,7 +27,7 @@ returns-in-Ok-clause-handled g c text kept =
     let it : Line = asked c.in-Some.line c.read_line.new.buffer in
     let spends = c.in-Ok.ensures.spends in
     let says = served_says g.P.Platform.tells (blocks_of c.args.session) old c.args.session c.in-Ok.done.session c.serve_line.new.desk.table new text it (said c.in-Ok.done.reply c.serve_line.new.desk.buffer) refl (c.in-Some.ensures.found text kept) carries.keeps.keys.extends c.in-Ok.ensures.carries.ready.mounted c.in-Ok.ensures.carries.blocks
-    c.in-Ok.ensures.any spends.drew (still_of g.T.Tape.drawn c.args.tape.now c.serve_line.new.tape (g.P.Platform.head c.args.platform.now) (g.P.Platform.head c.serve_line.new.platform) it spends.undrawn spends.unadded) spends.read in
+    c.in-Ok.ensures.any spends.drew (still_of g.T.Tape.drawn c.args.tape.now c.serve_line.new.tape (g.P.Platform.head c.args.platform.now) (g.P.Platform.head c.serve_line.new.platform) it spends.undrawn spends.unadded) spends.read (λ told. g.met.P.Platform.counts_pages told c.serve_line.new.platform) in
     line_told g.P.Platform.tells (blocks_of c.args.session) old new c.in-Ok.done.session c.serve_line.new.desk.table text (said c.in-Ok.done.reply c.serve_line.new.desk.buffer)
     c.tell-in-Ok.result (g.O.Sink.written c.args.output.now) (g.O.Sink.written c.tell-in-Ok.new.output)
     (record { capacity = carries.capacity; rises = carries.rises; within = g.met.P.Platform.has_room c.serve_line.new.platform })
