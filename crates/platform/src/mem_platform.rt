@@ -176,6 +176,8 @@ impl Platform for MemPlatform {
 
     ghost reads = { answered_of };
 
+    ghost page_reads = { reads_of };
+
     ghost faults = { faults_of };
 
     ghost counts_pages = { λ told platform. refl };

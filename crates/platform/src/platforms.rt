@@ -27,6 +27,9 @@ pub trait Platform {
     /// How many reads were answered, of pages and of the cell.
     ghost reads: { Self → ℕ };
 
+    /// How many of those were of pages.
+    ghost page_reads: { Self → ℕ };
+
     /// How often the platform has failed; it never falls.
     ghost faults: { Self → ℕ };
 
@@ -58,7 +61,7 @@ pub trait Platform {
 
         ensures head { MayRiseByOne (head self.old) (head self.new) }
         ensures capacity { capacity self.new ≡ capacity self.old }
-        ensures reads { tells → reads self.new ≡ reads self.old }
+        ensures reads { tells → (reads self.new ≡ reads self.old) × (page_reads self.new ≡ page_reads self.old) }
         ensures faults { faults self.old ≤ faults self.new }
         ensures cause { Tells result (faults self.old) (faults self.new) };
 
@@ -75,8 +78,8 @@ pub trait Platform {
         ensures head { head self.new ≡ head self.old }
         ensures capacity { capacity self.new ≡ capacity self.old }
         ensures reads_ok { tells → OnOk result (reads self.new ≡ reads self.old + 1) }
-        ensures reads_rise { tells → reads self.old ≤ reads self.new }
-        ensures reads_by_one { tells → reads self.new ≤ reads self.old + 1 }
+        ensures reads { tells → MayRiseByOne (reads self.old) (reads self.new) }
+        ensures page_reads { tells → page_reads self.new + reads self.old ≡ page_reads self.old + reads self.new }
         ensures faults { faults self.old ≤ faults self.new }
         ensures cause { Tells result (faults self.old) (faults self.new) };
 
@@ -91,7 +94,7 @@ pub trait Platform {
 
         ensures head { head self.new ≡ head self.old }
         ensures capacity { capacity self.new ≡ capacity self.old }
-        ensures reads { tells → reads self.new ≡ reads self.old }
+        ensures reads { tells → (reads self.new ≡ reads self.old) × (page_reads self.new ≡ page_reads self.old) }
         ensures faults { faults self.old ≤ faults self.new }
         ensures cause { Tells result (faults self.old) (faults self.new) };
 
@@ -109,7 +112,7 @@ pub trait Platform {
         ensures head { head self.new ≡ head self.old }
         ensures capacity { capacity self.new ≡ capacity self.old }
         ensures reads_ok { tells → OnOk result (reads self.new ≡ reads self.old + 1) }
-        ensures reads { tells → MayRiseByOne (reads self.old) (reads self.new) }
+        ensures reads { tells → MayRiseByOne (reads self.old) (reads self.new) × (page_reads self.new ≡ page_reads self.old) }
         ensures faults { faults self.old ≤ faults self.new }
         ensures cause { Tells result (faults self.old) (faults self.new) };
 
@@ -125,7 +128,7 @@ pub trait Platform {
 
         ensures head { head self.new ≡ head self.old }
         ensures capacity { capacity self.new ≡ capacity self.old }
-        ensures reads { tells → reads self.new ≡ reads self.old }
+        ensures reads { tells → (reads self.new ≡ reads self.old) × (page_reads self.new ≡ page_reads self.old) }
         ensures faults { faults self.old ≤ faults self.new }
         ensures cause { Tells result (faults self.old) (faults self.new) };
 
@@ -139,7 +142,7 @@ pub trait Platform {
 
         ensures head { head self.new ≡ head self.old }
         ensures capacity { capacity self.new ≡ capacity self.old }
-        ensures reads { tells → reads self.new ≡ reads self.old }
+        ensures reads { tells → (reads self.new ≡ reads self.old) × (page_reads self.new ≡ page_reads self.old) }
         ensures faults { faults self.old ≤ faults self.new }
         ensures cause { Tells result (faults self.old) (faults self.new) };
 
