@@ -69,3 +69,14 @@ reads_after other reads = reads
 abbrev pub reads_of : List Event → ℕ
 reads_of [] = 0
 reads_of (e ∷ earlier) = reads_after e.0 (reads_of earlier)
+
+-- one more where a page was read
+abbrev page_reads_after : FileCall → ℕ → ℕ
+page_reads_after CountPages reads = 0
+page_reads_after ReadPage reads = reads + 1
+page_reads_after other reads = reads
+
+-- so many reads of pages were answered
+abbrev pub page_reads_of : List Event → ℕ
+page_reads_of [] = 0
+page_reads_of (e ∷ earlier) = page_reads_after e.0 (page_reads_of earlier)

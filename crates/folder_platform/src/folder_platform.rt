@@ -89,7 +89,7 @@ impl<C: CellCalls + Drop> Platform for FolderPlatform<C> {
     ghost use Rattle.folder_platform.specs.Files.{Files};
     ghost use Rattle.folder_platform.specs.Events.{Event};
     ghost use Rattle.folder_platform.specs.Honest.{IsHonest};
-    ghost use Rattle.folder_platform.specs.Told.{told_by, reads_of};
+    ghost use Rattle.folder_platform.specs.Told.{told_by, reads_of, page_reads_of};
 
     ghost tells = { (files : Files) (events : List Event) → C.PageCalls.occurs files events → IsHonest files events };
 
@@ -100,6 +100,8 @@ impl<C: CellCalls + Drop> Platform for FolderPlatform<C> {
     ghost capacity = { λ platform. 2 ^ 32 };
 
     ghost reads = { λ platform. reads_of (C.PageCalls.events platform.calls) };
+
+    ghost page_reads = { λ platform. page_reads_of (C.PageCalls.events platform.calls) };
 
     ghost faults = { λ platform. platform.faults };
 

@@ -66,7 +66,7 @@ impl<C: LookCalls + Drop> Platform for FolderView<C> {
     ghost use Rattle.folder_platform.specs.Files.{Files};
     ghost use Rattle.folder_platform.specs.Events.{Event};
     ghost use Rattle.folder_platform.specs.Honest.{IsHonest};
-    ghost use Rattle.folder_platform.specs.Told.{told_by, reads_of};
+    ghost use Rattle.folder_platform.specs.Told.{told_by, reads_of, page_reads_of};
 
     ghost tells = { (files : Files) (events : List Event) → C.LookCalls.occurs files events → IsHonest files events };
 
@@ -77,6 +77,8 @@ impl<C: LookCalls + Drop> Platform for FolderView<C> {
     ghost capacity = { λ view. 2 ^ 32 };
 
     ghost reads = { λ view. reads_of (C.LookCalls.events view.calls) };
+
+    ghost page_reads = { λ view. page_reads_of (C.LookCalls.events view.calls) };
 
     ghost faults = { λ view. view.faults };
 
