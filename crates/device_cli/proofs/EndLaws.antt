@@ -25,7 +25,7 @@ use Rattle.device_cli.specs.Program.{ServesScript, Forgets}
 use Rattle.device_cli.specs.Ran.{Ran, AnswersScript, IsComplete}
 use Rattle.line_run.specs.Stops.{Ending, exit_of, HasCause}
 use Rattle.line_run.specs.Puts.{damage_line}
-use Rattle.device_cli.specs.Seizing.{Seizing, Seizes, ReadsFewFor}
+use Rattle.device_cli.specs.Seizing.{Seizing, Seizes, IsRefused, ReadsFewFor}
 use Rattle.device_cli.specs.World.{World, drew_by, first_by, world}
 use Rattle.device_cli.specs.declared.checking.Finding.{Finding}
 use Rattle.line_run.specs.declared.stop.Stop.{Stop}
@@ -86,7 +86,7 @@ serves_at tells status old new session ending alone then_alone untold is ran cau
     }
 
 pub checked_at : {S R I O L : Type 0} (tells : Type 0) (status : ℕ) (old new : Handed S R I O L) (ending : Result Finding Stop) → new.tape ≡ old.tape → new.ledger ≡ old.ledger → new.world.head ≡ old.world.head
-    → (tells → Steps old.world.history new.world.history) → (tells → new.world.history.present ≡ old.world.history.present) → (tells → MayRiseByOne old.world.reads new.world.reads) → status ≡ status_at ending
+    → (tells → Steps old.world.history new.world.history) → (tells → new.world.history.present ≡ old.world.history.present) → (tells → MayRiseByOne old.world.reads new.world.reads × (new.page_reads ≡ old.page_reads)) → status ≡ status_at ending
     → Checks tells old.world.history.present old.left new.left old.written new.written ending → IfErr ending (HasCause old.counts new.counts) → Checked tells status old new
 checked_at tells status old new ending undrawn unput pages steps same reads is checks cause = record {
   undrawn = undrawn;
@@ -112,8 +112,9 @@ pub seizing_at : {S R I O L : Type 0} (tells : Type 0) (records : List (List ℕ
     → new.world.head ≡ old.world.head → (tells → Steps old.world.history new.world.history) → (tells → new.world.history.present ≡ old.world.history.present) → status ≡ exit_of ending
     → Seizes tells old.world.head old.world.history.present records old.written new.written ending
     → (tells → (Rose old.counts.platform new.counts.platform → ⊥) → old.world.reads + 1 ≤ new.world.reads) → (tells → ReadsFewFor old.world.head old.world.history.present records old.world.reads new.world.reads)
+    → (tells → IsRefused old.world.head old.world.history.present records → new.page_reads ≡ old.page_reads)
     → IfErr ending (HasCause old.counts new.counts) → Seizing tells records status old new
-seizing_at tells records status old new ending undrawn untaken unput pages steps same is seizes looked reads cause = record {
+seizing_at tells records status old new ending undrawn untaken unput pages steps same is seizes looked reads unread cause = record {
   undrawn = undrawn;
   untaken = untaken;
   unput = unput;
@@ -124,6 +125,7 @@ seizing_at tells records status old new ending undrawn untaken unput pages steps
   seizes = seizes;
   looked = looked;
   reads = reads;
+  unread = unread;
   bad_root = λ told bad. subst (λ (n : ℕ). (n ≡ 8) ⊎ (n ≡ 4) ⊎ (n ≡ 5)) (sym is) (bad_status tells old.world.head old.world.history.present records old.written new.written ending seizes told bad);
   complete = λ told good quiet. subst (λ (n : ℕ). (n ≡ 0) ⊎ (n ≡ 11)) (sym is)
       (complete_seizure tells old.world.head old.world.history.present records old.counts new.counts old.written new.written ending seizes cause told good quiet);

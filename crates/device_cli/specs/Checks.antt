@@ -126,7 +126,7 @@ pub record Checked {S R I O L : Type 0} (tells : Type 0) (status : ℕ) (old new
   pub unput : new.ledger ≡ old.ledger
   pub pages : new.world.head ≡ old.world.head
   pub image : tells → During old.world.history new.world.history (λ image. image ≡ old.world.history.present)
-  pub reads : tells → MayRiseByOne old.world.reads new.world.reads
+  pub reads : tells → MayRiseByOne old.world.reads new.world.reads × (new.page_reads ≡ old.page_reads)
   pub taken : List ℕ
   pub gave : Gave old.left taken new.left
   pub accepted : status ≡ 0 → (commit live deleted : ℕ) × Finds tells old.world.history.present taken new.left old.written new.written (findings.Accepted commit live deleted)

@@ -7,7 +7,7 @@ use Rattle.platform.specs.declared.platforms.Platform.{Ghosts as PlatformGhosts}
 use Rattle.sdbt_base.specs.Counts.{Counts, counts}
 use Rattle.device_cli.specs.World.{World, world_of}
 
--- the five objects at one moment, and what they tell then: the platform, without a session; the keys that the tape drew; what the input has left; what the output
+-- the five objects at one moment, and what they tell then: the platform, without a session, and how many of its reads were of pages; the keys that the tape drew; what the input has left; what the output
 -- and the ledger have got; and the counts of their faults
 pub record Handed (S R I O L : Type 0) : Type 0 where
   pub platform : S
@@ -16,6 +16,7 @@ pub record Handed (S R I O L : Type 0) : Type 0 where
   pub output : O
   pub ledger : L
   pub world : World
+  pub page_reads : ℕ
   pub drawn : Option (List (List ℕ))
   pub left : Option (List ℕ)
   pub written : Option (List ℕ)
@@ -30,6 +31,7 @@ handed P T I O L platform tape input output ledger = record {
   output = output;
   ledger = ledger;
   world = world_of P None platform;
+  page_reads = P.page_reads platform;
   drawn = T.drawn tape;
   left = I.left input;
   written = O.written output;

@@ -54,7 +54,7 @@ IsReportOf tells head image records seized =
 abbrev pub IsRefused : ℕ → Image → List (List ℕ) → Type 0
 IsRefused head image records = IsBadCell head image.cell ⊎ HasBadRecord head records
 
--- one read was made at most, of the cell or of a page; or the seizure isn't refused, and behind one look at the cell it was looked at once more, and each page read once at most, and
+-- one read was made at most; or the seizure isn't refused, and behind one look at the cell it was looked at once more, and each page read once at most, and
 -- once more for each key by which a chain ends at it, from the key of the root record in the cell and those of the root records that these words are
 abbrev pub ReadsFewFor : ℕ → Image → List (List ℕ) → ℕ → ℕ → Type 0
 ReadsFewFor head image records reads reads_now =
@@ -92,4 +92,6 @@ pub record Seizing {S R I O L : Type 0} (tells : Type 0) (records : List (List �
   -- the cell is looked at, whatever the words are, unless the platform failed
   pub looked : tells → (Rose old.counts.platform new.counts.platform → ⊥) → old.world.reads + 1 ≤ new.world.reads
   pub reads : tells → ReadsFewFor old.world.head old.world.history.present records old.world.reads new.world.reads
+  -- no page is read where the cell or a word is refused
+  pub unread : tells → IsRefused old.world.head old.world.history.present records → new.page_reads ≡ old.page_reads
   pub complete : tells → (IsRefused old.world.head old.world.history.present records → ⊥) → NoneRose old.counts new.counts → (status ≡ 0) ⊎ (status ≡ 11)

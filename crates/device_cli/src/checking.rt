@@ -1,8 +1,8 @@
 //! The word `check`: judges a ledger for the root record in the cell.
 ghost use Rattle.std.specs.Prelude.{◌≡◌, ◌≤◌, OnOk, OnErr};
 ghost use Rattle.sdbt_base.specs.Told.{Got, GotPart};
-ghost use Rattle.platform.specs.Counts.{MayRiseByOne};
 ghost use Rattle.platform.specs.History.{Steps};
+ghost use Rattle.page_store.specs.Reading.{MayLook};
 ghost use Rattle.device_terms.specs.Served.{IsServedImage};
 ghost use Rattle.line_run.specs.Puts.{TellsPut};
 ghost use Rattle.line_run.specs.Stops.{IsBlamedOn};
@@ -67,7 +67,7 @@ pub(crate) fn check<P: Platform, I: Source, O: Sink>(
     ensures time { P.tells → Steps (P.history platform.old) (P.history platform.new) }
     ensures head { P.head platform.new ≡ P.head platform.old }
     ensures capacity { P.capacity platform.new ≡ P.capacity platform.old }
-    ensures reads { P.tells → MayRiseByOne (P.reads platform.old) (P.reads platform.new) }
+    ensures reads { P.tells → MayLook P.Platform platform.old platform.new }
 {
     let finding = find(alloc, platform, input)?;
     put_finding(finding, output)?;
@@ -88,7 +88,7 @@ fn find<P: Platform, I: Source>(
     ensures time { P.tells → Steps (P.history platform.old) (P.history platform.new) }
     ensures head { P.head platform.new ≡ P.head platform.old }
     ensures capacity { P.capacity platform.new ≡ P.capacity platform.old }
-    ensures reads { P.tells → MayRiseByOne (P.reads platform.old) (P.reads platform.new) }
+    ensures reads { P.tells → MayLook P.Platform platform.old platform.new }
 {
     match check_cell(platform) {
         Ok(Some(root)) => judge_for(alloc, &root, input),

@@ -1,8 +1,8 @@
 //! The word `seize`: tells what an adversary would open now.
 ghost use Rattle.std.specs.Prelude.{◌≡◌, ◌≤◌, ◌⊎◌, ◌+◌, IfErr, IfOk, OnOk, IsErrOf, flat_map, length, map, string_bytes};
 ghost use Rattle.sdbt_base.specs.Faults.{Rose, TellsOf};
-ghost use Rattle.platform.specs.Counts.{MayRiseByOne};
 ghost use Rattle.platform.specs.History.{Steps};
+ghost use Rattle.page_store.specs.Reading.{MayLook};
 ghost use Rattle.page_store.specs.Roots.{IsBadCell};
 ghost use Rattle.seizure.specs.Looks.{Looks};
 ghost use Rattle.seizure.specs.Reads.{ReadsFew};
@@ -45,6 +45,8 @@ pub(crate) fn seize_word<P: Platform, O: Sink>(
     ensures looked { P.tells → (Rose (P.faults platform.old) (P.faults platform.new) → ⊥) → P.reads platform.old + 1 ≤ P.reads platform.new }
     ensures reads { P.tells → ReadsFewFor (P.head platform.old) (P.history platform.old).present (map string_bytes records.now)
         (P.reads platform.old) (P.reads platform.new) }
+    ensures unread { P.tells → IsRefused (P.head platform.old) (P.history platform.old).present (map string_bytes records.now)
+        → P.page_reads platform.new ≡ P.page_reads platform.old }
 {
     match find(alloc, records, platform) {
         Ok(report) => put_report(&report, output),
@@ -71,6 +73,8 @@ fn find<P: Platform>(
     ensures looked { P.tells → (IsErrOf result DeviceStop.Platform → ⊥) → P.reads platform.old + 1 ≤ P.reads platform.new }
     ensures reads { P.tells → ReadsFewFor (P.head platform.old) (P.history platform.old).present (map string_bytes records.now)
         (P.reads platform.old) (P.reads platform.new) }
+    ensures unread { P.tells → IsRefused (P.head platform.old) (P.history platform.old).present (map string_bytes records.now)
+        → P.page_reads platform.new ≡ P.page_reads platform.old }
 {
     check_root(platform)?;
     match keys_given(records, platform.head()) {
@@ -124,7 +128,7 @@ fn check_root<P: Platform>(platform: &mut P) -> Result<(), DeviceStop>
     ensures stops { IfErr result (λ stop. (stop ≡ DeviceStop.BadRoot) ⊎ (stop ≡ DeviceStop.Platform)) }
     ensures cause { TellsOf DeviceStop.Platform result (P.faults platform.old) (P.faults platform.new) }
     ensures looks { Looks P.Platform platform.old platform.new }
-    ensures reads { P.tells → MayRiseByOne (P.reads platform.old) (P.reads platform.new) }
+    ensures reads { P.tells → MayLook P.Platform platform.old platform.new }
     ensures looked { P.tells → (IsErrOf result DeviceStop.Platform → ⊥) → P.reads platform.new ≡ P.reads platform.old + 1 }
 {
     match current(platform) {

@@ -6,12 +6,12 @@ use Rattle.sdbt_base.specs.Counts.{Counts, PlatformRose, TapeRose, LedgerRose}
 use Rattle.sdbt_base.specs.Keys.{IsKeyOf}
 use Rattle.sdbt_base.specs.declared.tapes.Tape.{Ghosts as TapeGhosts}
 use Rattle.platform.specs.declared.platforms.Platform.{Ghosts as PlatformGhosts}
-use Rattle.platform.specs.Counts.{MayRiseByOne}
 use Rattle.platform.specs.Image.{Image}
 use Rattle.platform.specs.History.{History, CellStays}
 use Rattle.root_codec.specs.declared.root.Root.{Root}
 use Rattle.root_codec.specs.RootRecord.{FitsRoot, root_bytes}
 use Rattle.page_store.specs.Places.{root_want}
+use Rattle.page_store.specs.Reading.{MayLook}
 use Rattle.page_store.specs.Roots.{IsRootWithin, IsBadCell}
 use Rattle.page_store.specs.Stands.{Stands, StandsBy}
 use Rattle.page_store.specs.Tree.{Parts, Tree, Wrong}
@@ -97,7 +97,7 @@ ReadsCut pages root reads reads_now =
 -- the cell was looked at, once at most, and no page read; or behind one look at it an upgrade of its root record began, and read so of its tree
 abbrev pub ReadsFew : {S : Type 0} → PlatformGhosts S → S → S → Type 0
 ReadsFew P platform platform_now =
-    (P.tells → MayRiseByOne (P.reads platform) (P.reads platform_now))
+    (P.tells → MayLook P platform platform_now)
     ⊎ ((root : Root) × Begins P.tells (P.history platform).present (P.head platform) (P.capacity platform) root
     × (P.tells → ReadsCut (P.history platform).present.readable root (P.reads platform + 1) (P.reads platform_now)))
 

@@ -1,10 +1,10 @@
 ghost use Rattle.std.specs.Prelude.{◌≡◌, ◌≤◌, ℕ, List, Option, None};
-ghost use Rattle.platform.specs.Counts.{MayRiseByOne};
 ghost use Rattle.platform.specs.Image.{IsEither, LeavesOnly, with_cell};
 ghost use Rattle.platform.specs.History.{During, Steps, Turns};
 ghost use Rattle.sdbt_base.specs.Arrays.{Device};
 ghost use Rattle.page_store.specs.Stands.{Stands};
 ghost use Rattle.page_store.specs.Kept.{Kept};
+ghost use Rattle.page_store.specs.Reading.{MayLook};
 ghost use Rattle.page_store.specs.Stands.{IsSound};
 ghost use Rattle.page_store.specs.Floors.{Forgets};
 ghost use Rattle.device_terms.specs.Served.{IsServedImage};
@@ -38,7 +38,7 @@ pub fn erase<P: Platform>(platform: &mut P) -> Result<(), EraseRefusal>
     ensures pages { (P.head platform.new ≡ P.head platform.old) × (P.capacity platform.new ≡ P.capacity platform.old)
         × (P.faults platform.old ≤ P.faults platform.new) }
     // The cell is looked at once at most, and no page is read.
-    ensures reads { P.tells → MayRiseByOne (P.reads platform.old) (P.reads platform.new) }
+    ensures reads { P.tells → MayLook P.Platform platform.old platform.new }
 {
     let mut cell = [0; ROOT];
     match platform.load_root(&mut cell) {
@@ -75,7 +75,7 @@ pub fn clear<P: Platform>(platform: &mut P) -> Result<(), PlatformFault>
 
     ensures pages { (P.head platform.new ≡ P.head platform.old) × (P.capacity platform.new ≡ P.capacity platform.old)
         × (P.faults platform.old ≤ P.faults platform.new) }
-    ensures reads { P.tells → P.reads platform.new ≡ P.reads platform.old }
+    ensures reads { P.tells → (P.reads platform.new ≡ P.reads platform.old) × (P.page_reads platform.new ≡ P.page_reads platform.old) }
 {
     platform.clear_root()
 }

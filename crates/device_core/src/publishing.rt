@@ -45,7 +45,7 @@ pub(crate) fn publish<P: Platform, L: Sink>(
     ensures synced { PutsSynced P.Platform 0 platform.old platform.new ledger.old ledger.new }
     ensures head { P.head platform.new ≡ P.head platform.old }
     ensures capacity { P.capacity platform.new ≡ P.capacity platform.old }
-    ensures reads { P.tells → P.reads platform.new ≡ P.reads platform.old }
+    ensures reads { P.tells → (P.reads platform.new ≡ P.reads platform.old) × (P.page_reads platform.new ≡ P.page_reads platform.old) }
     ensures faults { P.faults platform.old ≤ P.faults platform.new }
     ensures ledger_faults { L.faults ledger.old ≤ L.faults ledger.new }
     ensures cause { IsPublishCause (P.tells → CellStays (P.history platform.old) (P.history platform.new))

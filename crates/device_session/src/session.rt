@@ -1,7 +1,7 @@
 ghost use Rattle.std.specs.Prelude.{◌≡◌, ◌≤◌, ◌+◌, [], IfOk, IfErr, IsErrOf};
 ghost use Rattle.sdbt_base.specs.Faults.{TellsOf};
 ghost use Rattle.platform.specs.Calls.{Looks};
-ghost use Rattle.platform.specs.Counts.{MayRiseByOne};
+ghost use Rattle.page_store.specs.Reading.{MayLook};
 ghost use Rattle.btree_walk.specs.Readers.{IsWiped};
 ghost use Rattle.btree_twigs.specs.Wiped.{blank};
 ghost use Rattle.device_session.specs.Causes.{IsMountCause};
@@ -70,7 +70,7 @@ impl Session {
         ensures mounts { IfOk result (Mounts P.Platform cache platform.old platform.new) }
         ensures refused { P.tells → IfErr result (λ refusal. IsMountCause (P.history platform.old).present.cell (P.head platform.old) refusal) }
         ensures looks { Looks P.Platform platform.old platform.new }
-        ensures reads { P.tells → MayRiseByOne (P.reads platform.old) (P.reads platform.new) }
+        ensures reads { P.tells → MayLook P.Platform platform.old platform.new }
         ensures looked { P.tells → (IsErrOf result MountRefusal.PlatformFault → ⊥) → P.reads platform.new ≡ P.reads platform.old + 1 }
         ensures cause { TellsOf MountRefusal.PlatformFault result (P.faults platform.old) (P.faults platform.new) }
     {

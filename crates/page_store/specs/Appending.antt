@@ -35,4 +35,5 @@ pub record AddsOne {S R : Type 0} (P : PlatformGhosts S) (T : TapeGhosts R) (pla
   pub time : P.tells → Steps (P.history platform) (P.history platform_now)
   pub grows : Grows P platform platform_now
   pub reads : P.tells → P.reads platform_now ≡ P.reads platform
+  pub page_reads : P.tells → P.page_reads platform_now ≡ P.page_reads platform
   pub tape_faults : T.faults tape ≤ T.faults tape_now

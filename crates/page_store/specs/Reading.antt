@@ -14,6 +14,10 @@ pub record ReadsPage {S : Type 0} (P : Ghosts S) (old new : S) : Type 0 where
   pub reads_by_one : P.tells → P.reads new ≤ P.reads old + 1
   pub faults : P.faults old ≤ P.faults new
 
+-- the cell was looked at once at most, and no page read
+abbrev pub MayLook : {S : Type 0} → Ghosts S → S → S → Type 0
+MayLook P old new = MayRiseByOne (P.reads old) (P.reads new) × (P.page_reads new ≡ P.page_reads old)
+
 -- a call that looks at the cell alone, and once at most: the image stays, and no page is read or added
 pub record ReadsCell {S : Type 0} (P : Ghosts S) (old new : S) : Type 0 where
   pub image : P.tells → (P.history new).present ≡ (P.history old).present
@@ -21,4 +25,5 @@ pub record ReadsCell {S : Type 0} (P : Ghosts S) (old new : S) : Type 0 where
   pub head : P.head new ≡ P.head old
   pub capacity : P.capacity new ≡ P.capacity old
   pub reads : P.tells → MayRiseByOne (P.reads old) (P.reads new)
+  pub page_reads : P.tells → P.page_reads new ≡ P.page_reads old
   pub faults : P.faults old ≤ P.faults new

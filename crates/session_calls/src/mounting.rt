@@ -1,7 +1,7 @@
 ghost use Rattle.std.specs.Prelude.{◌≡◌, ◌≤◌, ◌+◌, ℕ, List, Option, None, IfErr, IfOk, IsErrOf, IsOk};
 ghost use Rattle.sdbt_base.specs.Arrays.{State};
 ghost use Rattle.platform.specs.Calls.{Looks};
-ghost use Rattle.platform.specs.Counts.{MayRiseByOne};
+ghost use Rattle.page_store.specs.Reading.{MayLook};
 ghost use Rattle.device_course.specs.Keys.{KeepsOn};
 ghost use Rattle.device_course.specs.States.{IsAt, IsListed};
 ghost use Rattle.sdbt_base.specs.Counts.{counts};
@@ -29,7 +29,7 @@ pub fn mount_session<P: Platform>(
         (P.history platform.old) (P.history platform.new) (IsOk result) (λ keys. IfOk result (λ found. IsListed found (P.history platform.new).present keys)) }
     ensures blame { IsBlamed (counts (P.faults platform.old) 0 0 0 0) (counts (P.faults platform.new) 0 0 0 0) result }
     ensures looks { Looks P.Platform platform.old platform.new }
-    ensures reads { P.tells → MayRiseByOne (P.reads platform.old) (P.reads platform.new) }
+    ensures reads { P.tells → MayLook P.Platform platform.old platform.new }
     ensures looked { P.tells → (IsErrOf result DeviceStop.Platform → ⊥) → P.reads platform.new ≡ P.reads platform.old + 1 }
 {
     match Session::mount(alloc, platform, nodes) {

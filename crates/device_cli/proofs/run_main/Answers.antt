@@ -312,8 +312,10 @@ returns-in-Ok-seize_word-clause-seizes g c words =
     let seizes = subst (λ (records : List (List ℕ)). Seizes g.P.Platform.tells old.world.head old.world.history.present records old.written new.written ending) c.records_of.ensures c.in-Ok-seize_word.ensures.seizes in
     let reads : g.P.Platform.tells → ReadsFewFor old.world.head old.world.history.present records old.world.reads new.world.reads =
     subst (λ (records : List (List ℕ)). g.P.Platform.tells → ReadsFewFor old.world.head old.world.history.present records old.world.reads new.world.reads) c.records_of.ensures c.seize_word.ensures.reads in
+    let unread : g.P.Platform.tells → IsRefused old.world.head old.world.history.present records → new.page_reads ≡ old.page_reads =
+    subst (λ (records : List (List ℕ)). g.P.Platform.tells → IsRefused old.world.head old.world.history.present records → new.page_reads ≡ old.page_reads) c.records_of.ensures c.seize_word.ensures.unread in
     let part : ArePart _ _ old.counts new.counts = record { platform = inr (refl, refl); tape = inl (refl, refl, refl); input = inl (refl, refl, refl); output = inr (refl, refl); ledger = inl (refl, refl, refl) } in
-    seizing_at g.P.Platform.tells records _ old new ending refl refl refl c.seize_word.ensures.head c.seize_word.ensures.time c.seize_word.ensures.image refl seizes c.seize_word.ensures.looked reads
+    seizing_at g.P.Platform.tells records _ old new ending refl refl refl c.seize_word.ensures.head c.seize_word.ensures.time c.seize_word.ensures.image refl seizes c.seize_word.ensures.looked reads unread
     (cause_wide _ _ old.counts new.counts ending part c.in-Ok-seize_word.ensures.blame.cause)
 
 pub returns-in-Err-seize_word-clause-seizes : goal.returns-in-Err-seize_word-clause-seizes
@@ -325,8 +327,10 @@ returns-in-Err-seize_word-clause-seizes g c words =
     let seizes = subst (λ (records : List (List ℕ)). Seizes g.P.Platform.tells old.world.head old.world.history.present records old.written new.written ending) c.records_of.ensures c.in-Err-seize_word.ensures.seizes in
     let reads : g.P.Platform.tells → ReadsFewFor old.world.head old.world.history.present records old.world.reads new.world.reads =
     subst (λ (records : List (List ℕ)). g.P.Platform.tells → ReadsFewFor old.world.head old.world.history.present records old.world.reads new.world.reads) c.records_of.ensures c.seize_word.ensures.reads in
+    let unread : g.P.Platform.tells → IsRefused old.world.head old.world.history.present records → new.page_reads ≡ old.page_reads =
+    subst (λ (records : List (List ℕ)). g.P.Platform.tells → IsRefused old.world.head old.world.history.present records → new.page_reads ≡ old.page_reads) c.records_of.ensures c.seize_word.ensures.unread in
     let part : ArePart _ _ old.counts new.counts = record { platform = inr (refl, refl); tape = inl (refl, refl, refl); input = inl (refl, refl, refl); output = inr (refl, refl); ledger = inl (refl, refl, refl) } in
-    seizing_at g.P.Platform.tells records _ old new ending refl refl refl c.seize_word.ensures.head c.seize_word.ensures.time c.seize_word.ensures.image c.status-in-Err-seize_word.ensures seizes c.seize_word.ensures.looked reads
+    seizing_at g.P.Platform.tells records _ old new ending refl refl refl c.seize_word.ensures.head c.seize_word.ensures.time c.seize_word.ensures.image c.status-in-Err-seize_word.ensures seizes c.seize_word.ensures.looked reads unread
     (cause_wide _ _ old.counts new.counts ending part c.in-Err-seize_word.ensures.blame.cause)
 
 pub returns-in-Err-seize_word-clause-refuses : goal.returns-in-Err-seize_word-clause-refuses

@@ -25,3 +25,13 @@ returns-in-Some-clause-reads g c = λ told.
     (P.reads c.args.platform.now) (P.reads c.check_root.new.platform) (P.reads c.open_all.new.platform)
     c.check_root.ensures.looks.head (c.check_root.ensures.looks.image told) c.as_slice.ensures.value (c.in_ok-check_root.ensures.looked told (λ e. cc))
     (not_refused head image records keys (c.in_ok-check_root.ensures.good told) given) given (c.open_all.ensures.reads told))
+
+-- where they are root records the seizure isn't refused
+pub returns-in-Some-clause-unread : goal.returns-in-Some-clause-unread
+returns-in-Some-clause-unread g c told refused =
+    let P = g.P.Platform in
+    let head = P.head c.args.platform.now in
+    let records : List (List ℕ) = map string_bytes c.args.records.now in
+    let there : c.head.result ≡ head = c.head.ensures.value ∙ c.check_root.ensures.looks.head in
+    absurd (not_refused head (P.history c.args.platform.now).present records c.in-Some.keys.items (c.in_ok-check_root.ensures.good told)
+    (subst (λ (pages : ℕ). AreGiven pages records c.in-Some.keys.items) there c.in-Some.ensures.found) refused)

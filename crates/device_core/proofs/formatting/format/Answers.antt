@@ -135,8 +135,11 @@ pub returns-in-Ok-publish-clause-spends : goal.returns-in-Ok-publish-clause-spen
 returns-in-Ok-publish-clause-spends g c = (
   λ told.
       let once = c.load_root.ensures.reads told in
-      let same = c.publish.ensures.reads told ∙ c.append.ensures.adds.reads told in
-      record { rises = omega (arith, same, once.rises); by_one = omega (arith, same, once.by_one) },
+      let published = c.publish.ensures.reads told in
+      let same = published.0 ∙ c.append.ensures.adds.reads told in (
+        record { rises = omega (arith, same, once.0.rises); by_one = omega (arith, same, once.0.by_one) },
+        published.1 ∙ c.append.ensures.adds.page_reads told ∙ once.1,
+      ),
   (bare c.in-Ok-append.placed.key, c.in-Ok-append.ensures.placed.drew),
 )
 

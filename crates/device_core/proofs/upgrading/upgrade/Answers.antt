@@ -238,7 +238,7 @@ prepare-requires-clause-room g c =
 pub returns-in_err-root-clause-spends : goal.returns-in_err-root-clause-spends
 returns-in_err-root-clause-spends g c =
     let p = err_from_is_err_and c.from_residual.result c.from_residual.ensures.1 in
-    inl (refl, never_ok c.from_residual.result p.0 p.1, inl c.begin.ensures.reads_cell.reads)
+    inl (refl, never_ok c.from_residual.result p.0 p.1, inl (λ told. (c.begin.ensures.reads_cell.reads told, c.begin.ensures.reads_cell.page_reads told)))
 
 pub returns-in_err-prepared-clause-spends : goal.returns-in_err-prepared-clause-spends
 returns-in_err-prepared-clause-spends g c =
@@ -286,7 +286,7 @@ spent_all g c = record {
       let cell = c.begin.ensures.reads_cell in
       let twice = c.in_ok-prepared.ensures.reads told in
       let are = subst (λ (i : Image). NodesOf i.readable root twice.nodes) (cell.image told) twice.are in
-      (twice.nodes, are, omega (arith, c.in_ok-root.ensures.once told, twice.read, c.rewrite.ensures.beside.reads_most told, c.publish.ensures.reads told));
+      (twice.nodes, are, omega (arith, c.in_ok-root.ensures.once told, twice.read, c.rewrite.ensures.beside.reads_most told, (c.publish.ensures.reads told).0));
 }
 
 pub returns-in_err-publish-clause-spends : goal.returns-in_err-publish-clause-spends

@@ -161,23 +161,23 @@ returns-in-Err-clause-there g c told is = format_not_root c.in-Err.refusal c.hal
 
 pub returns-in-Ok-Some-clause-looks : goal.returns-in-Ok-Some-clause-looks
 returns-in-Ok-Some-clause-looks g c told =
-    let one = (c.format.ensures.spends.0 told).by_one in
-    let other = (c.mount_session.ensures.reads told).by_one in
+    let one = (c.format.ensures.spends.0 told).0.by_one in
+    let other = (c.mount_session.ensures.reads told).0.by_one in
     omega (arith, one, other)
 
 pub returns-in-Ok-None-clause-looks : goal.returns-in-Ok-None-clause-looks
 returns-in-Ok-None-clause-looks g c told =
-    let one = (c.format.ensures.spends.0 told).by_one in
-    let other = (c.mount_session.ensures.reads told).by_one in
+    let one = (c.format.ensures.spends.0 told).0.by_one in
+    let other = (c.mount_session.ensures.reads told).0.by_one in
     omega (arith, one, other)
 
 pub returns-in-Err-mount_session-clause-looks : goal.returns-in-Err-mount_session-clause-looks
 returns-in-Err-mount_session-clause-looks g c told =
-    let one = (c.format.ensures.spends.0 told).by_one in
-    let other = (c.mount_session.ensures.reads told).by_one in
+    let one = (c.format.ensures.spends.0 told).0.by_one in
+    let other = (c.mount_session.ensures.reads told).0.by_one in
     omega (arith, one, other)
 
 pub returns-in-Err-clause-looks : goal.returns-in-Err-clause-looks
 returns-in-Err-clause-looks g c told =
-    let one = (c.format.ensures.spends.0 told).by_one in
+    let one = (c.format.ensures.spends.0 told).0.by_one in
     omega (arith, one)

@@ -96,12 +96,12 @@ returns-in-Err-clause-there g c = there_stop _ _ _ c.in-Err.stop (λ told. g.met
 
 pub returns-in-Ok-Some-clause-looks : goal.returns-in-Ok-Some-clause-looks
 returns-in-Ok-Some-clause-looks g c told =
-    let once = (c.mount_session.ensures.reads told).by_one in
+    let once = (c.mount_session.ensures.reads told).0.by_one in
     (omega (arith, once), λ full. once)
 
 pub returns-in-Ok-None-clause-looks : goal.returns-in-Ok-None-clause-looks
 returns-in-Ok-None-clause-looks g c told =
-    let once = (c.mount_session.ensures.reads told).by_one in
+    let once = (c.mount_session.ensures.reads told).0.by_one in
     let twice = c.make_target.ensures.looks told in (
       omega (arith, once, twice),
       λ full. absurd (full (found_none g.Q.Platform c.args.to.now c.mount_session.new.platform c.mount_session.result (c.in-Ok-None.is ∙ ap Ok c.in-Ok-None.field-0-is) c.mount_session.ensures.finds told)),
@@ -109,5 +109,5 @@ returns-in-Ok-None-clause-looks g c told =
 
 pub returns-in-Err-clause-looks : goal.returns-in-Err-clause-looks
 returns-in-Err-clause-looks g c told =
-    let once = (c.mount_session.ensures.reads told).by_one in
+    let once = (c.mount_session.ensures.reads told).0.by_one in
     (omega (arith, once), λ full. once)

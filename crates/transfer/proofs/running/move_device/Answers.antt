@@ -108,10 +108,10 @@ returns-in-Ok-Some-clause-mapped g c =
     mapped_found g.P.Platform c.args.from.now c.mount_session.new.platform c.in-Ok-Some.source c.mount_session.result c.move_session.result (c.in-Ok-Some.is ∙ ap Ok c.in-Ok-Some.field-0-is) c.mount_session.ensures.finds c.move_session.ensures.mapped
 
 pub returns-in-Ok-None-clause-there : goal.returns-in-Ok-None-clause-there
-returns-in-Ok-None-clause-there g c = (there_no_device _ _, few_stopped g.P.Platform g.Q.Platform c.args.from.now c.mount_session.new.platform c.args.to.now (λ told. (c.mount_session.ensures.reads told).by_one))
+returns-in-Ok-None-clause-there g c = (there_no_device _ _, few_stopped g.P.Platform g.Q.Platform c.args.from.now c.mount_session.new.platform c.args.to.now (λ told. (c.mount_session.ensures.reads told).0.by_one))
 
 pub returns-in-Err-clause-there : goal.returns-in-Err-clause-there
-returns-in-Err-clause-there g c = (there_before _ _ c.in-Err.stop, few_stopped g.P.Platform g.Q.Platform c.args.from.now c.mount_session.new.platform c.args.to.now (λ told. (c.mount_session.ensures.reads told).by_one))
+returns-in-Err-clause-there g c = (there_before _ _ c.in-Err.stop, few_stopped g.P.Platform g.Q.Platform c.args.from.now c.mount_session.new.platform c.args.to.now (λ told. (c.mount_session.ensures.reads told).0.by_one))
 
 pub returns-in-Ok-Some-clause-refused : goal.returns-in-Ok-Some-clause-refused
 returns-in-Ok-Some-clause-refused g c = refusing_behind _ _ _ _ _ _ c.move_session.result c.mount_session.ensures.looks.image c.move_session.ensures.refused
@@ -136,5 +136,5 @@ returns-in-Err-clause-whole g c = whole_looked g.Q.Platform.tells g.P.Platform c
 pub returns-in-Ok-Some-clause-there : goal.returns-in-Ok-Some-clause-there
 returns-in-Ok-Some-clause-there g c = (
   c.move_session.ensures.there.0,
-  few_behind g.P.Platform g.Q.Platform c.args.from.now c.mount_session.new.platform c.move_session.new.from c.args.to.now c.move_session.new.to c.mount_session.ensures.looks (λ told. (c.mount_session.ensures.reads told).by_one) c.move_session.ensures.there.1,
+  few_behind g.P.Platform g.Q.Platform c.args.from.now c.mount_session.new.platform c.move_session.new.from c.args.to.now c.move_session.new.to c.mount_session.ensures.looks (λ told. (c.mount_session.ensures.reads told).0.by_one) c.move_session.ensures.there.1,
 )

@@ -71,10 +71,10 @@ pub returns-in_err-number-clause-there : goal.returns-in_err-number-clause-there
 returns-in_err-number-clause-there g c = (rw (halted c.from_residual.result c.in_err-number.field-0.0 c.from_residual.ensures.1) (there_as _ _ c.in_err-number.field-0.0 c.in_err-number.ensures.there), c.fill.ensures.reads)
 
 pub returns-in-Ok-clause-there : goal.returns-in-Ok-clause-there
-returns-in-Ok-clause-there g c = (there_behind _ _ _ _ c.in_ok-number.ensures.there tt, few_cleared g.P.Platform g.Q.Platform 0 c.args.from.now c.fill.new.from c.clear.new.platform c.args.to.now c.fill.new.to c.clear.ensures.reads c.fill.ensures.reads)
+returns-in-Ok-clause-there g c = (there_behind _ _ _ _ c.in_ok-number.ensures.there tt, few_cleared g.P.Platform g.Q.Platform 0 c.args.from.now c.fill.new.from c.clear.new.platform c.args.to.now c.fill.new.to (λ told. (c.clear.ensures.reads told).0) c.fill.ensures.reads)
 
 pub returns-clause-there : goal.returns-clause-there
-returns-clause-there g c = (there_behind _ _ _ _ c.in_ok-number.ensures.there tt, few_cleared g.P.Platform g.Q.Platform 0 c.args.from.now c.fill.new.from c.clear.new.platform c.args.to.now c.fill.new.to c.clear.ensures.reads c.fill.ensures.reads)
+returns-clause-there g c = (there_behind _ _ _ _ c.in_ok-number.ensures.there tt, few_cleared g.P.Platform g.Q.Platform 0 c.args.from.now c.fill.new.from c.clear.new.platform c.args.to.now c.fill.new.to (λ told. (c.clear.ensures.reads told).0) c.fill.ensures.reads)
 
 pub returns-in_err-number-clause-refused : goal.returns-in_err-number-clause-refused
 returns-in_err-number-clause-refused g c = rw (halted c.from_residual.result c.in_err-number.field-0.0 c.from_residual.ensures.1) (refusing_as _ _ _ _ _ c.in_err-number.field-0.0 c.in_err-number.ensures.refused)

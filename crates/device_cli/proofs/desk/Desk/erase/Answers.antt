@@ -51,10 +51,10 @@ returns-in-Err-NoDevice-clause-any g c = ((tt, λ told. ((rw c.in-Err-NoDevice.f
 
 pub returns-in-Ok-clause-looks : goal.returns-in-Ok-clause-looks
 returns-in-Ok-clause-looks g c told before warm look =
-    ((c.erase.ensures.reads told).by_one, λ done. subst (λ (session : Option Session). IsWarmFor session None) (sym c.close.ensures.session) tt)
+    ((c.erase.ensures.reads told).0.by_one, λ done. subst (λ (session : Option Session). IsWarmFor session None) (sym c.close.ensures.session) tt)
 
 pub returns-in-Err-NoDevice-clause-looks : goal.returns-in-Err-NoDevice-clause-looks
-returns-in-Err-NoDevice-clause-looks g c told before warm look = ((c.erase.ensures.reads told).by_one, λ done. warm_less c.args.self.now.session before warm)
+returns-in-Err-NoDevice-clause-looks g c told before warm look = ((c.erase.ensures.reads told).0.by_one, λ done. warm_less c.args.self.now.session before warm)
 
 pub returns-in-Err-PlatformFault-clause-looks : goal.returns-in-Err-PlatformFault-clause-looks
-returns-in-Err-PlatformFault-clause-looks g c told before warm look = ((c.erase.ensures.reads told).by_one, λ done. absurd cc)
+returns-in-Err-PlatformFault-clause-looks g c told before warm look = ((c.erase.ensures.reads told).0.by_one, λ done. absurd cc)

@@ -213,25 +213,25 @@ returns-then-not-is_in_limits-clause-drew g c = refused_drew (g.T.Tape.drawn c.a
 
 pub returns-then-not-is_in_limits-clause-looks : goal.returns-then-not-is_in_limits-clause-looks
 returns-then-not-is_in_limits-clause-looks g c told before warm look =
-    (format_told c.args.blocks c.args.order before c.refuse_format.result c.args.self.now.buffer _ _ (c.refuse_format.ensures.reads told).by_one, λ done. warm_less c.args.self.now.session before warm)
+    (format_told c.args.blocks c.args.order before c.refuse_format.result c.args.self.now.buffer _ _ (c.refuse_format.ensures.reads told).0.by_one, λ done. warm_less c.args.self.now.session before warm)
 
 pub returns-in-Ok-clause-looks : goal.returns-in-Ok-clause-looks
-returns-in-Ok-clause-looks g c told before warm look = ((c.format.ensures.spends.0 told).by_one, λ done. warm_less c.args.self.now.session before warm)
+returns-in-Ok-clause-looks g c told before warm look = ((c.format.ensures.spends.0 told).0.by_one, λ done. warm_less c.args.self.now.session before warm)
 
 pub returns-in-Err-NotEmpty-clause-looks : goal.returns-in-Err-NotEmpty-clause-looks
-returns-in-Err-NotEmpty-clause-looks g c told before warm look = ((c.format.ensures.spends.0 told).by_one, λ done. warm_less c.args.self.now.session before warm)
+returns-in-Err-NotEmpty-clause-looks g c told before warm look = ((c.format.ensures.spends.0 told).0.by_one, λ done. warm_less c.args.self.now.session before warm)
 
 pub returns-in-Err-Full-clause-looks : goal.returns-in-Err-Full-clause-looks
-returns-in-Err-Full-clause-looks g c told before warm look = ((c.format.ensures.spends.0 told).by_one, λ done. warm_less c.args.self.now.session before warm)
+returns-in-Err-Full-clause-looks g c told before warm look = ((c.format.ensures.spends.0 told).0.by_one, λ done. warm_less c.args.self.now.session before warm)
 
 pub returns-in-Err-Memory-clause-looks : goal.returns-in-Err-Memory-clause-looks
-returns-in-Err-Memory-clause-looks g c told before warm look = ((c.format.ensures.spends.0 told).by_one, λ done. absurd cc)
+returns-in-Err-Memory-clause-looks g c told before warm look = ((c.format.ensures.spends.0 told).0.by_one, λ done. absurd cc)
 
 pub returns-in-Err-TapeFault-clause-looks : goal.returns-in-Err-TapeFault-clause-looks
-returns-in-Err-TapeFault-clause-looks g c told before warm look = ((c.format.ensures.spends.0 told).by_one, λ done. absurd cc)
+returns-in-Err-TapeFault-clause-looks g c told before warm look = ((c.format.ensures.spends.0 told).0.by_one, λ done. absurd cc)
 
 pub returns-in-Err-LedgerFault-clause-looks : goal.returns-in-Err-LedgerFault-clause-looks
-returns-in-Err-LedgerFault-clause-looks g c told before warm look = ((c.format.ensures.spends.0 told).by_one, λ done. absurd cc)
+returns-in-Err-LedgerFault-clause-looks g c told before warm look = ((c.format.ensures.spends.0 told).0.by_one, λ done. absurd cc)
 
 pub returns-in-Err-PlatformFault-clause-looks : goal.returns-in-Err-PlatformFault-clause-looks
-returns-in-Err-PlatformFault-clause-looks g c told before warm look = ((c.format.ensures.spends.0 told).by_one, λ done. absurd cc)
+returns-in-Err-PlatformFault-clause-looks g c told before warm look = ((c.format.ensures.spends.0 told).0.by_one, λ done. absurd cc)
