@@ -17,7 +17,7 @@ use Rattle.script_lang.specs.Commands.{Command}
 use Rattle.script_lang.specs.Commands as commands
 use Rattle.script_lang.specs.Replies.{Reply}
 use Rattle.script_lang.specs.Replies as given
-use Rattle.session_calls.specs.Damage.{IsMiscountedAt, IsMounted, IsWrongNode, IsWrongPage, IsWrongPlace}
+use Rattle.session_calls.specs.Damage.{IsMounted, IsWrongPage, IsWrongPlace, IsWrongStep}
 use Rattle.session_calls.specs.declared.stops.DeviceStop.{DeviceStop}
 use Rattle.session_calls.specs.declared.stops.DeviceStop.TheVariants as device
 use Rattle.device_cli.specs.Seen.{IsCounted}
@@ -51,8 +51,8 @@ JudgesRoot _ = ⊥
 -- a data record; or all but a read to the root node of a tree that is miscounted
 abbrev pub MeetsRecord : Type 0 → Image → Command → ℕ → Type 0
 MeetsRecord tells image (commands.Read block) addr = tells → IsWrongPlace image addr
-MeetsRecord tells image (commands.Write block content) addr = tells → IsWrongNode image addr ⊎ IsMiscountedAt image addr
-MeetsRecord tells image (commands.Trim block) addr = tells → IsWrongNode image addr ⊎ IsMiscountedAt image addr
+MeetsRecord tells image (commands.Write block content) addr = tells → IsWrongStep image addr
+MeetsRecord tells image (commands.Trim block) addr = tells → IsWrongStep image addr
 MeetsRecord tells image commands.Upgrade addr = tells → IsWrongPage image addr
 MeetsRecord tells image _ addr = ⊥
 

@@ -7,11 +7,11 @@ use Rattle.byte_arrays.specs.Ranges.{IsCovered}
 use Rattle.platform.specs.Image.{Image}
 use Rattle.device_session.specs.Sessions.{Session}
 use Rattle.nbd_lang.specs.declared.requests.RequestKind.TheVariants as kinds
-use Rattle.session_calls.specs.Damage.{IsWrongPlace, ReadsAny, TrimsAny, WritesAny}
+use Rattle.session_calls.specs.Damage.{IsWrongPlace, IsWrongStep, ReadsAny, TrimsAny, WritesAny}
 use Rattle.session_calls.specs.declared.stops.DeviceStop.{DeviceStop}
 use Rattle.session_calls.specs.declared.stops.DeviceStop.TheVariants as stops
-use Rattle.session_calls.proofs.DamageLaws.{wrong_page}
-use Rattle.nbd_core.specs.Meets.{CutsBlock, IsWrongStep, MayMeet, MeetsAt}
+use Rattle.session_calls.proofs.NodeLaws.{wrong_page}
+use Rattle.nbd_core.specs.Meets.{CutsBlock, MayMeet, MeetsAt}
 
 -- what is so at an address is so too in another way
 pub meets_more : (One Other : ℕ → Type 0) (stop : DeviceStop) → ((addr : ℕ) → One addr → Other addr) → MeetsAt One stop → MeetsAt Other stop

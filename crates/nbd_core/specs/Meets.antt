@@ -4,18 +4,13 @@ use Rattle.byte_arrays.specs.Ranges.{IsCovered, IsTouched}
 use Rattle.platform.specs.Image.{Image}
 use Rattle.nbd_lang.specs.declared.requests.RequestKind.{RequestKind}
 use Rattle.nbd_lang.specs.declared.requests.RequestKind.TheVariants as kinds
-use Rattle.session_calls.specs.Damage.{IsMiscountedAt, IsWrongNode, IsWrongPlace}
+use Rattle.session_calls.specs.Damage.{IsWrongPlace, IsWrongStep}
 use Rattle.session_calls.specs.declared.stops.DeviceStop.{DeviceStop}
 use Rattle.session_calls.specs.declared.stops.DeviceStop.TheVariants as stops
 
 -- a range touches a block that it doesn't cover whole
 abbrev pub CutsBlock : ℕ → ℕ → Type 0
 CutsBlock offset n = (block : ℕ) × IsTouched offset n block × (IsCovered offset n block → ⊥)
-
--- where a change of a block stops: at a node's place that doesn't fit, or at the root node of a tree that is
--- miscounted, and never at the page of a data record
-abbrev pub IsWrongStep : Image → ℕ → Type 0
-IsWrongStep image addr = IsWrongNode image addr ⊎ IsMiscountedAt image addr
 
 -- what doesn't fit, at this address, where a request of this kind meets it: for a read any place; for a trim
 -- one where a change of a block stops. A write meets such a one too, and any place only where it cuts a block

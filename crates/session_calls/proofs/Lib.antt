@@ -10,7 +10,6 @@ pub mod UpgradeGoesLaws
 pub mod UpgradeLaws
 pub mod CarryLaws
 pub mod CallLaws
-pub mod DamageLaws
 pub mod NodeLaws
 pub mod HeldLaws
 pub mod SpanLaws

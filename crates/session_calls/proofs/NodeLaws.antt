@@ -170,3 +170,8 @@ pub way_node : (pages : List (List ℕ)) (root : Root) (grove : Grove) (block ad
 way_node pages root grove block addr sound f h =
     node_from pages root grove.order (grove.level - 1) grove.blocks f.order block addr grove.top
     (subst (λ n. AllByRecursion (Follows pages root n) (stubs n grove.blocks grove.top)) (above_it grove.level sound.one) f.each) h
+
+-- a wrong place, or the root node of a tree that is miscounted with more said of it
+pub wrong_page : {Place Counted More : Type 0} → Place ⊎ (Counted × More) → Place ⊎ Counted
+wrong_page (inl place) = inl place
+wrong_page (inr counted) = inr counted.0

@@ -50,7 +50,11 @@ pub record IsMiscountedAt (image : Image) (addr : ℕ) : Type 0 where
   pub is_node : addr ≡ root.addr
   pub miscounted : IsMiscounted image.readable root
 
--- the one or the other
+-- where a change of a block stops: at a node's place that doesn't fit, or at the root node of a tree that is miscounted, and never at the page of a data record
+abbrev pub IsWrongStep : Image → ℕ → Type 0
+IsWrongStep image addr = IsWrongNode image addr ⊎ IsMiscountedAt image addr
+
+-- a wrong place, or the root node of a tree that is miscounted
 abbrev pub IsWrongPage : Image → ℕ → Type 0
 IsWrongPage image addr = IsWrongPlace image addr ⊎ IsMiscountedAt image addr
 

@@ -4,7 +4,7 @@ use Rattle.platform.specs.Image.{Image}
 use Rattle.node_codec.specs.declared.body.Entry.{Entry}
 use Rattle.btree_walk.specs.declared.refusals.WalkRefusal.{WalkRefusal}
 use Rattle.btree_walk.specs.declared.refusals.WalkRefusal.TheVariants as walks
-use Rattle.session_calls.specs.Damage.{IsMiscountedAt, IsWrongNode}
+use Rattle.session_calls.specs.Damage.{IsWrongStep}
 use Rattle.session_calls.specs.declared.stops.DeviceStop.{DeviceStop}
 use Rattle.session_calls.specs.declared.stops.DeviceStop.TheVariants as stops
 
@@ -22,7 +22,7 @@ IsOfEntries list blocks addr _ = ⊥
 
 -- a listing stops where the platform failed, or no memory was given, or it names a node that doesn't fit its place, or the root node of a tree that is miscounted, where this is known
 abbrev pub IsListStop : Type 0 → Image → DeviceStop → Type 0
-IsListStop Known image (stops.BadRecord addr) = Known → IsWrongNode image addr ⊎ IsMiscountedAt image addr
+IsListStop Known image (stops.BadRecord addr) = Known → IsWrongStep image addr
 IsListStop Known image stops.Platform = Unit {0}
 IsListStop Known image stops.Memory = Unit {0}
 IsListStop Known image _ = ⊥

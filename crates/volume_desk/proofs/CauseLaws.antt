@@ -7,7 +7,7 @@ use Rattle.device_session.specs.declared.refusals.CommitReply.{CommitReply}
 use Rattle.device_session.specs.declared.refusals.CommitReply.TheVariants as commits
 use Rattle.session_calls.specs.Blame.{IsOfCall}
 use Rattle.session_calls.specs.Commits.{LeavesLedger}
-use Rattle.session_calls.specs.Damage.{IsMounted, IsWrongPage, MeetsDamage, ReadsAny, TrimsAny, WritesAny}
+use Rattle.session_calls.specs.Damage.{IsMounted, IsWrongPage, IsWrongStep, MeetsDamage, ReadsAny, TrimsAny, WritesAny}
 use Rattle.session_calls.specs.declared.stops.DeviceStop.{DeviceStop}
 use Rattle.session_calls.specs.declared.stops.DeviceStop.TheVariants as stops
 use Rattle.session_calls.proofs.NodeLaws.{node_or}
@@ -18,7 +18,7 @@ use Rattle.volume_lines.specs.Replies as told
 use Rattle.volume_lines.specs.Replies.{Reply, said}
 use Rattle.volume_lines.specs.declared.replies.Reply.{Reply as Given}
 use Rattle.volume_lines.specs.declared.replies.Reply.TheVariants as given
-use Rattle.volume_desk.specs.Causes.{AnswersAlong, AnswersOver, Changes, Commits, Draws, HasBlock, IsAccepted, IsShortOf, IsWrongStep, LacksBlock, MayStop, MeetsNode, MeetsRecord, Sizes, StopsAny, TakesOver, TurnsTable}
+use Rattle.volume_desk.specs.Causes.{AnswersAlong, AnswersOver, Changes, Commits, Draws, HasBlock, IsAccepted, IsShortOf, LacksBlock, MayStop, MeetsNode, MeetsRecord, Sizes, StopsAny, TakesOver, TurnsTable}
 use Rattle.volume_desk.specs.Done.{IsCleared}
 use Rattle.volume_desk.specs.Turns.{IsBlockAt, NoBlock, commit_reply, destroy_reply}
 

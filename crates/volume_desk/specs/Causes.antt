@@ -4,7 +4,7 @@ use Rattle.platform.specs.Image.{Image}
 use Rattle.platform.specs.History.{History, moment}
 use Rattle.device_session.specs.Open.{needed_by}
 use Rattle.device_session.specs.Sessions.{Session}
-use Rattle.session_calls.specs.Damage.{IsMiscountedAt, IsMounted, IsWrongNode, IsWrongPlace}
+use Rattle.session_calls.specs.Damage.{IsMounted, IsWrongPlace, IsWrongStep}
 use Rattle.session_calls.specs.declared.stops.DeviceStop.{DeviceStop}
 use Rattle.session_calls.specs.declared.stops.DeviceStop.TheVariants as stops
 use Rattle.volume_table.specs.Tables.{Lacks}
@@ -105,10 +105,6 @@ Commits _ = ⊥
 abbrev pub Changes : Line → Type 0
 Changes (Read name block) = ⊥
 Changes _ = Unit {0}
-
--- an update names this address: a node's place stands there that doesn't fit, and never that of a data record; or the root node of a tree that is miscounted
-abbrev pub IsWrongStep : Image → ℕ → Type 0
-IsWrongStep image addr = IsWrongNode image addr ⊎ IsMiscountedAt image addr
 
 -- an update that stops at a record which doesn't fit names such a one
 abbrev pub MeetsNode : Image → DeviceStop → Type 0
