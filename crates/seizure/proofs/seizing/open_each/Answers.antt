@@ -21,7 +21,7 @@ loop-i-preserved g c =
         time = c.read.ensures.time;
         head = c.read.ensures.head;
         capacity = c.read.ensures.capacity;
-        reads = c.read.ensures.reads_rise;
+        reads = λ told. (c.read.ensures.reads told).rises;
         faults = c.read.ensures.faults;
       });
       quiet = c.in_ok-read.ensures.cause ∙ c.loop-i.invariant.quiet;
@@ -32,5 +32,5 @@ loop-i-preserved g c =
           (tried_more pages key (take i addrs) addr c.unseal.new.out c.args.work.now c.loop-i.work c.note.new.self (c.loop-i.invariant.tried told) body
           c.in_ok-note.ensures.known c.in_ok-note.ensures.opened c.in_ok-note.ensures.keys));
       known = c.in_ok-note.ensures.known;
-      reads = λ told. omega (arith, c.loop-i.invariant.reads told, c.read.ensures.reads_by_one told);
+      reads = λ told. omega (arith, c.loop-i.invariant.reads told, (c.read.ensures.reads told).by_one);
     }
