@@ -1,5 +1,7 @@
 //! A source over a reader of std.
-ghost use Rattle.std.specs.Prelude.{◌≡◌, None};
+ghost use Rattle.std.specs.Prelude.{◌≡◌, ◌<◌, ◌≤◌, None, length, IfOk};
+ghost use Rattle.std.specs.Io.KnownBytes.{ReadConsumes};
+ghost use Rattle.sdbt_base.specs.Faults.{Tells};
 
 use crate::{Source, SourceFault};
 use std::io::{ErrorKind, Read};
@@ -16,6 +18,7 @@ impl<R: Read + Drop> ReadSource<R> {
     pub fn new(inner: R) -> ReadSource<R>
         ensures left { ⟦<ReadSource<R> as Source>⟧.left result ≡ None }
         ensures faults { ⟦<ReadSource<R> as Source>⟧.faults result ≡ 0 }
+        ensures inner { result.inner ≡ inner }
     {
         ReadSource { inner, faults: 0 }
     }
@@ -26,7 +29,15 @@ impl<R: Read + Drop> Source for ReadSource<R> {
 
     ghost faults = { λ s. s.faults };
 
-    fn take(&mut self, into: &mut [u8]) -> Result<usize, SourceFault> {
+    fn take(&mut self, into: &mut [u8]) -> Result<usize, SourceFault>
+        requires { 0 < length into.old }
+        ensures bound { IfOk result (λ count. count ≤ length into.old) }
+        ensures count { self.old.faults ≤ self.new.faults }
+        ensures cause { Tells result self.old.faults self.new.faults }
+
+        // What it gives comes from the reader, 0 bytes at that one's end alone, and a fault takes none of it.
+        ensures read { ReadConsumes (R.remaining self.old.inner) (R.remaining self.new.inner) result into.new }
+    {
         for _ in 0..u64::MAX {
             match self.inner.read(into) {
                 Ok(count) => return Ok(count),

@@ -1,5 +1,5 @@
 //! Whole reads and writes over a reader and a writer of std, and a copy of as much as there is room for.
-ghost use Rattle.std.specs.Prelude.{◌≡◌, ◌≤◌, ℕ, OnOk, OnErr, length, take, min};
+ghost use Rattle.std.specs.Prelude.{◌≡◌, ◌≤◌, ℕ, OnOk, OnErr, length, take, drop, min};
 ghost use Rattle.std.specs.Io.KnownBytes.{Appends, Consumes};
 
 use std::io::{self, ErrorKind, Read, Write};
@@ -45,10 +45,11 @@ pub fn read_whole<R: Read>(reader: &mut R, into: &mut [u8]) -> io::Result<()>
     Err(ErrorKind::Interrupted.into())
 }
 
-/// Copies as many of the first bytes as there are, and as there is room for, and answers how many.
+/// Copies as many of the first bytes as there are, and as there is room for, and answers how many. Behind them `into` stays as it was.
 pub fn copy_front(bytes: &[u8], into: &mut [u8]) -> usize
     ensures count { result ≡ min (length bytes.now) (length into.old) }
     ensures front { take result into.new ≡ take result bytes.now }
+    ensures rest { drop result into.new ≡ drop result into.old }
 {
     let count = bytes.len().min(into.len());
     into[..count].copy_from_slice(&bytes[..count]);
