@@ -1,5 +1,5 @@
 -- What stands in the room of a line behind a text that was written over it from a place on.
-use Rattle.std.proofs.Common.{arith, ◌≡◌, ◌∙◌, ◌+◌, ◌-◌, ◌≤◌, ℕ, List, ◌++◌, length, take, drop, get_or, refl, sym, ap, subst}
+use Rattle.std.proofs.Common.{arith, ◌≡◌, ◌∙◌, ◌+◌, ◌-◌, ◌≤◌, ℕ, zero, suc, List, [], ◌∷◌, ◌++◌, length, take, drop, get_or, replicate, refl, sym, ap, subst}
 use Rattle.std.proofs.lemmas.List.{get_or-append_right, get_or-drop, length-take-le, take-append-drop}
 use Rattle.std.proofs.Math.Seq.{take-append-add, take-append_seam}
 
@@ -30,3 +30,15 @@ module _ (at : ℕ) (text old new : List ℕ) (is : IsWritten at text old new) w
       ∙ get_or-append_right text (drop (at + length text) old) (length text) (place - at) 0 refl (omega arith)
       ∙ get_or-drop (at + length text) old (place - at - length text) 0
       ∙ ap (λ i. get_or old i 0) same
+
+-- bytes that all are zero
+pub all_zero : (bytes : List ℕ) → ((place : ℕ) → get_or bytes place 0 ≡ 0) → bytes ≡ replicate (length bytes) 0
+all_zero [] zeros = refl
+all_zero (byte ∷ bytes) zeros = ap (λ (first : ℕ). first ∷ bytes) (zeros 0) ∙ ap (λ (rest : List ℕ). 0 ∷ rest) (all_zero bytes (λ place. zeros (suc place)))
+
+-- zeros were written over the front of a room, and all behind it was zero
+pub blank_room : (used : ℕ) (bytes : List ℕ) → used ≤ length bytes → ((place : ℕ) → used ≤ place → get_or bytes place 0 ≡ 0)
+    → replicate used 0 ++ drop used bytes ≡ replicate (length bytes) 0
+blank_room zero bytes fits zeros = all_zero bytes (λ place. zeros place (omega arith))
+blank_room (suc used) [] fits zeros = absurd (omega (arith, fits))
+blank_room (suc used) (byte ∷ bytes) fits zeros = ap (λ (rest : List ℕ). 0 ∷ rest) (blank_room used bytes (omega (arith, fits)) (λ place behind. zeros (suc place) (omega (arith, behind))))

@@ -19,11 +19,12 @@ pub struct ReplyWriter {
 impl ReplyWriter {
     ghost use Rattle.sdbt_base.specs.Faults.{Tells};
     ghost use Rattle.sdbt_base.specs.Told.{Got, GotPart};
+    ghost use Rattle.script_lang.specs.Lines.{blank_line};
     ghost use Rattle.script_lang.specs.Replies.{line_of, text_of, said, FitsBlock, CanWrite, hex_or_dash};
 
     /// A writer with a buffer of its own, of some 8 KB.
     pub fn new() -> ReplyWriter
-        ensures { result.line ≡ [] }
+        ensures { result.line ≡ blank_line }
     {
         ReplyWriter {
             line: LineBuffer::new(),
@@ -32,7 +33,7 @@ impl ReplyWriter {
 
     /// Leaves nothing of the lines that were written.
     pub fn wipe(&mut self)
-        ensures { self.new.line ≡ [] }
+        ensures { self.new.line ≡ blank_line }
     {
         self.line.wipe();
     }
@@ -63,9 +64,9 @@ impl ReplyWriter {
     #[tactic(auto, unfolding(crate::specs::Replies::text_of))]
     fn push_reply(&mut self, reply: &Reply, buffer: &[u8; BLOCK])
         requires fits { FitsBlock reply.now }
-        requires empty { self.old.line ≡ [] }
-        ensures text { self.new.line ≡ text_of (said reply.now buffer.now) }
-        ensures room { length self.new.line ≤ 8299 }
+        requires empty { self.old.line.text ≡ [] }
+        ensures text { self.new.line.text ≡ text_of (said reply.now buffer.now) }
+        ensures room { length self.new.line.text ≤ 8299 }
     {
         match reply {
             Reply::Mounted { number } => {
@@ -120,9 +121,9 @@ impl ReplyWriter {
     /// Puts bytes in hex at the end of a line that has room for them, and a dash for none.
     fn push_hex(&mut self, bytes: &[u8])
         requires block { length bytes.now ≤ 4096 }
-        requires room { length self.old.line + 8192 ≤ 8300 }
-        ensures text { self.new.line ≡ self.old.line ++ hex_or_dash bytes.now }
-        ensures short { length self.new.line ≤ length self.old.line + 8192 }
+        requires room { length self.old.line.text + 8192 ≤ 8300 }
+        ensures text { self.new.line.text ≡ self.old.line.text ++ hex_or_dash bytes.now }
+        ensures short { length self.new.line.text ≤ length self.old.line.text + 8192 }
     {
         if bytes.is_empty() {
             self.line.push(b"-");

@@ -21,11 +21,12 @@ impl ReplyWriter {
     ghost use Rattle.std.specs.Prelude.{OnOk, OnErr};
     ghost use Rattle.sdbt_base.specs.Faults.{Tells};
     ghost use Rattle.sdbt_base.specs.Told.{Got, GotPart};
+    ghost use Rattle.script_lang.specs.Lines.{blank_line};
     ghost use Rattle.volume_lines.specs.Replies.{FitsBlock, CanWrite};
 
     /// A writer with a buffer of its own, of some 8 KB.
     pub fn new() -> ReplyWriter
-        ensures { result.contents.line ≡ [] }
+        ensures { result.contents.line ≡ blank_line }
     {
         ReplyWriter {
             contents: script_lang::ReplyWriter::new(),

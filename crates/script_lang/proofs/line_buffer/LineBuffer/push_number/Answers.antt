@@ -2,6 +2,7 @@ use Rattle.std.proofs.Common.{arith, ◌≡◌, ◌∙◌, ◌+◌, ◌≤◌, �
 use Rattle.std.specs.Fmt.{decimal}
 use Rattle.std.proofs.lemmas.Fmt.{length-decimal-le}
 use Rattle.std.proofs.lemmas.List.{length-append, length-take-le}
+use Rattle.script_lang.specs.Lines.{Line}
 use Rattle.script_lang.proofs.RoomLaws.{IsWritten, front_written, behind_written}
 use Rattle.script_lang.proofs.line_buffer.LineBuffer.push_number.Goals as goal
 
@@ -14,11 +15,11 @@ room number count len bytes line small is told fits view short =
     (omega arith, omega (arith, same, ap length view))
 
 pub overflow_add-end : goal.overflow_add-end
-overflow_add-end c = let it = room c.args.number c.count_digits.result c.self.inside.len c.self.inside.bytes c.args.self.now (omega arith) c.count_digits.ensures c.self.told c.self.invariant.fits c.self.view_is c.requires in omega (arith, it.0, it.1)
+overflow_add-end c = let it = room c.args.number c.count_digits.result c.self.inside.len c.self.inside.bytes c.args.self.now.text (omega arith) c.count_digits.ensures c.self.told c.self.invariant.fits (ap (λ (line : Line). line.text) c.self.view_is) c.requires in omega (arith, it.0, it.1)
 
 pub write_digits-requires : goal.write_digits-requires
 write_digits-requires c =
-    let it = room c.args.number c.count_digits.result c.self.inside.len c.self.inside.bytes c.args.self.now (omega arith) c.count_digits.ensures c.self.told c.self.invariant.fits c.self.view_is c.requires in
+    let it = room c.args.number c.count_digits.result c.self.inside.len c.self.inside.bytes c.args.self.now.text (omega arith) c.count_digits.ensures c.self.told c.self.invariant.fits (ap (λ (line : Line). line.text) c.self.view_is) c.requires in
     (omega (arith, c.count_digits.ensures), omega (arith, it.0, it.1, c.self.told))
 
 -- the digits stand behind the line, and all else in the room as it was
@@ -35,7 +36,7 @@ put c =
 
 pub invariant_of-self : goal.invariant_of-self
 invariant_of-self c =
-    let it = room c.args.number c.count_digits.result c.self.inside.len c.self.inside.bytes c.args.self.now (omega arith) c.count_digits.ensures c.self.told c.self.invariant.fits c.self.view_is c.requires in
+    let it = room c.args.number c.count_digits.result c.self.inside.len c.self.inside.bytes c.args.self.now.text (omega arith) c.count_digits.ensures c.self.told c.self.invariant.fits (ap (λ (line : Line). line.text) c.self.view_is) c.requires in
     record {
       fits = omega (arith, it.0, it.1);
       short = c.self.invariant.short;
@@ -43,16 +44,16 @@ invariant_of-self c =
           ∙ c.self.invariant.zeros place (omega arith) unused;
     }
 
-text : (c : goal.After-self-1) → take (c.self.inside.len + c.count_digits.result) c.write_digits.new.buf ≡ c.args.self.now ++ decimal c.args.number
+text : (c : goal.After-self-1) → take (c.self.inside.len + c.count_digits.result) c.write_digits.new.buf ≡ c.args.self.now.text ++ decimal c.args.number
 text c =
     ap (λ count. take (c.self.inside.len + count) c.write_digits.new.buf) c.count_digits.ensures
     ∙ front_written c.self.inside.len (decimal c.args.number) c.self.inside.bytes c.write_digits.new.buf (put c)
-    ∙ ap (λ line. line ++ decimal c.args.number) c.self.view_is
+    ∙ ap (λ (line : Line). line.text ++ decimal c.args.number) c.self.view_is
 
 pub returns-clause-text : goal.returns-clause-text
 returns-clause-text c = text c
 
 pub returns-clause-short : goal.returns-clause-short
 returns-clause-short c =
-    let it = room c.args.number c.count_digits.result c.self.inside.len c.self.inside.bytes c.args.self.now (omega arith) c.count_digits.ensures c.self.told c.self.invariant.fits c.self.view_is c.requires in
-    omega (arith, ap length (text c), length-append c.args.self.now (decimal c.args.number), it.0, c.count_digits.ensures)
+    let it = room c.args.number c.count_digits.result c.self.inside.len c.self.inside.bytes c.args.self.now.text (omega arith) c.count_digits.ensures c.self.told c.self.invariant.fits (ap (λ (line : Line). line.text) c.self.view_is) c.requires in
+    omega (arith, ap length (text c), length-append c.args.self.now.text (decimal c.args.number), it.0, c.count_digits.ensures)
