@@ -1,5 +1,5 @@
 -- The array machine: which reply belongs to a command, and which state follows.
-use Rattle.std.specs.Prelude.{ℕ, ◌+◌, ◌%◌, Bool, false, not, ◌&&◌, ◌==◌, nat_lt, nat_le, if◌then◌else◌, List, [], ◌∷◌, Option, Some, None}
+use Rattle.std.specs.Prelude.{ℕ, ◌+◌, ◌%◌, Bool, true, false, not, ◌&&◌, ◌==◌, nat_lt, nat_le, if◌then◌else◌, List, [], ◌∷◌, Option, Some, None}
 use Rattle.std.specs.FinMap as map
 use Rattle.script_lang.specs.Commands.{Command}
 use Rattle.script_lang.specs.Commands.{Format, Mount, Read, Write, Trim, Commit, Drop, Erase, Upgrade, Stat, Seize}
@@ -93,6 +93,13 @@ needs_room state Drop = false
 needs_room state Erase = false
 needs_room state Stat = false
 needs_room state Seize = false
+
+-- whether the command is one that is accepted and takes memory, on a medium that is full or isn't
+abbrev pub takes_memory : Bool → State → Command → Bool
+takes_memory full state Mount = on_session state.session (on_device state.device false (λ device. true)) (λ session. false)
+takes_memory full state (Write block content) = needs_room state (Write block content) && not full
+takes_memory full state Commit = needs_room state Commit && not full
+takes_memory full state _ = false
 
 -- the commit number of the device, and 0 without one
 abbrev pub number_of : State → ℕ

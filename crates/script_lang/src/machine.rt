@@ -1,7 +1,7 @@
 //! The array machine as plain code.
 
-ghost use Rattle.std.specs.Prelude.{◌≡◌, ◌≢◌, ◌-◌, ◌^◌, ◌<◌, ◌≤◌, ℕ, List, length, None, IfOk, OnErr};
-ghost use Rattle.script_lang.specs.Arrays.{Counted, in_limits, number_of, step, trimmed, content_reply};
+ghost use Rattle.std.specs.Prelude.{◌≡◌, ◌≢◌, ◌-◌, ◌^◌, ◌<◌, ◌≤◌, ℕ, List, length, true, false, None, IfOk, OnErr};
+ghost use Rattle.script_lang.specs.Arrays.{Counted, in_limits, number_of, step, takes_memory, trimmed, content_reply};
 ghost use Rattle.script_lang.specs.Answers.{answer, none_counted};
 ghost use Rattle.sdbt_base.specs.Arrays.{State, written, unmapped, padded, content_of};
 ghost use Rattle.std.specs.Prelude.{take, ◌%◌};
@@ -72,6 +72,8 @@ impl Machine {
         requires counted { number_of self.old < 2 ^ 64 - 1 }
         ensures step { IfOk result (λ reply. (counted : Counted) → (said reply buffer.new, self.new) ≡ answer full counted self.old (asked command.now buffer.old)) }
         ensures memory { OnErr result (self.new ≡ self.old) }
+        // What refuses the command is looked for before.
+        ensures lacked { OnErr result (takes_memory full self.old (asked command.now buffer.old) ≡ true) }
         // The reply can be written.
         ensures written { IfOk result (λ reply. CanWrite (said reply buffer.new)) }
         ensures short { IfOk result FitsReply }
@@ -118,6 +120,7 @@ impl Machine {
         ensures step { IfOk result (λ reply. (buffer : List ℕ) → (said reply buffer, self.new) ≡ step none_counted self.old commands.Mount) }
         ensures short { IfOk result FitsReply }
         ensures memory { OnErr result (self.new ≡ self.old) }
+        ensures lacked { OnErr result (takes_memory false self.old commands.Mount ≡ true) }
     {
         if self.session.is_some() {
             return Ok(Reply::AlreadyMounted);
@@ -157,6 +160,7 @@ impl Machine {
         ensures step { IfOk result (λ reply. (buffer : List ℕ) → (said reply buffer, self.new) ≡ answer full none_counted self.old (commands.Write block bytes.now)) }
         ensures short { IfOk result FitsReply }
         ensures memory { OnErr result (self.new ≡ self.old) }
+        ensures lacked { OnErr result (takes_memory full self.old (commands.Write block bytes.now) ≡ true) }
     {
         let Some(device) = &self.device else {
             return Ok(Reply::Unmounted);
@@ -201,6 +205,7 @@ impl Machine {
         ensures step { IfOk result (λ reply. (buffer : List ℕ) → (said reply buffer, self.new) ≡ answer full none_counted self.old commands.Commit) }
         ensures short { IfOk result FitsReply }
         ensures memory { OnErr result (self.new ≡ self.old) }
+        ensures lacked { OnErr result (takes_memory full self.old commands.Commit ≡ true) }
     {
         let Some(device) = &self.device else {
             return Ok(Reply::Unmounted);
