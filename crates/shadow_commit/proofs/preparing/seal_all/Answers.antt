@@ -56,7 +56,7 @@ pub returns-in_default-sync-clause-beside : goal.returns-in_default-sync-clause-
 returns-in_default-sync-clause-beside g c =
     let E = c.sync.ensures in
     beside_then g.P.Platform g.T.Tape c.args.platform.now c.seal_twig.new.platform c.sync.new.self c.args.tape.now c.seal_twig.new.tape c.seal_twig.new.tape c.seal_twig.ensures.beside
-    (beside_call g.P.Platform g.T.Tape c.seal_twig.new.platform c.sync.new.self c.seal_twig.new.tape c.seal_twig.new.tape E.time E.cell (omega (arith, E.head)) E.capacity E.reads E.faults (omega arith))
+    (beside_call g.P.Platform g.T.Tape c.seal_twig.new.platform c.sync.new.self c.seal_twig.new.tape c.seal_twig.new.tape E.time E.cell (omega (arith, E.head)) E.capacity (λ told. (E.reads told).0) E.faults (omega arith))
 
 pub overflow_add-result-2 : goal.overflow_add-result-2
 overflow_add-result-2 g c =
@@ -80,7 +80,7 @@ pub returns-clause-beside : goal.returns-clause-beside
 returns-clause-beside g c =
     let E = c.sync.ensures in
     beside_then g.P.Platform g.T.Tape c.args.platform.now c.seal_twig.new.platform c.sync.new.self c.args.tape.now c.seal_twig.new.tape c.seal_twig.new.tape c.seal_twig.ensures.beside
-    (beside_call g.P.Platform g.T.Tape c.seal_twig.new.platform c.sync.new.self c.seal_twig.new.tape c.seal_twig.new.tape E.time E.cell (omega (arith, E.head)) E.capacity E.reads E.faults (omega arith))
+    (beside_call g.P.Platform g.T.Tape c.seal_twig.new.platform c.sync.new.self c.seal_twig.new.tape c.seal_twig.new.tape E.time E.cell (omega (arith, E.head)) E.capacity (λ told. (E.reads told).0) E.faults (omega arith))
 
 pub returns-clause-sealed : goal.returns-clause-sealed
 returns-clause-sealed g c at =
