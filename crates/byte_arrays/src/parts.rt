@@ -12,15 +12,16 @@ pub struct Part {
     pub block: u64,
     /// Where they begin in the block.
     pub start: usize,
-    /// How many they are.
+    /// How many they are: at least one.
     pub count: usize,
     ghost inside: { start + count ≤ 4096 },
+    ghost some: { 0 < count },
 }
 
 impl Part {
     /// The first part of the `left` bytes of a range that begin at the place `at`: up to the end of
-    /// its block, or of the range. They are at least one. As the clause has it, `done` bytes of the
-    /// range stand before it; where there are any, the last of them ended a block.
+    /// its block, or of the range. As the clause has it, `done` bytes of the range stand before it;
+    /// where there are any, the last of them ended a block.
     pub fn first(at: u64, left: usize) -> Part
         requires { 0 < left }
         ensures { (offset done : ℕ) → at ≡ offset + done → (done ≡ 0) ⊎ (at % 4096 ≡ 0)
