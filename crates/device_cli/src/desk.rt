@@ -3,6 +3,7 @@ ghost use Rattle.std.specs.Prelude.{◌≡◌, ◌≢◌, ◌<◌, ◌≤◌, �
 ghost use Rattle.sdbt_base.specs.Faults.{Tells};
 ghost use Rattle.script_lang.specs.Commands as commands;
 ghost use Rattle.script_lang.specs.Commands.{FitsBlock as FitsCommand, asked};
+ghost use Rattle.script_lang.specs.Lines.{blank_line};
 ghost use Rattle.script_lang.specs.Replies.{CanWrite, FitsBlock, said};
 ghost use Rattle.sdbt_base.specs.Counts.{counts};
 ghost use Rattle.session_calls.specs.Blame.{IsBlamed};
@@ -354,6 +355,7 @@ impl Desk {
     fn close(&mut self)
         ensures session { self.new.session ≡ None }
         ensures buffer { self.new.buffer ≡ replicate 4096 0 }
+        ensures line { self.new.writer.line ≡ blank_line }
     {
         if let Some(mut session) = self.session.take() {
             session.wipe();
