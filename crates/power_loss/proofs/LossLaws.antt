@@ -4,7 +4,9 @@ use Rattle.std.specs.Prelude.{Contains, slice_get}
 use Rattle.std.proofs.lemmas.Bool.{cases_eq}
 use Rattle.std.proofs.lemmas.List.{take_more}
 use Rattle.std.proofs.lemmas.List.Elements.{Contains-push, Contains-push_cases, Contains-append_left, Contains-append_right}
+use Rattle.platform.specs.declared.mem_platform.MemPlatform.{MemPlatform}
 use Rattle.platform.specs.Image.{Image, MayLeave}
+use Rattle.platform.specs.Mem.{IsSameRest}
 use Rattle.power_loss.specs.Loss.{Tore}
 
 -- one loss of power after another
@@ -54,3 +56,13 @@ pub Tore-more : (torn : List ℕ) (image mid left : Image) (i addr : ℕ) → i 
 Tore-more torn image mid left i addr more at first second =
     let next : take (i + 1) torn ≡ take i torn ++ addr ∷ [] = take_more torn i addr more ∙ ap (λ (k : ℕ). take i torn ++ k ∷ []) (sym at) in
     subst (λ (done : List ℕ). Tore done image left) (sym next) (Tore-push (take i torn) addr image mid left first second)
+
+-- what stays over one call, and then over another
+pub IsSameRest-then : (a b c : MemPlatform) → IsSameRest a b → IsSameRest b c → IsSameRest a c
+IsSameRest-then a b c p q = record {
+  capacity = q.capacity ∙ p.capacity;
+  reads = q.reads ∙ p.reads;
+  looks = q.looks ∙ p.looks;
+  faults = q.faults ∙ p.faults;
+  starved = q.starved ∙ p.starved;
+}

@@ -2,17 +2,21 @@
 #![tactic(auto)]
 
 ghost use Rattle.std.specs.Prelude.{◌≡◌, ◌∷◌, []};
-ghost use Rattle.platform.specs.Mem.{image_of_now, capacity_of, faults_of};
+ghost use Rattle.platform.specs.Mem.{mem_history, image_of_now, capacity_of, faults_of, failures_of, calls_of, IsSameRest};
 ghost use Rattle.power_loss.specs.Loss.{Tore};
 
 use platform::{MemPlatform, Platform};
 
 /// The power is lost: the pages of the list that may be torn read as zero bytes from now on. Those that are synced, and those that
-/// there are not, stay as they are.
+/// there are not, stay as they are. A new history begins with what is left, and of the platform no list and no count changes.
 pub fn lose_power(platform: &mut MemPlatform, torn: &[u64])
     ensures left { Tore torn.now (image_of_now platform.old) (image_of_now platform.new) }
     ensures capacity { capacity_of platform.new ≡ capacity_of platform.old }
     ensures faults { faults_of platform.new ≡ faults_of platform.old }
+    ensures past { (mem_history platform.new).past ≡ [] }
+    ensures failures { failures_of platform.new ≡ failures_of platform.old }
+    ensures calls { calls_of platform.new ≡ calls_of platform.old }
+    ensures rest { IsSameRest platform.old platform.new }
 {
     platform.power_cut(&[]);
     for addr in torn {
@@ -25,6 +29,10 @@ fn tear_page(platform: &mut MemPlatform, addr: u64)
     ensures left { Tore (addr ∷ []) (image_of_now platform.old) (image_of_now platform.new) }
     ensures capacity { capacity_of platform.new ≡ capacity_of platform.old }
     ensures faults { faults_of platform.new ≡ faults_of platform.old }
+    ensures past { (mem_history platform.new).past ≡ [] }
+    ensures failures { failures_of platform.new ≡ failures_of platform.old }
+    ensures calls { calls_of platform.new ≡ calls_of platform.old }
+    ensures rest { IsSameRest platform.old platform.new }
 {
     if platform.synced() <= addr && addr < platform.head() {
         platform.power_cut(&[addr]);

@@ -4,14 +4,16 @@ use Rattle.std.proofs.lemmas.Grind.{common_steps}
 use Rattle.std.proofs.lemmas.List.{take_all}
 use Rattle.platform.specs.Mem.{image_of_now}
 use Rattle.power_loss.specs.Loss.{Tore}
-use Rattle.power_loss.proofs.LossLaws.{Tore-none, Tore-more, none_among}
+use Rattle.power_loss.proofs.LossLaws.{Tore-none, Tore-more, none_among, IsSameRest-then}
 use Rattle.power_loss.proofs.lose_power.Goals as goal
 
 pub loop-addr-init : goal.loop-addr-init
 loop-addr-init c = record {
   left = Tore-none (image_of_now c.args.platform.now) (image_of_now c.power_cut.new.self) c.power_cut.ensures.left (λ addr. c.power_cut.ensures.torn.other_pages addr (none_among addr));
-  capacity = c.power_cut.ensures.rest.capacity;
-  faults = c.power_cut.ensures.rest.faults;
+  past = c.power_cut.ensures.past;
+  failures = c.power_cut.ensures.failures;
+  calls = c.power_cut.ensures.calls;
+  rest = c.power_cut.ensures.rest;
 }
 
 pub loop-addr-preserved : goal.loop-addr-preserved
@@ -21,8 +23,10 @@ loop-addr-preserved c =
     record {
       left = Tore-more c.args.torn.now (image_of_now c.args.platform.now) (image_of_now c.loop-addr.platform) (image_of_now c.tear_page.new.platform) c.loop-addr.addr-index addr
           c.loop-addr-test.true at c.loop-addr.invariant.left c.tear_page.ensures.left;
-      capacity = c.tear_page.ensures.capacity ∙ c.loop-addr.invariant.capacity;
-      faults = c.tear_page.ensures.faults ∙ c.loop-addr.invariant.faults;
+      past = c.tear_page.ensures.past;
+      failures = c.tear_page.ensures.failures ∙ c.loop-addr.invariant.failures;
+      calls = c.tear_page.ensures.calls ∙ c.loop-addr.invariant.calls;
+      rest = IsSameRest-then _ _ _ c.loop-addr.invariant.rest c.tear_page.ensures.rest;
     }
 
 pub returns-clause-left : goal.returns-clause-left
