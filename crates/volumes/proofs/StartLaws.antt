@@ -24,7 +24,7 @@ use Rattle.line_run.specs.declared.stop.Stop.TheVariants as stops
 use Rattle.device_course.specs.Held.{Held, device_of, state_of}
 use Rattle.device_course.specs.Leading.{Leads, last_of, marks_of}
 use Rattle.session_calls.specs.Along.{Along, Drawn}
-use Rattle.session_calls.specs.Damage.{IsMounted, ReadsAny}
+use Rattle.session_calls.specs.Damage.{IsMounted, MeetsDamage, ReadsAny}
 use Rattle.session_calls.specs.Goes.{ReadsBlock}
 use Rattle.session_calls.specs.Mounts.{IsFound, IsMountStop, MountLeads}
 use Rattle.session_calls.specs.declared.stops.DeviceStop.{DeviceStop}
@@ -413,6 +413,15 @@ read_halt Known image after session block bytes device.Tape any = absurd any
 read_halt Known image after session block bytes device.Ledger any = absurd any
 read_halt Known image after session block bytes device.BadRoot any = absurd any
 read_halt Known image after session block bytes (device.BadRecord addr) any = tt
+
+-- and that it names a wrong place, where it names one
+pub read_meets : (Known : Type 0) (image after : Image) (session : Session) (block : ℕ) (bytes : List ℕ) (stop : DeviceStop) → ReadsAny Known image after session block bytes (Err stop) → Known → MeetsDamage after stop
+read_meets Known image after session block bytes device.Platform any known = tt
+read_meets Known image after session block bytes device.Memory any known = absurd any
+read_meets Known image after session block bytes device.Tape any known = absurd any
+read_meets Known image after session block bytes device.Ledger any known = absurd any
+read_meets Known image after session block bytes device.BadRoot any known = absurd any
+read_meets Known image after session block bytes (device.BadRecord addr) any known = inl (any known)
 
 -- ---- a refusal left all as it was
 

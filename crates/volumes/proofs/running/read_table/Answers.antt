@@ -1,8 +1,7 @@
-use Rattle.std.proofs.Common.{Err, subst, ◌∙◌, ℕ}
+use Rattle.std.proofs.Common.{subst, ◌∙◌, ℕ}
 use Rattle.volume_table.specs.Tables.{IsTable}
 use Rattle.session_calls.proofs.CallLaws.{no_draw}
-use Rattle.session_calls.proofs.DamageLaws.{read_meets}
-use Rattle.volumes.proofs.StartLaws.{along_table, first_none, first_table, finds_none, finds_stop, finds_table, read_halt}
+use Rattle.volumes.proofs.StartLaws.{along_table, first_none, first_table, finds_none, finds_stop, finds_table, read_halt, read_meets}
 use Rattle.volumes.proofs.running.read_table.Goals as goal
 
 pub returns-in-Some-clause-along : goal.returns-in-Some-clause-along
@@ -50,7 +49,7 @@ returns-in-Err-clause-early g c = read_halt _ (g.P.Platform.history c.args.platf
 
 pub returns-in-Err-clause-damage : goal.returns-in-Err-clause-damage
 returns-in-Err-clause-damage g c told mounted =
-    read_meets _ (g.P.Platform.history c.args.platform.now).present (g.P.Platform.history c.read_block.new.platform).present c.args.session.now 0 c.read_block.new.out (Err c.in-Err.stop) c.in-Err.ensures.any (told, mounted)
+    read_meets _ (g.P.Platform.history c.args.platform.now).present (g.P.Platform.history c.read_block.new.platform).present c.args.session.now 0 c.read_block.new.out c.in-Err.stop c.in-Err.ensures.any (told, mounted)
 
 pub returns-in-Some-clause-spelled : goal.returns-in-Some-clause-spelled
 returns-in-Some-clause-spelled g c told mounted =
