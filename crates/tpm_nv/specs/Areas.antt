@@ -1,11 +1,11 @@
 -- What an index is, and the reply that says it.
-use Rattle.std.specs.Prelude.{◌≡◌, ◌≢◌, ℕ, ◌^◌, ◌<◌, ◌⊎◌, List, [], ◌∷◌, Contains}
+use Rattle.std.specs.Prelude.{◌≡◌, ◌≢◌, ℕ, ◌^◌, ◌<◌, ◌⊎◌, List, [], ◌∷◌, All, Contains}
 use Rattle.std.specs.Int.{w16, w32, to_be_bytes}
 use Rattle.std.specs.List.{concat}
 use Rattle.tpm_nv.specs.Fields.{sized}
 use Rattle.tpm_nv.specs.Messages.{IsReply, IsRefusal}
 use Rattle.tpm_nv.specs.Replies.{IsCause}
-use Rattle.tpm_nv.specs.Attributes.{IsSet, IsClear, needed, refused, type_of}
+use Rattle.tpm_nv.specs.Attributes.{IsFirst, IsSet, IsClear, needed, refused, type_of}
 use Rattle.tpm_nv.specs.declared.public.Public.{Public}
 use Rattle.tpm_nv.specs.declared.public.Fault.{Fault}
 use Rattle.tpm_nv.specs.declared.public.Fault.TheVariants.{Size, Kind, Lacks, Has}
@@ -50,12 +50,16 @@ IsAbsent reply = IsRefusal 0x18b reply
 abbrev pub IsPublic : ℕ → List ℕ → Type 0
 IsPublic index reply = IsAbsent reply ⊎ ((area : Area) × Describes index area reply)
 
--- an index of these attributes and this size has the fault
+-- an index of these attributes and this size has the fault, and none that is looked for before: its size first, then its type,
+-- then what it lacks, and then what it has
 abbrev pub IsFault : ℕ → ℕ → Fault → Type 0
 IsFault attributes size (Size n) = (size ≡ n) × (n ≢ 128)
-IsFault attributes size (Kind kind) = (type_of attributes ≡ kind) × (kind ≢ 0)
-IsFault attributes size (Lacks attribute) = Contains needed attribute × IsClear attributes attribute
-IsFault attributes size (Has attribute) = Contains refused attribute × IsSet attributes attribute
+IsFault attributes size (Kind kind) = (type_of attributes ≡ kind) × (kind ≢ 0) × (size ≡ 128)
+IsFault attributes size (Lacks attribute) =
+    Contains needed attribute × IsClear attributes attribute × IsFirst (IsSet attributes) needed attribute × (size ≡ 128) × (type_of attributes ≡ 0)
+IsFault attributes size (Has attribute) =
+    Contains refused attribute × IsSet attributes attribute × IsFirst (IsClear attributes) refused attribute × (size ≡ 128) × (type_of attributes ≡ 0)
+    × All (IsSet attributes) needed
 
 -- why an index is not used
 abbrev pub IsRefused : ℕ → List ℕ → Refusal → Type 0

@@ -1,5 +1,5 @@
 -- The attributes of an index (part 2, TPMA_NV) that this crate looks at.
-use Rattle.std.specs.Prelude.{◌≡◌, ℕ, ◌/◌, ◌%◌, List, [], ◌∷◌, All}
+use Rattle.std.specs.Prelude.{◌≡◌, ℕ, ◌/◌, ◌%◌, List, [], ◌∷◌, ◌++◌, All}
 use Rattle.std.specs.Int.{bit_at}
 use Rattle.tpm_nv.specs.declared.attributes.Attribute.{Attribute}
 use Rattle.tpm_nv.specs.declared.attributes.Attribute.TheVariants.{AuthWrite, WriteLocked, WriteDefine, WriteStClear, GlobalLock, AuthRead, Orderly, ClearStClear, ReadLocked, ReadStClear}
@@ -22,6 +22,10 @@ IsSet attributes attribute = bit_at attributes (bit_of attribute) ≡ 1
 
 abbrev pub IsClear : ℕ → Attribute → Type 0
 IsClear attributes attribute = bit_at attributes (bit_of attribute) ≡ 0
+
+-- it stands in the list behind attributes alone that have P
+abbrev pub IsFirst : (Attribute → Type 0) → List Attribute → Attribute → Type 0
+IsFirst P list attribute = (before : List Attribute) × (behind : List Attribute) × (list ≡ before ++ attribute ∷ behind) × All P before
 
 -- the index's password reads and writes it
 abbrev pub needed : List Attribute

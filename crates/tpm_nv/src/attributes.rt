@@ -1,6 +1,6 @@
 //! The attributes of an index.
 ghost use Rattle.std.specs.Prelude.{◌≡◌, ◌↔◌, ◌<◌, All, Contains, IfSome, IfNone, IsTrue, IsFalse};
-ghost use Rattle.tpm_nv.specs.Attributes.{bit_of, IsSet, IsClear};
+ghost use Rattle.tpm_nv.specs.Attributes.{bit_of, IsFirst, IsSet, IsClear};
 
 /// The attributes that an index has to have, or must not have (part 2, TPMA_NV).
 #[derive(Clone, Copy, Debug, PartialEq, Eq)]
@@ -59,6 +59,7 @@ impl Attribute {
 /// The first of a list that isn't among the attributes.
 pub(crate) fn first_clear(attributes: u32, list: &[Attribute]) -> Option<Attribute>
     ensures found { IfSome result (λ attribute. Contains list.now attribute × IsClear attributes attribute) }
+    ensures first { IfSome result (λ attribute. IsFirst (IsSet attributes) list.now attribute) }
     ensures none { IfNone result (All (IsSet attributes) list.now) }
 {
     for attribute in list {
@@ -72,6 +73,7 @@ pub(crate) fn first_clear(attributes: u32, list: &[Attribute]) -> Option<Attribu
 /// The first of a list that is among the attributes.
 pub(crate) fn first_set(attributes: u32, list: &[Attribute]) -> Option<Attribute>
     ensures found { IfSome result (λ attribute. Contains list.now attribute × IsSet attributes attribute) }
+    ensures first { IfSome result (λ attribute. IsFirst (IsClear attributes) list.now attribute) }
     ensures none { IfNone result (All (IsClear attributes) list.now) }
 {
     for attribute in list {
