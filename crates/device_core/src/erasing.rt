@@ -4,7 +4,7 @@ ghost use Rattle.platform.specs.History.{During, Steps, Turns};
 ghost use Rattle.sdbt_base.specs.Arrays.{Device};
 ghost use Rattle.page_store.specs.Stands.{Stands};
 ghost use Rattle.page_store.specs.Kept.{Kept};
-ghost use Rattle.page_store.specs.Reading.{MayLook};
+ghost use Rattle.page_store.specs.Reading.{MayLook, ReadsNothing};
 ghost use Rattle.page_store.specs.Stands.{IsSound};
 ghost use Rattle.page_store.specs.Floors.{Forgets};
 ghost use Rattle.device_terms.specs.Served.{IsServedImage};
@@ -75,7 +75,7 @@ pub fn clear<P: Platform>(platform: &mut P) -> Result<(), PlatformFault>
 
     ensures pages { (P.head platform.new ≡ P.head platform.old) × (P.capacity platform.new ≡ P.capacity platform.old)
         × (P.faults platform.old ≤ P.faults platform.new) }
-    ensures reads { P.tells → (P.reads platform.new ≡ P.reads platform.old) × (P.page_reads platform.new ≡ P.page_reads platform.old) }
+    ensures reads { P.tells → ReadsNothing P.Platform platform.old platform.new }
 {
     platform.clear_root()
 }

@@ -14,6 +14,10 @@ pub record ReadsPage {S : Type 0} (P : Ghosts S) (old new : S) : Type 0 where
   pub reads_by_one : P.tells → P.reads new ≤ P.reads old + 1
   pub faults : P.faults old ≤ P.faults new
 
+-- neither a page was read nor the cell looked at
+abbrev pub ReadsNothing : {S : Type 0} → Ghosts S → S → S → Type 0
+ReadsNothing P old new = (P.reads new ≡ P.reads old) × (P.page_reads new ≡ P.page_reads old)
+
 -- the cell was looked at once at most, and no page read
 abbrev pub MayLook : {S : Type 0} → Ghosts S → S → S → Type 0
 MayLook P old new = MayRiseByOne (P.reads old) (P.reads new) × (P.page_reads new ≡ P.page_reads old)

@@ -11,7 +11,7 @@ consumed_then (Some xs) None c bytes kept read = absurd kept
 consumed_then (Some xs) (Some ys) None bytes kept read = absurd read
 consumed_then (Some xs) (Some ys) (Some zs) bytes kept read = cc
 
--- src/read_source.rt:47:30
+-- what the one read gave
 pub returns-in-Ok-clause-read : goal.returns-in-Ok-clause-read
 returns-in-Ok-clause-read g c =
     let remaining = g.R.Read.remaining in (
@@ -20,7 +20,7 @@ returns-in-Ok-clause-read g c =
       c.in-Ok.ensures.bytes.1,
     )
 
--- src/read_source.rt:33:5
+-- nothing more to read, or a fault
 pub returns-clause-read : goal.returns-clause-read
 returns-clause-read g c =
     let remaining = g.R.Read.remaining in
