@@ -1,5 +1,5 @@
 -- Which reply belongs to a request of an array, and which array it leaves.
-use Rattle.std.specs.Prelude.{◌≡◌, ◌-◌, ◌<◌, ◌≤◌, ℕ, List, [], length, take, Option, None, Some}
+use Rattle.std.specs.Prelude.{◌≡◌, ◌-◌, ◌<◌, ◌≤◌, ℕ, List, [], length, take, Option, None, Some, true}
 use Rattle.byte_arrays.specs.Arrays.{bytes_at}
 use Rattle.byte_arrays.specs.Ranges.{touched_blocks, covered_blocks}
 use Rattle.nbd_lang.specs.Requests.{RequestSent}
@@ -65,3 +65,10 @@ Ends capacity old new = Flushes (capacity - old.pages) old Done new
 
 abbrev pub IsUnfinished : ℕ → Held → Type 0
 IsUnfinished capacity old = Flushes (capacity - old.pages) old NoSpace old
+
+-- there is something to commit: a change was made, and enough pages are free
+pub record HasToCommit (capacity : ℕ) (old : Held) : Type 0 where
+  pub touched : old.session.touched ≡ true
+  pub needed : ℕ
+  pub needs : Needs old needed
+  pub room : needed ≤ capacity - old.pages

@@ -1,4 +1,5 @@
 pub mod Sealed
+pub mod LetGo
 pub mod Caching
 pub mod Handing
 pub mod CanSeal

@@ -10,6 +10,7 @@ ghost use Rattle.shadow_commit.specs.Caching.{AreCached};
 ghost use Rattle.shadow_commit.specs.Handing.{Adds, Stops, OnlyAdds};
 ghost use Rattle.shadow_commit.specs.NewTree.{AreNodesOver};
 ghost use Rattle.shadow_commit.specs.CanSeal.{CanSeal, CanSealChild};
+ghost use Rattle.shadow_commit.specs.LetGo.{HaveNoKey};
 
 use btree_twigs::{Child, Twig};
 use btree_walk::NodeReader;
@@ -110,13 +111,22 @@ fn add(entries: &mut Vec<Entry>, entry: Entry)
 
 /// Lets the entries go from a place on, once zeros are written over their keys: none is left in the room.
 fn let_go(entries: &mut Vec<Entry>, begin: usize)
+    requires { begin ≤ vec_len entries.old }
     ensures items { entries.new.items ≡ take begin entries.old.items }
     ensures capacity { vec_capacity entries.old ≤ vec_capacity entries.new }
 {
-    for at in begin..entries.len() {
-        entries[at].key = Key::from_bytes([0; 32]);
-    }
+    let (_, gone) = entries.split_at_mut(begin);
+    wipe_keys(gone);
     entries.truncate(begin);
+}
+
+/// Writes zeros over the key of each entry.
+fn wipe_keys(entries: &mut [Entry])
+    ensures { HaveNoKey entries.new }
+{
+    for entry in entries.iter_mut() {
+        entry.key = Key::from_bytes([0; 32]);
+    }
 }
 
 /// The entry of a child on the medium.
