@@ -1,11 +1,12 @@
 -- Whom a request blames that halts a run.
-use Rattle.std.proofs.Common.{◌≡◌, ◌≤◌, ◌<◌, ◌∙◌, refl, ℕ, Bool, List, Option, None, Some, Result, Ok, Err, [], inl, inr, ap, sym, subst, arith}
+use Rattle.std.proofs.Common.{◌≡◌, ◌≢◌, ◌≤◌, ◌<◌, ◌∙◌, refl, ℕ, Bool, List, Option, None, Some, Result, Ok, Err, [], inl, inr, ap, sym, subst, arith}
 use Rattle.std.proofs.lemmas.Bool.{cases_lt}
 use Rattle.std.specs.Prelude.{IfErr, IfOk, IfSome}
 use Rattle.nbd_lang.specs.declared.requests.Request.{Request}
 use Rattle.nbd_lang.specs.declared.requests.RequestKind.{RequestKind}
 use Rattle.nbd_lang.specs.declared.requests.RequestKind.TheVariants as kinds
 use Rattle.nbd_lang.specs.declared.replies.Outcome.{Outcome}
+use Rattle.nbd_lang.specs.declared.replies.Outcome.TheVariants as outcomes
 use Rattle.sdbt_base.specs.declared.tapes.Tape.{Ghosts as TapeGhosts}
 use Rattle.platform.specs.declared.platforms.Platform.{Ghosts as PlatformGhosts}
 use Rattle.session_calls.specs.Commits.{LeftAt}
@@ -165,6 +166,18 @@ given_ends kind outcome (Ok it) comes is halted = subst (MayCome kind) (sym is) 
 given_ends kind outcome (Err halt) comes is halted = halted
 
 -- a call for a block that stopped in a write, and has none
+-- and one that no want of memory stopped has no reply that says so
+pub stop_lacks : (Lacks : Type 0) (stop : DeviceStop) (result : Result Outcome Halt) → stop ≢ device.Memory → result ≡ outcome_after stop → IfOk result (λ outcome. outcome ≡ outcomes.NoMemory → Lacks)
+stop_lacks Lacks stop result not is = subst (λ (r : Result Outcome Halt). IfOk r (λ outcome. outcome ≡ outcomes.NoMemory → Lacks)) (sym is) (by stop not)
+  where
+    by : (s : DeviceStop) → s ≢ device.Memory → IfOk (outcome_after s) (λ outcome. outcome ≡ outcomes.NoMemory → Lacks)
+    by device.Memory not = absurd (not refl)
+    by (device.BadRecord addr) not = λ same. absurd cc
+    by device.Platform not = tt
+    by device.Tape not = tt
+    by device.Ledger not = tt
+    by device.BadRoot not = tt
+
 pub write_halts : (stop : DeviceStop) (halt : Halt) → IsOfCall stop → Err halt ≡ outcome_after stop → MayHalt kinds.Write None halt
 write_halts device.Platform halt of is = let same : halt ≡ halts.Platform = cc in subst (MayHalt kinds.Write None) (sym same) refl
 write_halts device.Tape halt of is = let same : halt ≡ halts.Tape = cc in subst (MayHalt kinds.Write None) (sym same) (refl, tt)

@@ -64,7 +64,7 @@ left_blocks kind refused halts.Ledger needed may other = refl
 left_blocks kind refused halts.BadRoot needed may other = refl
 left_blocks kind refused halts.NoDevice needed may other = refl
 
-no_commit : (kind : RequestKind) → kind ≢ kinds.Disconnect → kind ≢ kinds.Flush → IsOfCommit kind → ⊥
+pub no_commit : (kind : RequestKind) → kind ≢ kinds.Disconnect → kind ≢ kinds.Flush → IsOfCommit kind → ⊥
 no_commit kinds.Flush disconnect flush of = flush refl
 no_commit kinds.Disconnect disconnect flush of = disconnect refl
 no_commit kinds.Read disconnect flush of = of

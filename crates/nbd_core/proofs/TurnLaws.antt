@@ -29,7 +29,7 @@ use Rattle.nbd_lang.specs.declared.requests.RequestKind.TheVariants as kinds
 use Rattle.device_course.specs.Held.{Held, IsHeld, after_commit, device_of, state_of, trim_all}
 use Rattle.nbd_terms.specs.Bytes.{after_trims, after_writes, size_of}
 use Rattle.device_course.specs.Leading.{Leads, Led, last_of, marks_of}
-use Rattle.nbd_terms.specs.Turn.{Answers, Flushes, Reads, Serves, Trims, Turn, Writes}
+use Rattle.nbd_terms.specs.Turn.{Answers, Flushes, HasToCommit, Reads, Serves, Trims, Turn, Writes}
 use Rattle.device_course.proofs.LeadingLaws.{last_of-append, leads_append}
 use Rattle.session_calls.specs.Commits.{AnswersCommit, AnswersReply, CommitLeads, ReplyLeads, StopsAt}
 use Rattle.session_calls.proofs.HeldLaws.{commit_stopped, committed_held, refused_held}
@@ -39,9 +39,8 @@ use Rattle.session_calls.specs.declared.stops.DeviceStop.TheVariants as device
 use Rattle.nbd_core.specs.Arrays.{DidSome, ReadsBytes, WroteRange}
 use Rattle.nbd_core.specs.Halts.{commit_halt, commit_outcome, outcome_after}
 use Rattle.nbd_core.specs.Serving.{bytes_of_reply, reply_of}
-use Rattle.nbd_core.specs.Requests.{DataEnd}
 use Rattle.device_course.specs.Course.{MadeBetween}
-use Rattle.nbd_core.specs.Turns.{Ended, Flushed, FlushedTo, Halted, HaltsAt, LeadsOn, OnArray, Performs, Turned}
+use Rattle.nbd_core.specs.Turns.{Ended, Flushed, FlushedTo, Halted, HaltsAt, IsOfCommit, LeadsOn, MayHalt, OnArray, Performs, Turned}
 use Rattle.nbd_core.specs.declared.serving.Performed.{Performed}
 use Rattle.nbd_core.specs.declared.halts.Halt.{Halt}
 use Rattle.nbd_core.specs.declared.halts.Halt.TheVariants as halts
@@ -303,7 +302,9 @@ pub commit_halted : {S R W : Type 0} (P : PlatformGhosts S) (T : TapeGhosts R) (
     → IsServedImage (P.history platform_now).present → CommitLeads (P.history platform) (P.history platform_now) entry.device entry.session (Err stop)
     → Halted (around P T L platform tape ledger) (around P T L platform_now tape_now ledger_now) entry kinds.Flush halt
 commit_halted P T L platform platform_now tape tape_now ledger ledger_now session stop halt entry there_open e held stops_at served led =
-    let stopped = commit_stopped P T platform platform_now tape tape_now session stop entry (λ ahead s. HaltsAt (P.capacity platform) entry kinds.Flush ahead (commit_halt s)) (inl refl, refl, refl, refl)
+    let needs = needs_of session (P.history platform).present (P.head platform) entry there_open held in
+    let can : HasToCommit (P.capacity platform) entry = record { touched = sym held.at.there.session.1 ∙ stops_at.touched; needed = needed_by session; needs = needs; room = omega (arith, stops_at.room, held.pages) } in
+    let stopped = commit_stopped P T platform platform_now tape tape_now session stop entry (λ ahead s. HaltsAt (P.capacity platform) entry kinds.Flush ahead (commit_halt s)) (inl refl, refl, (refl, can), (refl, can))
     (λ needed needs room. inr (tt, after_commit entry needed, refl, (needed, needs, room, refl))) there_open held stops_at served led in
     subst (λ (h : Halt). Halted (around P T L platform tape ledger) (around P T L platform_now tape_now ledger_now) entry kinds.Flush h) (sym e) (record { ahead = stopped.0; is = stopped.1; made = stopped.2 })
 
@@ -379,21 +380,22 @@ blocks_turned old new session now entry request outcome refused gone room held i
       made = subst (λ (d : Device). MadeBetween old.history new.history entry.device (Some d ∷ []) d) (sym same) again;
     }
 
-halts_still : (capacity : ℕ) (entry : Held) (kind : RequestKind) (left : Option (List ℕ)) (count : ℕ) (came : List ℕ) (halt : Halt) → DataEnd left count came halt → HaltsAt capacity entry kind [] halt
-halts_still capacity entry kind left count came halts.Platform ends = inl refl
-halts_still capacity entry kind left count came halts.Unfinished ends = absurd ends
-halts_still capacity entry kind left count came halts.Tape ends = refl
-halts_still capacity entry kind left count came halts.Ledger ends = refl
-halts_still capacity entry kind left count came halts.Memory ends = refl
-halts_still capacity entry kind left count came halts.BadRoot ends = refl
-halts_still capacity entry kind left count came halts.NoDevice ends = refl
-halts_still capacity entry kind left count came (halts.Client stop) ends = refl
+-- the ledger, and want of memory, halt none of these
+halts_still : (capacity : ℕ) (entry : Held) (kind : RequestKind) (refused : Option Outcome) (halt : Halt) → MayHalt kind refused halt → (refused ≡ None → IsOfCommit kind → ⊥) → HaltsAt capacity entry kind [] halt
+halts_still capacity entry kind refused halts.Platform may other = inl refl
+halts_still capacity entry kind refused halts.Unfinished may other = absurd may
+halts_still capacity entry kind refused halts.Tape may other = refl
+halts_still capacity entry kind refused halts.Ledger may other = absurd (other may.0 may.1)
+halts_still capacity entry kind refused halts.Memory may other = absurd (other may.0 may.1)
+halts_still capacity entry kind refused halts.BadRoot may other = refl
+halts_still capacity entry kind refused halts.NoDevice may other = refl
+halts_still capacity entry kind refused (halts.Client stop) may other = refl
 
-pub blocks_halted : (old new : Outside) (session : Session) (entry : Held) (kind : RequestKind) (left : Option (List ℕ)) (count : ℕ) (came : List ℕ) (halt : Halt) → IsHeld old.history.present old.head session entry → DataEnd left count came halt → CellStays old.history new.history
+pub blocks_halted : (old new : Outside) (session : Session) (entry : Held) (kind : RequestKind) (refused : Option Outcome) (halt : Halt) → IsHeld old.history.present old.head session entry → MayHalt kind refused halt → (refused ≡ None → IsOfCommit kind → ⊥) → CellStays old.history new.history
     → Halted old new entry kind halt
-blocks_halted old new session entry kind left count came halt held ends stays = record {
+blocks_halted old new session entry kind refused halt held may other stays = record {
   ahead = [];
-  is = halts_still old.capacity entry kind left count came halt ends;
+  is = halts_still old.capacity entry kind refused halt may other;
   made = made_kept old.history new.history entry.device held.at.there.device held.at.served stays;
 }
 

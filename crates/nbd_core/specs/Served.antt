@@ -16,7 +16,7 @@ use Rattle.nbd_lang.specs.declared.requests.RequestKind.{RequestKind}
 use Rattle.nbd_lang.specs.declared.requests.RequestKind.TheVariants as kinds
 use Rattle.device_course.specs.Held.{Held}
 use Rattle.nbd_terms.specs.Bytes.{size_of}
-use Rattle.nbd_terms.specs.Turn.{Turn, Ends, IsUnfinished}
+use Rattle.nbd_terms.specs.Turn.{Turn, Ends, HasToCommit, IsUnfinished}
 use Rattle.nbd_core.specs.Ample.{Completes, HasRoom}
 use Rattle.nbd_core.specs.Damages.{TellsTrue, ToldTrue}
 use Rattle.nbd_core.specs.Exchanges.{Exchange, sent_of, told_of}
@@ -114,7 +114,8 @@ IsCommit rest = (request : Request) × (more : List ℕ) × IsOfCommit request.k
 
 -- the state that lies ahead of the last one when requests ended, if one does: that of a disconnect
 -- that was served; that of a request of which the reply was put in part; or, where the platform failed
--- in its commit, perhaps that of a flush or a disconnect
+-- in its commit, perhaps that of a flush or a disconnect. Where the ledger failed, or no memory was given, there
+-- was something to commit in the last one
 abbrev pub IsAhead : ℕ → ℕ → List ℕ → List ℕ → List ℕ → Result (Unit {0}) Halt → Held → List Held → Type 0
 IsAhead capacity size rest tail part (Ok done) last ahead = ((rest ≡ []) × (ahead ≡ [])) ⊎ (IsGoodbye rest tail × (next : Held) × (ahead ≡ next ∷ []) × Ends capacity last next)
 IsAhead capacity size rest tail part (Err (halts.Client stops.Sink)) last ahead = (cut : IsCutOff size rest tail part) × (next : Held) × (ahead ≡ next ∷ []) × Turn capacity last cut.exchange.sent cut.exchange.reply next
@@ -124,8 +125,8 @@ IsAhead capacity size rest tail part (Err (halts.Client stops.Source)) last ahea
 IsAhead capacity size rest tail part (Err (halts.Client stops.Limit)) last ahead = ahead ≡ []
 IsAhead capacity size rest tail part (Err (halts.Client stops.Broken)) last ahead = ahead ≡ []
 IsAhead capacity size rest tail part (Err halts.Tape) last ahead = ahead ≡ []
-IsAhead capacity size rest tail part (Err halts.Ledger) last ahead = ahead ≡ []
-IsAhead capacity size rest tail part (Err halts.Memory) last ahead = ahead ≡ []
+IsAhead capacity size rest tail part (Err halts.Ledger) last ahead = (ahead ≡ []) × HasToCommit capacity last
+IsAhead capacity size rest tail part (Err halts.Memory) last ahead = (ahead ≡ []) × HasToCommit capacity last
 IsAhead capacity size rest tail part (Err halts.BadRoot) last ahead = ⊥
 IsAhead capacity size rest tail part (Err halts.NoDevice) last ahead = ⊥
 

@@ -17,7 +17,7 @@ use Rattle.nbd_lang.specs.declared.requests.RequestKind.{RequestKind}
 use Rattle.nbd_lang.specs.declared.requests.RequestKind.TheVariants as kinds
 use Rattle.device_course.specs.Held.{Held, IsHeld, device_of}
 use Rattle.device_course.specs.Leading.{Led, last_of, marks_of}
-use Rattle.nbd_terms.specs.Turn.{Turn, Ends, Flushes, IsUnfinished}
+use Rattle.nbd_terms.specs.Turn.{Turn, Ends, Flushes, HasToCommit, IsUnfinished}
 use Rattle.nbd_core.specs.Serving.{reply_of}
 use Rattle.nbd_core.specs.declared.halts.Halt.{Halt}
 use Rattle.nbd_core.specs.declared.halts.Halt.TheVariants as halts
@@ -110,13 +110,14 @@ abbrev pub BeginsWith : ℕ → (RequestKind → Type 0) → List ℕ → Type 0
 BeginsWith size Is bytes = (request : Request) × (more : List ℕ) × (refusal size request ≡ None) × Is request.kind × (bytes ≡ request_head request ++ more)
 
 -- what a request led to that halted the run: nothing; or, where the platform failed in a commit, it may
--- be the commit's state. Where too few pages are free for the commit of a disconnect, they are
+-- be the commit's state. Where too few pages are free for the commit of a disconnect, they are; and where the
+-- ledger failed, or no memory was given, there was something to commit
 abbrev pub HaltsAt : ℕ → Held → RequestKind → List Held → Halt → Type 0
 HaltsAt capacity entry kind ahead halts.Platform = (ahead ≡ []) ⊎ (IsOfCommit kind × (next : Held) × (ahead ≡ next ∷ []) × Ends capacity entry next)
 HaltsAt capacity entry kind ahead halts.Unfinished = (ahead ≡ []) × IsUnfinished capacity entry
 HaltsAt capacity entry kind ahead halts.Tape = ahead ≡ []
-HaltsAt capacity entry kind ahead halts.Ledger = ahead ≡ []
-HaltsAt capacity entry kind ahead halts.Memory = ahead ≡ []
+HaltsAt capacity entry kind ahead halts.Ledger = (ahead ≡ []) × HasToCommit capacity entry
+HaltsAt capacity entry kind ahead halts.Memory = (ahead ≡ []) × HasToCommit capacity entry
 HaltsAt capacity entry kind ahead halts.BadRoot = ahead ≡ []
 HaltsAt capacity entry kind ahead halts.NoDevice = ahead ≡ []
 HaltsAt capacity entry kind ahead (halts.Client stop) = ahead ≡ []

@@ -1,5 +1,5 @@
 //! Reads.
-ghost use Rattle.std.specs.Prelude.{Some, ◌≡◌, ◌+◌, ◌*◌, ◌≤◌, ◌<◌, ℕ, IfErr, IfOk, IsTrue, length, max};
+ghost use Rattle.std.specs.Prelude.{Some, false, ◌≡◌, ◌≢◌, ◌+◌, ◌*◌, ◌≤◌, ◌<◌, ℕ, IfErr, IfOk, IsTrue, length, max};
 ghost use Rattle.device_session.specs.Open.{IsOpen, blocks_of};
 ghost use Rattle.session_calls.specs.Along.{Along, Drawn};
 ghost use Rattle.sdbt_base.specs.Counts.{Counts};
@@ -45,6 +45,9 @@ pub(crate) fn read<P: Platform>(
     ensures comes { IfOk result (MayCome RequestKind.Read) }
     ensures room { IfOk result (λ outcome. outcome ≡ Outcome.Done
         → 16 + request.now.length ≤ length reply.new.items) }
+    // Memory is wanted for the reply alone, where there is no room for it.
+    ensures lacks { IfOk result (λ outcome. outcome ≡ Outcome.NoMemory
+        → length reply.old.items < 16 + request.now.length) }
     ensures leads { LeadsOn P.Platform platform.old platform.new session.old session.new
         (λ outcome entry next. Reads entry request.now outcome
         (bytes_of_reply RequestKind.Read request.now.length outcome reply.new.items) next) result }
@@ -73,6 +76,7 @@ pub(crate) fn read<P: Platform>(
 /// Whether so many bytes are there, or could be added; no more are taken than these.
 fn has_room(reply: &mut Vec<u8>, count: usize) -> bool
     ensures there { IsTrue result → count ≤ length reply.new.items }
+    ensures lacks { result ≡ false → length reply.old.items < count }
     ensures most { length reply.new.items ≤ max count (length reply.old.items) }
 {
     count <= reply.len() || reply.resize(count, 0).is_ok()
@@ -91,6 +95,7 @@ fn read_range<P: Platform>(
     ensures calls { (drawn : Drawn) → Calls P.Platform 0
         (reads_at RequestKind.Read at (length out.old)) platform.old platform.new drawn drawn
         session.old session.new result }
+    ensures memory { IfErr result (λ stop. stop ≢ DeviceStop.Memory) }
     ensures size { length out.new ≡ length out.old }
     ensures reads { P.tells → (device : Device) (array : OpenSession)
         → IsAt (P.history platform.old).present (Some session.old) (mounted device array)
@@ -126,6 +131,7 @@ fn read_part<P: Platform>(
     requires within { part.block < blocks_of session.old }
     ensures calls { (drawn : Drawn) → Calls P.Platform 0 21 platform.old platform.new drawn drawn
         session.old session.new result }
+    ensures memory { IfErr result (λ stop. stop ≢ DeviceStop.Memory) }
     ensures size { length out.new ≡ length out.old }
     ensures reads { P.tells → (device : Device) (array : OpenSession)
         → IsAt (P.history platform.old).present (Some session.old) (mounted device array)

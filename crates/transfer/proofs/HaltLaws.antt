@@ -1,5 +1,5 @@
 -- Which record a halt names.
-use Rattle.std.proofs.Common.{◌≡◌, ◌∙◌, ℕ, List, Option, Result, Ok, Err, inl, inr, sym, ap, subst}
+use Rattle.std.proofs.Common.{◌≡◌, ◌≢◌, ◌<◌, ◌∙◌, ℕ, List, Option, Result, Ok, Err, inl, inr, refl, sym, ap, subst, arith}
 use Rattle.std.specs.Prelude.{◌⊎◌, IfErr}
 use Rattle.std.specs.Result.{IsErrAnd}
 use Rattle.std.proofs.lemmas.Result.{err_from_is_err_and}
@@ -11,6 +11,7 @@ use Rattle.device_session.specs.declared.refusals.CommitReply.{CommitReply}
 use Rattle.device_session.specs.declared.refusals.CommitReply.TheVariants as replies
 use Rattle.session_calls.specs.Commits.{LeftAt}
 use Rattle.session_calls.specs.Damage.{IsMiscountedAt, IsWrongNode, ReadsAny, WritesAny}
+use Rattle.session_calls.specs.Goes.{AddsBlock}
 use Rattle.session_calls.specs.Mounts.{IsMountStop}
 use Rattle.session_calls.specs.declared.stops.DeviceStop.{DeviceStop}
 use Rattle.session_calls.specs.declared.stops.DeviceStop.TheVariants as stops
@@ -18,7 +19,7 @@ use Rattle.session_calls.proofs.NodeLaws.{node_or}
 use Rattle.transfer.specs.Counts.{Counts}
 use Rattle.transfer.specs.Halts.{Blames}
 use Rattle.transfer.specs.Listing.{IsListStop}
-use Rattle.transfer.specs.Running.{HaltsFrom, HaltsTo, IsBehindBoth, IsBehindMount, IsNumberOf, IsOfCommit, IsOfOpening, IsWrongThere, MeetsWrong}
+use Rattle.transfer.specs.Running.{HaltsFrom, HaltsTo, IsBehindBoth, IsBehindMount, IsNumberOf, IsOfCommit, IsOfOpening, IsWrongThere, MeetsWrong, WantsNoMemory}
 use Rattle.transfer.specs.declared.halts.Halt.{Halt}
 use Rattle.transfer.specs.declared.halts.Halt.TheVariants as halts
 use Rattle.transfer.proofs.BlameLaws.{blames_done, blames_halt}
@@ -40,6 +41,26 @@ read_to tells Mounted mounted image after session block bytes stops.Ledger any =
 read_to tells Mounted mounted image after session block bytes stops.BadRoot any = absurd any
 read_to tells Mounted mounted image after session block bytes (stops.BadRecord addr) any = λ told. inr (inr (any (told, mounted told), tt))
 
+-- for which no memory is wanted
+pub read_memory_from : (Known : Type 0) (image after : Image) (session : Session) (block : ℕ) (bytes : List ℕ) (stop : DeviceStop) → ReadsAny Known image after session block bytes (Err stop) → WantsNoMemory (halts.From stop)
+read_memory_from Known image after session block bytes stops.Platform any = (λ is. absurd cc, λ is. absurd cc)
+read_memory_from Known image after session block bytes stops.Memory any = absurd any
+read_memory_from Known image after session block bytes stops.Tape any = absurd any
+read_memory_from Known image after session block bytes stops.Ledger any = absurd any
+read_memory_from Known image after session block bytes stops.BadRoot any = absurd any
+read_memory_from Known image after session block bytes (stops.BadRecord addr) any = (λ is. absurd cc, λ is. absurd cc)
+
+pub read_memory_to : (Known : Type 0) (image after : Image) (session : Session) (block : ℕ) (bytes : List ℕ) (stop : DeviceStop) → ReadsAny Known image after session block bytes (Err stop) → WantsNoMemory (halts.To stop)
+read_memory_to Known image after session block bytes stops.Platform any = (λ is. absurd cc, λ is. absurd cc)
+read_memory_to Known image after session block bytes stops.Memory any = absurd any
+read_memory_to Known image after session block bytes stops.Tape any = absurd any
+read_memory_to Known image after session block bytes stops.Ledger any = absurd any
+read_memory_to Known image after session block bytes stops.BadRoot any = absurd any
+read_memory_to Known image after session block bytes (stops.BadRecord addr) any = (λ is. absurd cc, λ is. absurd cc)
+
+pub no_memory : (result : Result (Unit {0}) Halt) (halt : Halt) → WantsNoMemory halt → result ≡ Err halt → result ≡ Err (halts.To stops.Memory) → ⊥
+no_memory result halt wants is memory = wants.1 (let same : halt ≡ halts.To stops.Memory = cc in same)
+
 -- a write
 node_there : {More : Type 0} (image : Image) (addr : ℕ) → IsWrongNode image addr ⊎ (IsMiscountedAt image addr × More) → IsWrongThere ⊥ image addr
 node_there image addr (inl node) = inl node
@@ -52,6 +73,16 @@ write_to tells Mounted mounted image after session block stops.Tape any = tt
 write_to tells Mounted mounted image after session block stops.Ledger any = absurd any
 write_to tells Mounted mounted image after session block stops.BadRoot any = absurd any
 write_to tells Mounted mounted image after session block (stops.BadRecord addr) any = λ told. node_there after addr (any (told, mounted told))
+
+-- which wants memory only where a page is free
+pub write_room : {S R : Type 0} (P : PlatformGhosts S) (T : TapeGhosts R) (platform platform_now : S) (tape tape_now : R) (stop : DeviceStop) → AddsBlock P T platform platform_now tape tape_now (Err stop) → P.head platform < P.capacity platform
+    → P.capacity platform_now ≡ P.capacity platform → stop ≡ stops.Memory → P.head platform_now < P.capacity platform_now
+write_room P T platform platform_now tape tape_now stops.Memory adds free same is = omega (arith, adds.head, free, same)
+write_room P T platform platform_now tape tape_now stops.Platform adds free same is = absurd cc
+write_room P T platform platform_now tape tape_now stops.Tape adds free same is = absurd cc
+write_room P T platform platform_now tape tape_now stops.Ledger adds free same is = absurd cc
+write_room P T platform platform_now tape tape_now stops.BadRoot adds free same is = absurd cc
+write_room P T platform platform_now tape tape_now (stops.BadRecord addr) adds free same is = absurd cc
 
 -- a listing
 pub list_from : (tells Mounted : Type 0) (mounted : tells → Mounted) (image : Image) (stop : DeviceStop) → IsListStop (tells × Mounted) image stop → HaltsFrom tells image (halts.From stop)
@@ -102,6 +133,11 @@ commit_to P T platform platform_now tape tape_now (stops.BadRecord addr) left = 
 pub number_commit : (reply : CommitReply) (result : Result ℕ Halt) → IsNumberOf reply result → IfErr result IsOfCommit
 number_commit (replies.Committed number) result is = subst (λ (r : Result ℕ Halt). IfErr r IsOfCommit) (sym is) tt
 number_commit (replies.Full needed free) result is = subst (λ (r : Result ℕ Halt). IfErr r IsOfCommit) (sym is) tt
+
+-- where a commit was answered, it halts at too few pages alone
+pub number_full : (Room : Type 0) (reply : CommitReply) (result : Result ℕ Halt) → IsNumberOf reply result → IfErr result (λ halt. halt ≢ halts.Full → Room)
+number_full Room (replies.Committed number) result is = subst (λ (r : Result ℕ Halt). IfErr r (λ halt. halt ≢ halts.Full → Room)) (sym is) tt
+number_full Room (replies.Full needed free) result is = subst (λ (r : Result ℕ Halt). IfErr r (λ halt. halt ≢ halts.Full → Room)) (sym is) (λ other. absurd (other refl))
 
 pub number_blamed : (before now : Counts) (reply : CommitReply) (result : Result ℕ Halt) → now ≡ before → IsNumberOf reply result → Blames before now result
 number_blamed before now (replies.Committed number) result same is = subst (Blames before now) (sym is) (blames_done before now number same)

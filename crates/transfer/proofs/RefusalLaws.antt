@@ -1,5 +1,5 @@
 -- When a move is refused, on any images.
-use Rattle.std.proofs.Common.{◌≡◌, ◌<◌, ◌≤◌, ◌+◌, ◌*◌, ◌∙◌, ◌-◌, ℕ, Option, None, Some, Bool, true, false, Result, Ok, Err, refl, sym, ap, subst, arith}
+use Rattle.std.proofs.Common.{◌≡◌, ◌≢◌, ◌<◌, ◌≤◌, ◌+◌, ◌*◌, ◌∙◌, ◌-◌, ℕ, Option, None, Some, Bool, true, false, Result, Ok, Err, refl, sym, ap, subst, arith}
 use Rattle.std.specs.Prelude.{IfErr, IfOk, IsTrue}
 use Rattle.sdbt_base.specs.Arrays.{Device, mounted, new_device, session_on}
 use Rattle.sdbt_base.specs.Counts as device
@@ -17,7 +17,7 @@ use Rattle.page_store.specs.Kept.{IsRootOf}
 use Rattle.device_session.specs.Open.{IsOpen, blocks_of, root_of}
 use Rattle.device_session.specs.Reading.{room_of}
 use Rattle.device_session.specs.Sessions.{Session}
-use Rattle.session_calls.specs.Mounts.{IsFound}
+use Rattle.session_calls.specs.Mounts.{IsFound, IsMountStop}
 use Rattle.session_calls.specs.declared.stops.DeviceStop.{DeviceStop}
 use Rattle.session_calls.specs.declared.stops.DeviceStop.TheVariants as stops
 use Rattle.transfer.specs.Moving.{Refuses, Refusing}
@@ -316,10 +316,27 @@ not_behind tells image mid free room (Ok x) same size none = tt
 not_behind tells image mid free room (Err halt) same size none = λ told. subst (λ (i : Image). OpensNot i free halt) (same told) (subst (λ (n : ℕ). OpensNot mid n halt) size (none told))
 
 pub format_opens_not : {S R : Type 0} (P : PlatformGhosts S) (T : TapeGhosts R) (platform platform_now : S) (tape tape_now : R) (before now : device.Counts) (refusal : FormatRefusal) → IsFormatCause P T platform platform_now tape tape_now before now (Err refusal) → P.tells
-    → (P.history platform).present.cell ≡ None → OpensNot (P.history platform).present (P.capacity platform - P.head platform) (halt_of_format refusal)
-format_opens_not P T platform platform_now tape tape_now before now format.NotEmpty cause told empty = absurd (cause.0 told empty)
-format_opens_not P T platform platform_now tape tape_now before now format.Full cause told empty = (empty, omega (arith, cause.1))
-format_opens_not P T platform platform_now tape tape_now before now format.Memory cause told empty = tt
-format_opens_not P T platform platform_now tape tape_now before now format.TapeFault cause told empty = tt
-format_opens_not P T platform platform_now tape tape_now before now format.PlatformFault cause told empty = tt
-format_opens_not P T platform platform_now tape tape_now before now format.LedgerFault cause told empty = tt
+    → (P.history platform).present.cell ≡ None → P.head platform ≤ P.capacity platform → OpensNot (P.history platform).present (P.capacity platform - P.head platform) (halt_of_format refusal)
+format_opens_not P T platform platform_now tape tape_now before now format.NotEmpty cause told empty within = absurd (cause.0 told empty)
+format_opens_not P T platform platform_now tape tape_now before now format.Full cause told empty within = (empty, omega (arith, cause.1))
+format_opens_not P T platform platform_now tape tape_now before now format.Memory cause told empty within = λ is none. cause.1 (omega (arith, none, within))
+format_opens_not P T platform platform_now tape tape_now before now format.TapeFault cause told empty within = tt
+format_opens_not P T platform platform_now tape tape_now before now format.PlatformFault cause told empty within = tt
+format_opens_not P T platform platform_now tape tape_now before now format.LedgerFault cause told empty within = tt
+
+-- a mount that stopped: at a root record, or behind a format, for which a page was free
+pub mount_opens_not : (tells : Type 0) (image : Image) (pages free : ℕ) (stop : DeviceStop) → tells → IsMountStop tells image.cell pages stop → OpensNot image free (halts.To stop)
+mount_opens_not tells image pages free stops.Platform told is = tt
+mount_opens_not tells image pages free stops.Memory told is = λ empty. absurd (let no : None ≡ Some (root_bytes (is told).0) = sym empty ∙ (is told).2 in cc)
+mount_opens_not tells image pages free stops.BadRoot told is = tt
+mount_opens_not tells image pages free stops.Tape told is = tt
+mount_opens_not tells image pages free stops.Ledger told is = tt
+mount_opens_not tells image pages free (stops.BadRecord addr) told is = tt
+
+pub made_opens_not : (image : Image) (free : ℕ) (stop : DeviceStop) → free ≢ 0 → OpensNot image free (halts.To stop)
+made_opens_not image free stops.Platform some = tt
+made_opens_not image free stops.Memory some = λ empty. some
+made_opens_not image free stops.BadRoot some = tt
+made_opens_not image free stops.Tape some = tt
+made_opens_not image free stops.Ledger some = tt
+made_opens_not image free (stops.BadRecord addr) some = tt

@@ -9,6 +9,7 @@ use Rattle.btree_walk.specs.Finds.{Finds}
 use Rattle.device_session.specs.Open.{is_touched, root_of}
 use Rattle.device_session.specs.Reading.{ReadsAs}
 use Rattle.device_session.specs.Sessions.{Session}
+use Rattle.session_calls.specs.declared.stops.DeviceStop.TheVariants as device
 use Rattle.transfer.specs.Running.{IsBehindBoth}
 use Rattle.transfer.specs.Whole.{HasBlocks, IsFreshRoot}
 use Rattle.transfer.specs.declared.halts.Halt.{Halt}
@@ -74,10 +75,12 @@ abbrev pub IsOn : Image → ℕ → ℕ → Bool → Session → Type 0
 IsOn image blocks order false session = IsRootOf image (root_of session)
 IsOn image blocks order true session = (image.cell ≡ None) × IsFreshRoot blocks order (root_of session)
 
--- a halt at which no session is open on the second platform: no device is refused there, and too few pages are free where none is and there is no device
+-- a halt at which no session is open on the second platform: no device is refused there, and too few pages are free where none is and there is no device; memory is wanted for a new device
+-- only where a page is free
 abbrev pub OpensNot : Image → ℕ → Halt → Type 0
 OpensNot image free halts.NotEmpty = ⊥
 OpensNot image free halts.Full = (image.cell ≡ None) × (free ≡ 0)
+OpensNot image free (halts.To device.Memory) = image.cell ≡ None → free ≢ 0
 OpensNot image free _ = Unit {0}
 
 -- a halt behind the mount of both devices at which they were only read, and one of a copy

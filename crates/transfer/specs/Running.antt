@@ -1,5 +1,5 @@
 -- What a run leaves of both platforms.
-use Rattle.std.specs.Prelude.{◌≡◌, ◌≤◌, ◌⊎◌, ℕ, List, [], ◌∷◌, Option, None, Some, Result, Ok, Err}
+use Rattle.std.specs.Prelude.{◌≡◌, ◌≢◌, ◌≤◌, ◌⊎◌, ℕ, List, [], ◌∷◌, Option, None, Some, Result, Ok, Err}
 use Rattle.sdbt_base.specs.Arrays.{Device, State, closed, mounted, new_device, session_on}
 use Rattle.platform.specs.declared.platforms.Platform.{Ghosts as PlatformGhosts}
 use Rattle.platform.specs.Image.{Image}
@@ -120,6 +120,10 @@ HaltsTo tells Compared image (halts.To device.Tape) = Unit {0}
 HaltsTo tells Compared image (halts.To device.Ledger) = Unit {0}
 HaltsTo tells Compared image (halts.To device.Memory) = Unit {0}
 HaltsTo tells Compared image _ = ⊥
+
+-- a halt that isn't for want of memory
+abbrev pub WantsNoMemory : Halt → Type 0
+WantsNoMemory halt = (halt ≢ halts.From device.Memory) × (halt ≢ halts.To device.Memory)
 
 -- a halt at which no session is open on the second platform: no record is named
 abbrev pub IsOfOpening : Halt → Type 0

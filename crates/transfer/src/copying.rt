@@ -1,7 +1,7 @@
 //! The copying of blocks from one session to another, and its commit.
-ghost use Rattle.std.specs.Prelude.{◌≡◌, ◌-◌, ◌*◌, ◌<◌, ◌∷◌, [], ℕ, All, None, Some, Err, IfErr, IsOk, OnOk, length};
+ghost use Rattle.std.specs.Prelude.{◌≡◌, ◌≢◌, ◌-◌, ◌*◌, ◌<◌, ◌≤◌, ◌∷◌, [], ℕ, true, All, None, Some, Err, IfErr, IsOk, OnOk, length};
 ghost use Rattle.device_course.specs.States.{around};
-ghost use Rattle.device_session.specs.Open.{blocks_of, needed_by};
+ghost use Rattle.device_session.specs.Open.{blocks_of, is_touched, needed_by};
 ghost use Rattle.session_calls.specs.Along.{Along, Drawn, drawn_by};
 ghost use Rattle.session_calls.specs.Carrying.{Carries, IsReady};
 ghost use Rattle.transfer.specs.Counts.{counts};
@@ -19,7 +19,7 @@ use crate::sides::{read_source, write_target};
 use device_session::{CommitReply, Session};
 use platform::Platform;
 use sdbt_base::{BLOCK, Sink, Tape};
-use session_calls::commit_session;
+use session_calls::{DeviceStop, commit_session};
 
 /// Writes to one session what another one reads of each of these blocks, in their order.
 pub(crate) fn copy_blocks<P: Platform, Q: Platform, T: Tape>(
@@ -44,6 +44,8 @@ pub(crate) fn copy_blocks<P: Platform, Q: Platform, T: Tape>(
         → Copies (P.history from.new).present (Q.history to.new).present source.new target.new device there array
         (copied array.contents blocks.now other) result }
     ensures full { result ≡ Err Halt.Full → (0 < length blocks.now) × (Q.head to.new ≡ Q.capacity to.new) }
+    // Memory is wanted for a block only where a page is free for it.
+    ensures room { result ≡ Err (Halt.To DeviceStop.Memory) → Q.head to.new < Q.capacity to.new }
     ensures behind { IfErr result IsOfCopy }
     // On any pages: a look-up of each comes to one content on both, and the first session keeps its tree.
     ensures copies { (source.new.grove ≡ source.old.grove)
@@ -81,6 +83,7 @@ fn copy_block<P: Platform, Q: Platform, T: Tape>(
         → Copies (P.history from.new).present (Q.history to.new).present source.new target.new device there array
         (copy_block array.contents other block) result }
     ensures full { result ≡ Err Halt.Full → Q.head to.new ≡ Q.capacity to.new }
+    ensures room { result ≡ Err (Halt.To DeviceStop.Memory) → Q.head to.new < Q.capacity to.new }
     ensures behind { IfErr result IsOfCopy }
     // On any pages: a look-up of it comes to one content on both, and the first session keeps its tree.
     ensures copies { (source.new.grove ≡ source.old.grove)
@@ -107,6 +110,8 @@ pub(crate) fn commit_target<Q: Platform, T: Tape, L: Sink>(
     ensures blame { (from output : ℕ) → Blames (counts from (Q.faults to.old) (T.faults tape.old) output (L.faults ledger.old))
         (counts from (Q.faults to.new) (T.faults tape.new) output (L.faults ledger.new)) result }
     ensures full { result ≡ Err Halt.Full → Q.capacity to.old - Q.head to.old < needed_by target }
+    // Each other halt comes only where something was changed, and enough pages are free.
+    ensures room { IfErr result (λ halt. halt ≢ Halt.Full → (is_touched target ≡ true) × (needed_by target ≤ Q.capacity to.old - Q.head to.old)) }
     ensures wrong { IfErr result IsOfCommit }
     ensures unread { Q.tells → Q.reads to.new ≡ Q.reads to.old }
     ensures leads { Q.tells → (there : Device) (other : OpenSession) → IsAt (Q.history to.old).present (Some target) (mounted there other)

@@ -1,12 +1,12 @@
 //! Whether two devices have the same blocks.
-ghost use Rattle.std.specs.Prelude.{◌≡◌, ◌<◌, ◌≤◌, ◌*◌, ◌↔◌, All, Some, IfOk, IsTrue, length};
+ghost use Rattle.std.specs.Prelude.{◌≡◌, ◌<◌, ◌≤◌, ◌*◌, ◌↔◌, All, Some, IfErr, IfOk, IsTrue, length};
 ghost use Rattle.device_session.specs.Open.{blocks_of, number_of, root_of};
 ghost use Rattle.session_calls.specs.Carrying.{IsReady};
 ghost use Rattle.transfer.specs.Both.{AreReady, ReadsBoth};
 ghost use Rattle.sdbt_base.specs.Arrays.{Device, Session as OpenSession, content_of, mounted};
 ghost use Rattle.device_course.specs.States.{IsAt};
 ghost use Rattle.transfer.specs.Moving.{Matches};
-ghost use Rattle.transfer.specs.Running.{alone};
+ghost use Rattle.transfer.specs.Running.{WantsNoMemory, alone};
 ghost use Rattle.transfer.specs.Whole.{Compares, ComparesAll};
 
 use crate::halts::Halt;
@@ -44,6 +44,7 @@ pub(crate) fn has_same<P: Platform, Q: Platform>(
         → IsAt (Q.history to.old).present (Some target.old) (mounted there other)
         → Matches (P.history from.new).present (Q.history to.new).present source.new target.new device there array other
         (All (λ block. content_of array.contents block ≡ content_of other.contents block) blocks.now) result }
+    ensures memory { IfErr result WantsNoMemory }
     // On any pages: a look-up of each comes to one content on both, or those of one block to contents that differ.
     ensures same { IfOk result (ComparesAll P.tells Q.tells (P.history from.old).present (Q.history to.old).present source.old target.old blocks.now) }
 {
@@ -78,6 +79,7 @@ fn has_same_block<P: Platform, Q: Platform>(
         → IsAt (Q.history to.old).present (Some target.old) (mounted there other)
         → Matches (P.history from.new).present (Q.history to.new).present source.new target.new device there array other
         (content_of array.contents block ≡ content_of other.contents block) result }
+    ensures memory { IfErr result WantsNoMemory }
     // On any pages: the look-ups of it come to one content on both, or to contents that differ.
     ensures same { IfOk result (Compares P.tells Q.tells (P.history from.old).present (Q.history to.old).present source.old target.old block) }
     ensures size { length content.new ≡ 4096 }

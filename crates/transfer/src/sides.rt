@@ -11,7 +11,7 @@ ghost use Rattle.sdbt_base.specs.Arrays.{Device, Session as OpenSession, mounted
 ghost use Rattle.device_course.specs.States.{IsAt};
 ghost use Rattle.transfer.specs.Moving.{IsReadHalt, ReadsHere, WritesHere};
 ghost use Rattle.transfer.specs.Reads.{Walks};
-ghost use Rattle.transfer.specs.Running.{HaltsFrom, HaltsTo, alone};
+ghost use Rattle.transfer.specs.Running.{HaltsFrom, HaltsTo, WantsNoMemory, alone};
 ghost use Rattle.transfer.specs.Whole.{HasBlocks, ReadsTree};
 
 use crate::halts::Halt;
@@ -19,7 +19,7 @@ use crate::listing::list_blocks;
 use device_session::Session;
 use platform::Platform;
 use sdbt_base::Tape;
-use session_calls::{read_block, write_block};
+use session_calls::{DeviceStop, read_block, write_block};
 use std::alloc::Global;
 
 /// Reads a block of the device that is moved.
@@ -36,6 +36,7 @@ pub(crate) fn read_source<P: Platform>(
     ensures blame { (to tape output ledger : ℕ) → Blames (counts (P.faults from.old) to tape output ledger)
         (counts (P.faults from.new) to tape output ledger) result }
     ensures wrong { IfErr result (HaltsFrom P.tells (P.history from.new).present) }
+    ensures memory { IfErr result WantsNoMemory }
     ensures leads { P.tells → (there : Device) (array : OpenSession) → IsAt (P.history from.old).present (Some source.old) (mounted there array)
         → ReadsHere (P.history from.new).present source.new there array block out.new result }
     // On any pages: a block that doesn't fit is none of zeros.
@@ -63,6 +64,7 @@ pub(crate) fn read_target<Q: Platform>(
         (counts from (Q.faults to.new) tape output ledger) result }
     ensures full { result ≡ Err Halt.Full → ⊥ }
     ensures wrong { IfErr result (HaltsTo Q.tells (Unit {0}) (Q.history to.new).present) }
+    ensures memory { IfErr result WantsNoMemory }
     ensures leads { Q.tells → (there : Device) (array : OpenSession) → IsAt (Q.history to.old).present (Some target.old) (mounted there array)
         → ReadsHere (Q.history to.new).present target.new there array block out.new result }
     // On any pages: a block that doesn't fit is none of zeros, nor like another one.
@@ -90,6 +92,8 @@ pub(crate) fn write_target<Q: Platform, T: Tape>(
     ensures blame { (from output ledger : ℕ) → Blames (counts from (Q.faults to.old) (T.faults tape.old) output ledger)
         (counts from (Q.faults to.new) (T.faults tape.new) output ledger) result }
     ensures full { result ≡ Err Halt.Full → Q.head to.new ≡ Q.capacity to.new }
+    ensures short { Q.head to.old ≡ Q.capacity to.old → result ≡ Err Halt.Full }
+    ensures room { result ≡ Err (Halt.To DeviceStop.Memory) → Q.head to.new < Q.capacity to.new }
     // A record of a block is not read here.
     ensures wrong { IfErr result (HaltsTo Q.tells ⊥ (Q.history to.new).present) }
     ensures leads { Q.tells → (there : Device) (array : OpenSession) → IsAt (Q.history to.old).present (Some target.old) (mounted there array)

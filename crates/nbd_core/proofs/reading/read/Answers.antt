@@ -4,7 +4,7 @@ use Rattle.nbd_terms.specs.Bytes.{array_of}
 use Rattle.nbd_lang.specs.declared.requests.RequestKind.TheVariants.{Read}
 use Rattle.session_calls.proofs.AlongLaws.{along_start}
 use Rattle.session_calls.proofs.CallLaws.{along_more, draws_none, no_draw, platform_quiet}
-use Rattle.nbd_core.proofs.BlameLaws.{blame_done, blame_platform, platform_halts, stop_comes}
+use Rattle.nbd_core.proofs.BlameLaws.{blame_done, blame_platform, platform_halts, stop_comes, stop_lacks}
 use Rattle.nbd_core.proofs.DamageLaws.{stop_after}
 use Rattle.nbd_core.proofs.FoundLaws.{bytes_as, same_start}
 use Rattle.nbd_core.specs.Reads.{reads_at}
@@ -86,3 +86,6 @@ returns-in-Err-clause-damage g c told mounted =
 
 pub returns-in-Err-clause-comes : goal.returns-in-Err-clause-comes
 returns-in-Err-clause-comes g c = stop_comes Read c.in-Err.stop _ tt c.after_stop.ensures
+
+pub returns-in-Err-clause-lacks : goal.returns-in-Err-clause-lacks
+returns-in-Err-clause-lacks g c = stop_lacks _ c.in-Err.stop _ c.in-Err.ensures.memory c.after_stop.ensures

@@ -8,7 +8,7 @@ use Rattle.device_session.specs.Sessions.{Session}
 use Rattle.nbd_core.proofs.DataLaws.{data_over, data_went, no_data}
 use Rattle.nbd_core.proofs.BlameLaws.{blame_as, blame_on, ends_both, flush_comes, flush_may_halt}
 use Rattle.nbd_core.proofs.DamageLaws.{flush_says}
-use Rattle.nbd_core.proofs.NearLaws.{blocks_add, flush_adds}
+use Rattle.nbd_core.proofs.NearLaws.{blocks_add, flush_adds, no_commit}
 use Rattle.nbd_core.proofs.ReadLaws.{reads_refused}
 use Rattle.nbd_core.proofs.ShortLaws.{blocks_spend, flush_spends}
 use Rattle.nbd_core.proofs.TurnLaws.{blocks_halted, blocks_performed, flush_performed}
@@ -55,7 +55,11 @@ returns-in-Ok-clause-bytes g c =
 pub returns-in-Err-clause-bytes : goal.returns-in-Err-clause-bytes
 returns-in-Err-clause-bytes g c =
     data_over _ _ _ _ _ _ _ c.in-Err.halt
-    (λ gone ends. ((λ told entry held. blocks_halted _ _ _ entry c.args.request.now.kind _ _ _ c.in-Err.halt held ends (c.in-Err.ensures.along.cell told)), (λ told. tt))) c.in-Err.ensures.bytes
+    (λ gone ends. (
+      λ told entry held. blocks_halted _ _ _ entry c.args.request.now.kind c.refusal-refused.result c.in-Err.halt held c.in-Err.ensures.ends
+          (λ none. no_commit c.args.request.now.kind c.requires.kind (λ flush. let no : false ≡ true = c.if-is_flush.ensures.1 (flush, none) in cc)) (c.in-Err.ensures.along.cell told),
+      λ told. tt,
+    )) c.in-Err.ensures.bytes
 
 pub returns-then-is_flush-clause-spends : goal.returns-then-is_flush-clause-spends
 returns-then-is_flush-clause-spends g c n few =

@@ -3,7 +3,7 @@ use Rattle.transfer.specs.Counts.{counts}
 use Rattle.session_calls.proofs.CarryLaws.{carries_committed, carries_end, carries_going, carries_stopped}
 use Rattle.transfer.proofs.BlameLaws.{of_ledger, to_quiet, to_stopped}
 use Rattle.transfer.proofs.CommitLaws.{commit_done, commit_short, commit_stopped}
-use Rattle.transfer.proofs.HaltLaws.{commit_to, number_blamed, number_commit}
+use Rattle.transfer.proofs.HaltLaws.{commit_to, number_blamed, number_commit, number_full}
 use Rattle.transfer.proofs.copying.commit_target.Goals as goal
 
 pub returns-in-Ok-clause-carries : goal.returns-in-Ok-clause-carries
@@ -59,3 +59,9 @@ returns-in-Ok-clause-unread g c = c.in-Ok.ensures.goes.unread
 
 pub returns-in-Err-clause-unread : goal.returns-in-Err-clause-unread
 returns-in-Err-clause-unread g c = c.in-Err.ensures.goes.unread
+
+pub returns-in-Ok-clause-room : goal.returns-in-Ok-clause-room
+returns-in-Ok-clause-room g c = number_full _ c.in-Ok.done.reply c.number_of.result c.number_of.ensures
+
+pub returns-in-Err-clause-room : goal.returns-in-Err-clause-room
+returns-in-Err-clause-room g c other = (c.in-Err.ensures.answers.touched, c.in-Err.ensures.answers.room)

@@ -5,7 +5,7 @@ use Rattle.session_calls.proofs.CallLaws.{along_more}
 use Rattle.transfer.proofs.BlameLaws.{blames_then}
 use Rattle.transfer.proofs.FillLaws.{read_sound}
 use Rattle.transfer.proofs.MovingLaws.{copied_block}
-use Rattle.transfer.proofs.HaltLaws.{from_full, halted, meets_from, meets_to}
+use Rattle.transfer.proofs.HaltLaws.{from_full, halted, meets_from, meets_to, no_memory}
 use Rattle.transfer.proofs.RefusalLaws.{copy_from, copy_to}
 use Rattle.transfer.proofs.WholeLaws.{copied_one}
 use Rattle.transfer.proofs.copying.copy_block.Goals as goal
@@ -79,3 +79,7 @@ returns-in-Ok-clause-copies g c =
 
 pub returns-in-Err-clause-copies : goal.returns-in-Err-clause-copies
 returns-in-Err-clause-copies g c = (c.in_ok-read_source.ensures.reads.tree, tt)
+
+pub returns-in_err-read_source-clause-room : goal.returns-in_err-read_source-clause-room
+returns-in_err-read_source-clause-room g c is =
+    absurd (no_memory c.from_residual.result c.in_err-read_source.field-0.0 c.in_err-read_source.ensures.memory (halted c.from_residual.result c.in_err-read_source.field-0.0 c.from_residual.ensures.1) is)

@@ -141,3 +141,6 @@ returns-clause-copies g c =
     let P = g.P.Platform in
     let Q = g.Q.Platform in
     (c.loop-block.invariant.tree, subst (CopiesTree P.tells Q.tells (P.history c.args.from.now).present (Q.history c.args.to.now).present (Q.history c.loop-block.to).present c.args.source.now c.args.target.now c.loop-block.target) (take_all c.loop-block.block-index c.args.blocks.now (omega arith)) c.loop-block.invariant.copies)
+
+pub returns-in_err-copy_block-clause-room : goal.returns-in_err-copy_block-clause-room
+returns-in_err-copy_block-clause-room g c is = c.in_err-copy_block.ensures.room (sym (halted c.from_residual.result c.in_err-copy_block.field-0.0 c.from_residual.ensures.1) ∙ is)

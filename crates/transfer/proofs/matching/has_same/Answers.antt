@@ -179,3 +179,6 @@ returns-clause-same g c = record {
       subst (All (HasOne g.P.Platform.tells g.Q.Platform.tells (g.P.Platform.history c.args.from.now).present (g.Q.Platform.history c.args.to.now).present c.args.source.now c.args.target.now)) (take_all c.loop-block.block-index c.args.blocks.now (omega arith)) c.loop-block.invariant.same;
   two = λ apart. absurd (apart refl);
 }
+
+pub returns-in_err-has_same_block-clause-memory : goal.returns-in_err-has_same_block-clause-memory
+returns-in_err-has_same_block-clause-memory g c = rw (halted c.from_residual.result c.in_err-has_same_block.field-0.0 c.from_residual.ensures.1) c.in_err-has_same_block.ensures.memory

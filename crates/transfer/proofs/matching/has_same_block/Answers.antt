@@ -77,3 +77,6 @@ returns-in-Ok-clause-same g c = record {
     there = c.in-Ok.ensures.reads.found;
   };
 }
+
+pub returns-in_err-read_source-clause-memory : goal.returns-in_err-read_source-clause-memory
+returns-in_err-read_source-clause-memory g c = rw (halted c.from_residual.result c.in_err-read_source.field-0.0 c.from_residual.ensures.1) c.in_err-read_source.ensures.memory

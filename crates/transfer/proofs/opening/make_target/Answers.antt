@@ -18,7 +18,7 @@ use Rattle.transfer.proofs.LookedLaws.{made_served}
 use Rattle.transfer.proofs.OpenLaws.{format_not_root, made_found, formatted_found, formatted_stopped, is_made, unformatted}
 use Rattle.transfer.proofs.ToLaws.{found_none, formatted_made, format_keeps, formatted_of, opens_formatted, opens_found, spans_formatted, spans_look, spans_unformatted}
 use Rattle.transfer.proofs.MoveLaws.{at_mounted}
-use Rattle.transfer.proofs.RefusalLaws.{format_opens_not, idle_found, on_new, room_found}
+use Rattle.transfer.proofs.RefusalLaws.{format_opens_not, idle_found, made_opens_not, on_new, room_found}
 use Rattle.transfer.proofs.opening.make_target.Goals as goal
 
 pub returns-in-Ok-Some-clause-target : goal.returns-in-Ok-Some-clause-target
@@ -113,7 +113,7 @@ returns-in-Err-mount_session-clause-target g c = record {
   room = tt;
   still = tt;
   on = tt;
-  opens_not = λ told. tt;
+  opens_not = λ told. made_opens_not (g.Q.Platform.history c.args.to.now).present _ c.in-Err-mount_session.stop (λ none. c.in-Ok.ensures.cause.1 (let within = g.met.Q.Platform.has_room c.args.to.now in omega (arith, none, within)));
 }
 
 pub returns-in-Err-clause-target : goal.returns-in-Err-clause-target
@@ -141,7 +141,7 @@ returns-in-Err-clause-target g c = record {
   room = tt;
   still = tt;
   on = tt;
-  opens_not = λ told. rw c.halt_of.ensures (format_opens_not g.Q.Platform g.T.Tape _ _ _ _ _ _ c.in-Err.refusal c.in-Err.ensures.cause told (c.requires.empty told));
+  opens_not = λ told. rw c.halt_of.ensures (format_opens_not g.Q.Platform g.T.Tape _ _ _ _ _ _ c.in-Err.refusal c.in-Err.ensures.cause told (c.requires.empty told) (g.met.Q.Platform.has_room c.args.to.now));
 }
 
 pub returns-in-Ok-Some-clause-there : goal.returns-in-Ok-Some-clause-there

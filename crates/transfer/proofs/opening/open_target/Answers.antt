@@ -9,7 +9,7 @@ use Rattle.transfer.proofs.HaltLaws.{mount_to}
 use Rattle.transfer.proofs.LookedLaws.{there_found, there_none, there_stop}
 use Rattle.transfer.proofs.OpenLaws.{mount_stopped, nones_behind}
 use Rattle.transfer.proofs.ToLaws.{found_none, opens_behind, opens_found, spans_behind, spans_look}
-use Rattle.transfer.proofs.RefusalLaws.{idle_found, not_behind, on_behind, on_found, room_found, still_behind}
+use Rattle.transfer.proofs.RefusalLaws.{idle_found, mount_opens_not, not_behind, on_behind, on_found, room_found, still_behind}
 use Rattle.transfer.proofs.opening.open_target.Goals as goal
 
 pub returns-in-Ok-Some-clause-target : goal.returns-in-Ok-Some-clause-target
@@ -77,7 +77,7 @@ returns-in-Err-clause-target g c = record {
   room = tt;
   still = tt;
   on = tt;
-  opens_not = λ told. tt;
+  opens_not = λ told. mount_opens_not g.Q.Platform.tells (g.Q.Platform.history c.args.to.now).present _ _ c.in-Err.stop told c.in-Err.ensures.stops;
 }
 
 pub make_target-requires-clause-empty : goal.make_target-requires-clause-empty

@@ -6,7 +6,7 @@ use Rattle.session_calls.proofs.CallLaws.{along_more}
 use Rattle.transfer.specs.Counts.{counts}
 use Rattle.transfer.proofs.BlameLaws.{blames_done, blames_halt, of_tape, to_quiet, to_stopped}
 use Rattle.transfer.proofs.MovingLaws.{write_sound}
-use Rattle.transfer.proofs.HaltLaws.{write_to}
+use Rattle.transfer.proofs.HaltLaws.{write_room, write_to}
 use Rattle.transfer.proofs.sides.write_target.Goals as goal
 
 pub returns-in-Ok-clause-along : goal.returns-in-Ok-clause-along
@@ -53,3 +53,9 @@ returns-in-Err-clause-leads g c told there array at = write_sound (g.Q.Platform.
 
 pub returns-in-Ok-clause-puts : goal.returns-in-Ok-clause-puts
 returns-in-Ok-clause-puts g c told = c.in-Ok.ensures.written told (c.requires.ready.mounted told)
+
+pub returns-in-Err-clause-room : goal.returns-in-Err-clause-room
+returns-in-Err-clause-room g c is =
+    let Q = g.Q.Platform in
+    let within = g.met.Q.Platform.has_room c.args.to.now in
+    write_room Q g.T.Tape _ _ _ _ c.in-Err.stop c.in-Err.ensures.adds (omega (arith, within, c.if-head-capacity.false)) c.in-Err.ensures.goes.along.capacity cc
