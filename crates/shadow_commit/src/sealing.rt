@@ -1,5 +1,5 @@
 //! How the nodes in memory are sealed.
-ghost use Rattle.std.specs.Prelude.{◌≡◌, ◌<◌, ◌≤◌, ◌+◌, ◌*◌, ◌++◌, [], ◌∷◌, suc, vec_len, vec_capacity, IfOk, IsErr, length, take};
+ghost use Rattle.std.specs.Prelude.{◌≡◌, ◌<◌, ◌≤◌, ◌+◌, ◌*◌, ◌++◌, [], ◌∷◌, suc, vec_len, vec_capacity, IfOk, IsErr, drop, length, take};
 ghost use Rattle.sdbt_base.specs.Keys.{key_size, IsKeyOf};
 ghost use Rattle.sdbt_base.specs.Faults.{TellsOf};
 ghost use Rattle.record_versions.specs.Versions.{IsVersion};
@@ -117,6 +117,15 @@ fn let_go(entries: &mut Vec<Entry>, begin: usize)
 {
     let (_, gone) = entries.split_at_mut(begin);
     wipe_keys(gone);
+    cut_off(entries, begin);
+}
+
+/// Cuts off the entries from a place on, in which no key is left.
+fn cut_off(entries: &mut Vec<Entry>, begin: usize)
+    requires { HaveNoKey (drop begin entries.old.items) }
+    ensures items { entries.new.items ≡ take begin entries.old.items }
+    ensures capacity { vec_capacity entries.old ≤ vec_capacity entries.new }
+{
     entries.truncate(begin);
 }
 
