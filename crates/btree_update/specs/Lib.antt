@@ -7,6 +7,7 @@ pub mod Opens
 pub mod Roots
 pub mod Wrong
 pub mod Beside
+pub mod LetGo
 pub mod Among
 pub mod Helping
 pub mod Groves

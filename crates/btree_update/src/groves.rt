@@ -7,6 +7,7 @@ ghost use Rattle.page_store.specs.Tree.{Parts, Mapped, Tree};
 ghost use Rattle.btree_twigs.specs.declared.twigs.Child.TheVariants.{Kept};
 ghost use Rattle.btree_twigs.specs.Stubs.{Stub, Puts, Takes, datum, stubs};
 ghost use Rattle.btree_twigs.specs.Levels.{Node, Reshape, ReshapeDown};
+ghost use Rattle.btree_update.specs.LetGo.{AreWiped, AreWipedBeside};
 ghost use Rattle.btree_update.specs.Opens.{HasWay};
 ghost use Rattle.btree_twigs.specs.Updates.{IsOpen, HasSpares};
 ghost use Rattle.btree_twigs.specs.Top.{IsTop};
@@ -351,15 +352,45 @@ fn clear_top(top: &mut Child)
 fn let_go_held(held: &mut Vec<Twig>, beside: &mut Vec<Option<Twig>>)
     ensures { (held.new.items ≡ []) × (beside.new.items ≡ []) }
 {
+    wipe_held(held);
+    clear_held(held);
+    wipe_beside(beside);
+    clear_beside(beside);
+}
+
+/// Writes zeros over the children of each node.
+fn wipe_held(held: &mut [Twig])
+    ensures { AreWiped held.new }
+{
     for twig in held.iter_mut() {
         wipe(twig);
     }
+}
+
+/// Writes zeros over the children of each node that is there.
+fn wipe_beside(beside: &mut [Option<Twig>])
+    ensures { AreWipedBeside beside.new }
+{
     for node in beside.iter_mut() {
         if let Some(twig) = node {
             wipe(twig);
         }
     }
+}
+
+/// Lets go of nodes that have no key left.
+fn clear_held(held: &mut Vec<Twig>)
+    requires { AreWiped held.old.items }
+    ensures { held.new.items ≡ [] }
+{
     held.clear();
+}
+
+/// Lets go of nodes beside the way that have no key left.
+fn clear_beside(beside: &mut Vec<Option<Twig>>)
+    requires { AreWipedBeside beside.old.items }
+    ensures { beside.new.items ≡ [] }
+{
     beside.clear();
 }
 

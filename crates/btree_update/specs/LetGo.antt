@@ -1,0 +1,17 @@
+-- What is left of the keys of nodes in memory that are let go.
+use Rattle.std.specs.Prelude.{ℕ, List, Option, IfSome, slice_get}
+use Rattle.btree_twigs.specs.Stubs.{children_of}
+use Rattle.btree_twigs.specs.Wiped.{AreBlank}
+use Rattle.btree_twigs.specs.declared.twigs.Twig.{Twig}
+
+-- each child is one of zeros
+abbrev pub IsWiped : Twig → Type 0
+IsWiped twig = AreBlank (children_of twig)
+
+-- so is each of these nodes
+abbrev pub AreWiped : List Twig → Type 0
+AreWiped nodes = (place : ℕ) → IfSome (slice_get nodes place) IsWiped
+
+-- and each that is there
+abbrev pub AreWipedBeside : List (Option Twig) → Type 0
+AreWipedBeside nodes = (place : ℕ) → IfSome (slice_get nodes place) (λ node. IfSome node IsWiped)
