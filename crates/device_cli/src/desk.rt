@@ -359,6 +359,7 @@ impl Desk {
     {
         if let Some(mut session) = self.session.take() {
             session.wipe();
+            session.let_go();
         }
         self.buffer = [0; BLOCK];
         self.writer.wipe();

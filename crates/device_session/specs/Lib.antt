@@ -1,4 +1,5 @@
 pub mod Sessions
+pub mod Spent
 pub mod Open
 pub mod Holds
 pub mod Reading

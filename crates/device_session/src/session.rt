@@ -2,8 +2,6 @@ ghost use Rattle.std.specs.Prelude.{◌≡◌, ◌≤◌, ◌+◌, [], IfOk, IfE
 ghost use Rattle.sdbt_base.specs.Faults.{TellsOf};
 ghost use Rattle.platform.specs.Calls.{Looks};
 ghost use Rattle.page_store.specs.Reading.{MayLook};
-ghost use Rattle.btree_walk.specs.Readers.{IsWiped};
-ghost use Rattle.btree_twigs.specs.Wiped.{blank};
 ghost use Rattle.device_session.specs.Causes.{IsMountCause};
 
 use crate::refusals::MountRefusal;
@@ -55,6 +53,7 @@ impl Model for Session {
 impl Session {
     ghost use Rattle.device_session.specs.Open.{blocks_of, number_of, root_of};
     ghost use Rattle.device_session.specs.Mounting.{Mounts};
+    ghost use Rattle.device_session.specs.Spent.{HasNothing};
 
     /// Opens a session on the device. It looks at the cell once, and reads no page.
     ///
@@ -121,14 +120,16 @@ impl Session {
     /// Leaves nothing of what was read or sealed in the session's buffers, no node in its cache or in memory, nor anything of the
     /// node that was read last: for a session that is given up. Its root record stays, and how many blocks are mapped.
     pub fn wipe(&mut self)
-        ensures wiped { IsWiped self.new.buffers self.new.node }
-        ensures cache { self.new.cache.nodes ≡ [] }
-        ensures top { self.new.grove.top ≡ blank }
-        ensures none_held { (self.new.grove.held.items ≡ []) × (self.new.grove.beside.items ≡ []) }
+        ensures nothing { HasNothing self.new }
         ensures stays { (self.new.root ≡ self.old.root) × (self.new.mapped ≡ self.old.mapped) × (self.new.is_touched ≡ self.old.is_touched) }
     {
         self.reader.wipe();
         self.reader.cache.clear();
         self.grove.clear();
     }
+
+    /// Lets a session go in which nothing is left.
+    pub fn let_go(self)
+        requires { HasNothing self }
+    {}
 }

@@ -40,6 +40,7 @@ pub fn commit_session<P: Platform, T: Tape, L: Sink>(
         Ok(reply) => Ok(Committed { session, reply }),
         Err(fault) => {
             session.wipe();
+            session.let_go();
             Err(stop_of(fault))
         }
     }
