@@ -1,5 +1,5 @@
 //! Creates volumes.
-ghost use Rattle.std.specs.Prelude.{◌≡◌, ◌≢◌, ◌↔◌, ◌+◌, ◌≤◌, ℕ, List, true, false, IfOk, IsTrue};
+ghost use Rattle.std.specs.Prelude.{◌≡◌, ◌≢◌, ◌↔◌, ◌+◌, ◌≤◌, ℕ, List, true, false, IfErr, IfOk, IsTrue};
 ghost use Rattle.device_session.specs.Open.{IsOpen, blocks_of};
 ghost use Rattle.device_course.specs.Held.{Held};
 ghost use Rattle.session_calls.specs.Along.{drawn_by};
@@ -39,6 +39,7 @@ pub(crate) fn create<P: Platform, T: Tape>(
     ensures calls { (buffer : List ℕ) → Calls P.Platform (1 + blocks_of session.old) (reads_in table.old (lines.Create name.now count) buffer result) platform.old platform.new
         (drawn_by T.Tape tape.old) (drawn_by T.Tape tape.new) session.old session.new result }
     ensures table { IsTable (blocks_of session.old) table.new }
+    ensures left { IfErr result (λ stop. table.new ≡ table.old) }
     ensures words { IfOk result IsWords }
     ensures turns { P.tells → (entry : Held) (buffer : List ℕ) → IsHeld (P.history platform.old).present (P.head platform.old) session.old table.old entry
         → TurnsTo (P.history platform.new).present (P.head platform.new) table.new session.new entry

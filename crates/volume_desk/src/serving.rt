@@ -1,5 +1,5 @@
 //! Serves a line.
-ghost use Rattle.std.specs.Prelude.{◌≡◌, ◌+◌, ℕ, List, IsOk, IfOk};
+ghost use Rattle.std.specs.Prelude.{◌≡◌, ◌+◌, ℕ, List, IsOk, IfErr, IfOk};
 ghost use Rattle.sdbt_base.specs.Counts.{counts};
 ghost use Rattle.device_course.specs.States.{around};
 ghost use Rattle.device_session.specs.Open.{IsOpen, blocks_of};
@@ -108,6 +108,7 @@ fn serve_blocks<P: Platform, T: Tape>(
     ensures calls { Calls P.Platform (1 + blocks_of session.old) (reads_in desk.old.table (asked line.now desk.old.buffer) desk.new.buffer result) platform.old platform.new
         (drawn_by T.Tape tape.old) (drawn_by T.Tape tape.new) session.old session.new result }
     ensures table { IsTable (blocks_of session.old) desk.new.table }
+    ensures left { IfErr result (λ stop. desk.new.table ≡ desk.old.table) }
     ensures written { IfOk result (λ reply. CanWrite (said reply desk.new.buffer)) }
     ensures short { IfOk result FitsBlock }
     ensures turns { P.tells → (entry : Held) → IsHeld (P.history platform.old).present (P.head platform.old) session.old desk.old.table entry
