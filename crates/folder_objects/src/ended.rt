@@ -1,5 +1,7 @@
 //! How a run over a platform ended.
 
+ghost use Rattle.std.specs.Prelude.{◌≡◌, None};
+
 use tpm_cell::TpmFault;
 
 /// How a run ended: its exit status, and why a call on the index of a TPM failed, if one did.
@@ -13,7 +15,9 @@ pub struct Ended<'a> {
 
 impl<'a> Ended<'a> {
     /// A run over an index that this word named.
-    pub fn over_index(status: u8, cell: &'a str, fault: Option<TpmFault>) -> Ended<'a> {
+    pub fn over_index(status: u8, cell: &'a str, fault: Option<TpmFault>) -> Ended<'a>
+        ensures { result.status ≡ status }
+    {
         Ended {
             status,
             fault: fault.map(|fault| (cell, fault)),
@@ -30,6 +34,8 @@ impl<'a> Ended<'a> {
 }
 
 impl From<u8> for Ended<'_> {
+    ghost from_gives = { λ status ended. (ended.status ≡ status) × (ended.fault ≡ None) };
+
     fn from(status: u8) -> Self {
         Ended {
             status,

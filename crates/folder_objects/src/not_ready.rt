@@ -1,5 +1,10 @@
 //! Why a run over folders could not begin.
 
+ghost use Rattle.std.specs.Prelude.{◌≡◌, ◌↔◌, IsTrue};
+ghost use Rattle.folder_objects.specs.Causes.{IsMemory, not_ready_of};
+ghost use Rattle.folder_objects.specs.declared.not_ready.NotReady.TheVariants.{Platform};
+ghost use Rattle.folder_platform.specs.declared.refusals.OpenRefusal.TheVariants as folders;
+
 use crate::RANDOM;
 use folder_platform::{FolderFile, OpenRefusal};
 use sdbt_base::Memory;
@@ -29,7 +34,10 @@ const NO_MEMORY: u8 = 11;
 impl NotReady {
     /// The exit status of a run that could not begin. What is not ready, the file and the system's reason, is said on standard error for
     /// the program of this name, but for want of memory.
-    pub fn status_told(&self, rt: &impl Eprint, program: &str, cell: &str, folder: &str) -> u8 {
+    pub fn status_told(&self, rt: &impl Eprint, program: &str, cell: &str, folder: &str) -> u8
+        ensures memory { IsMemory self.now → result ≡ 11 }
+        ensures other { (IsMemory self.now → ⊥) → result ≡ 1 }
+    {
         if self.is_memory() {
             return NO_MEMORY;
         }
@@ -37,7 +45,9 @@ impl NotReady {
         NOT_READY
     }
 
-    fn is_memory(&self) -> bool {
+    fn is_memory(&self) -> bool
+        ensures { IsTrue result ↔ IsMemory self.now }
+    {
         match self {
             NotReady::Platform(refusal) | NotReady::Medium(refusal) => {
                 matches!(refusal, OpenRefusal::Memory)
@@ -87,12 +97,16 @@ fn tell_refusal(
 }
 
 impl From<OpenRefusal> for NotReady {
+    ghost from_gives = { λ refusal told. told ≡ Platform refusal };
+
     fn from(refusal: OpenRefusal) -> NotReady {
         NotReady::Platform(refusal)
     }
 }
 
 impl From<TpmNotReady> for NotReady {
+    ghost from_gives = { λ refusal told. told ≡ not_ready_of refusal };
+
     fn from(not_ready: TpmNotReady) -> NotReady {
         match not_ready {
             TpmNotReady::Cell(refusal) => NotReady::Index(refusal),
@@ -102,12 +116,16 @@ impl From<TpmNotReady> for NotReady {
 }
 
 impl From<AllocError> for NotReady {
+    ghost from_gives = { λ error told. told ≡ Platform folders.Memory };
+
     fn from(_error: AllocError) -> NotReady {
         NotReady::Platform(OpenRefusal::Memory)
     }
 }
 
 impl From<Memory> for NotReady {
+    ghost from_gives = { λ error told. told ≡ Platform folders.Memory };
+
     fn from(_error: Memory) -> NotReady {
         NotReady::Platform(OpenRefusal::Memory)
     }
