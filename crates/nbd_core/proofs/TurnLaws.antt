@@ -118,6 +118,18 @@ pub on_outcome : (Some_so Others : Outcome → Type 0) (result : Result Outcome 
 on_outcome Some_so Others (Ok outcome) then' holds = then' outcome holds
 on_outcome Some_so Others (Err halt) then' holds = tt
 
+-- what a write of a range leads to, where pages are free for each block that it touches
+pub range_leads : {S : Type 0} (P : PlatformGhosts S) (platform platform_now : S) (session now : Session) (offset : ℕ) (bytes blocks : List ℕ) (result : Result Outcome Halt) → ((entry : Held) → entry.pages ≡ P.head platform → length blocks ≤ P.capacity platform - entry.pages)
+    → (P.tells → (device : Device) (array : OpenSession) → IsAt (P.history platform).present (Some session) (mounted device array)
+    → IfOk result (WroteRange (P.history platform_now).present (P.head platform) (P.head platform_now) (needed_by session) now device array offset bytes blocks))
+    → LeadsOn P platform platform_now session now (λ outcome entry next. Writes (P.capacity platform - entry.pages) entry offset bytes blocks outcome next) result
+range_leads P platform platform_now session now offset bytes blocks result fits wrote told entry held =
+    let free : ℕ = P.capacity platform - entry.pages in
+    on_outcome (WroteRange (P.history platform_now).present (P.head platform) (P.head platform_now) (needed_by session) now entry.device entry.session offset bytes blocks)
+    (λ outcome. (next : Held) × IsHeld (P.history platform_now).present (P.head platform_now) now next × (next.device ≡ entry.device) × Writes free entry offset bytes blocks outcome next) result
+    (λ outcome did. writes_held (P.history platform).present (P.history platform_now).present (P.head platform) (P.head platform_now) free offset session now entry bytes blocks outcome held (fits entry held.pages) did)
+    (wrote told entry.device entry.session held.at)
+
 -- ---- requests that are refused by their heads
 
 -- have no bytes in their reply

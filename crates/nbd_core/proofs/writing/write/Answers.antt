@@ -1,4 +1,4 @@
-use Rattle.std.proofs.Common.{None, ap, refl, length, arith, ◌-◌}
+use Rattle.std.proofs.Common.{None, ap, refl, length, arith, ◌-◌, ℕ}
 use Rattle.byte_arrays.specs.Ranges.{touched_blocks}
 use Rattle.byte_arrays.proofs.RangeLaws.{length-blocks_from}
 use Rattle.nbd_lang.specs.declared.requests.RequestKind.TheVariants.{Write}
@@ -11,7 +11,7 @@ use Rattle.nbd_core.proofs.DamageLaws.{given_says}
 use Rattle.nbd_core.proofs.FoundLaws.{same_start}
 use Rattle.nbd_core.proofs.ShortLaws.{never_short}
 use Rattle.nbd_core.proofs.DataLaws.{data_did}
-use Rattle.nbd_core.proofs.TurnLaws.{leads_idle, no_space, on_outcome, writes_held}
+use Rattle.nbd_core.proofs.TurnLaws.{leads_idle, no_space, on_outcome, range_leads}
 use Rattle.nbd_core.proofs.writing.write.Goals as goal
 
 pub returns-then-blocks-capacity-clause-along : goal.returns-then-blocks-capacity-clause-along
@@ -40,15 +40,14 @@ returns-then-blocks-capacity-clause-bytes g c =
 
 pub returns-clause-bytes : goal.returns-clause-bytes
 returns-clause-bytes g c =
+    let P = g.P.Platform in
     let blocks = c.touched-blocks.result in
-    data_did _ _ _ _ _ _ _ _ _ refl
+    let offset : ℕ = c.args.request.now.offset in
+    let n : ℕ = c.args.request.now.length in
+    data_did _ _ _ _ _ _ _ _ c.write_range.result refl
     (λ gone both. (
-      (λ told entry held.
-          on_outcome _ _ _
-          (λ outcome did.
-          writes_held _ _ _ _ _ _ _ _ entry gone _ outcome held
-          (omega (arith, held.pages, ap length c.touched-blocks.ensures.blocks, length-blocks_from blocks.start (blocks.end - blocks.start), c.if-blocks-capacity.false)) did)
-          (both.0 told entry.device entry.session held.at)),
+      range_leads P c.args.platform.now c.write_range.new.platform c.args.session.now c.write_range.new.session offset gone (touched_blocks offset n) c.write_range.result
+          (λ entry pages. omega (arith, pages, ap length c.touched-blocks.ensures.blocks, length-blocks_from blocks.start (blocks.end - blocks.start), c.if-blocks-capacity.false)) both.0,
       both.1,
     ))
     c.write_range.ensures.bytes
