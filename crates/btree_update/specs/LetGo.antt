@@ -2,6 +2,8 @@
 use Rattle.std.specs.Prelude.{ℕ, List, Option, IfSome, slice_get}
 use Rattle.btree_twigs.specs.Stubs.{children_of}
 use Rattle.btree_twigs.specs.Wiped.{AreBlank}
+use Rattle.btree_twigs.specs.declared.twigs.Child.{Child, Child-F}
+use Rattle.btree_twigs.specs.declared.twigs.Child.TheOpen.{Kept, Grown}
 use Rattle.btree_twigs.specs.declared.twigs.Twig.{Twig}
 
 -- each child is one of zeros
@@ -15,3 +17,8 @@ AreWiped nodes = (place : ℕ) → IfSome (slice_get nodes place) IsWiped
 -- and each that is there
 abbrev pub AreWipedBeside : List (Option Twig) → Type 0
 AreWipedBeside nodes = (place : ℕ) → IfSome (slice_get nodes place) (λ node. IfSome node IsWiped)
+
+-- a root whose node, where that is in memory, has no key left
+abbrev pub IsWipedRoot : Child-F Child Twig → Type 0
+IsWipedRoot (Kept low addr key) = Unit {0}
+IsWipedRoot (Grown low twig) = IsWiped twig

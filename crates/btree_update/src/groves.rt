@@ -7,7 +7,7 @@ ghost use Rattle.page_store.specs.Tree.{Parts, Mapped, Tree};
 ghost use Rattle.btree_twigs.specs.declared.twigs.Child.TheVariants.{Kept};
 ghost use Rattle.btree_twigs.specs.Stubs.{Stub, Puts, Takes, datum, stubs};
 ghost use Rattle.btree_twigs.specs.Levels.{Node, Reshape, ReshapeDown};
-ghost use Rattle.btree_update.specs.LetGo.{AreWiped, AreWipedBeside};
+ghost use Rattle.btree_update.specs.LetGo.{AreWiped, AreWipedBeside, IsWipedRoot};
 ghost use Rattle.btree_update.specs.Opens.{HasWay};
 ghost use Rattle.btree_twigs.specs.Updates.{IsOpen, HasSpares};
 ghost use Rattle.btree_twigs.specs.Top.{IsTop};
@@ -21,7 +21,7 @@ ghost use Rattle.btree_walk.specs.Looks.{Looks};
 ghost use Rattle.btree_walk.specs.Mapped.{IsMappedAs};
 ghost use Rattle.btree_walk.specs.Sights.{CachedFits, StandsOver};
 ghost use Rattle.btree_update.specs.Among.{HaveNodes, CachesAmong};
-ghost use Rattle.btree_twigs.specs.declared.twigs.Child.{Child};
+ghost use Rattle.btree_twigs.specs.declared.twigs.Child.{Child, out-Child};
 ghost use Rattle.btree_update.specs.declared.refusals.ReadyRefusal.{ReadyRefusal};
 ghost use Rattle.btree_update.specs.Held.{Bound, bound, AreBelow};
 ghost use Rattle.btree_update.specs.Holding.{HoldsFew, AddsSpares};
@@ -345,6 +345,14 @@ fn clear_top(top: &mut Child)
     if let Child::Grown { twig, .. } = top {
         wipe(twig);
     }
+    let_go_top(top);
+}
+
+/// Puts zeros in the place of a root whose node has no key left.
+fn let_go_top(top: &mut Child)
+    requires { IsWipedRoot (out-Child top.old) }
+    ensures { top.new ≡ zeros }
+{
     *top = blank();
 }
 

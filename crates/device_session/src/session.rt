@@ -1,4 +1,4 @@
-ghost use Rattle.std.specs.Prelude.{◌≡◌, ◌≤◌, ◌+◌, [], IfOk, IfErr, IsErrOf};
+ghost use Rattle.std.specs.Prelude.{◌≡◌, ◌≤◌, ◌+◌, IfOk, IfErr, IsErrOf};
 ghost use Rattle.sdbt_base.specs.Faults.{TellsOf};
 ghost use Rattle.platform.specs.Calls.{Looks};
 ghost use Rattle.page_store.specs.Reading.{MayLook};

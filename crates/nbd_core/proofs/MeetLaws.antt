@@ -37,16 +37,6 @@ read_stops Known image after session block bytes (Err stops.Ledger) any known = 
 read_stops Known image after session block bytes (Err stops.BadRoot) any known = absurd any
 read_stops Known image after session block bytes (Err (stops.BadRecord addr)) any known = any known
 
--- for which no memory is wanted
-pub read_memory : (Known : Type 0) (image after : Image) (session : Session) (block : ℕ) (bytes : List ℕ) (result : Result (Unit {0}) DeviceStop) → ReadsAny Known image after session block bytes result → IfErr result (λ stop. stop ≢ stops.Memory)
-read_memory Known image after session block bytes (Ok done) any = tt
-read_memory Known image after session block bytes (Err stops.Platform) any = λ is. absurd cc
-read_memory Known image after session block bytes (Err stops.Memory) any = absurd any
-read_memory Known image after session block bytes (Err stops.Tape) any = absurd any
-read_memory Known image after session block bytes (Err stops.Ledger) any = absurd any
-read_memory Known image after session block bytes (Err stops.BadRoot) any = absurd any
-read_memory Known image after session block bytes (Err (stops.BadRecord addr)) any = λ is. absurd cc
-
 pub write_stops : (Known : Type 0) (image after : Image) (session : Session) (block : ℕ) (result : Result (Unit {0}) DeviceStop) → WritesAny Known image after session block result → Known → IfErr result (MeetsAt (IsWrongStep after))
 write_stops Known image after session block (Ok done) any known = tt
 write_stops Known image after session block (Err stops.Platform) any known = tt

@@ -125,6 +125,12 @@ read_of_call read.Range stop is = absurd is
 read_of_call (read.BadRecord addr) stop is = subst IsOfCall (sym is) tt
 read_of_call read.PlatformFault stop is = subst IsOfCall (sym is) tt
 
+-- no memory is wanted for a read
+pub read_room : (refusal : ReadRefusal) (stop : DeviceStop) → IsReadStop refusal stop → stop ≢ stops.Memory
+read_room read.Range stop is = absurd is
+read_room (read.BadRecord addr) stop is = λ memory. absurd (let same : stops.BadRecord addr ≡ stops.Memory = sym is ∙ memory in cc)
+read_room read.PlatformFault stop is = λ memory. absurd (let same : stops.Platform ≡ stops.Memory = sym is ∙ memory in cc)
+
 -- no record that doesn't fit is met over an array
 pub read_refused : (image : Image) (now : Session) (device : Device) (array : OpenSession) (block : ℕ) (bytes : List ℕ) (refusal : ReadRefusal) (stop : DeviceStop) → IsReadStop refusal stop
     → Holds now image device array.contents → ReadsArray array.contents block bytes (Err refusal) → is_touched now ≡ array.touched → IsServedImage image → ReadsBlock image now device array block bytes (Err stop)

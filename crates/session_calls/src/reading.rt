@@ -1,4 +1,4 @@
-ghost use Rattle.std.specs.Prelude.{◌≡◌, ◌+◌, ◌<◌, ◌≢◌, Some, OnErr, length};
+ghost use Rattle.std.specs.Prelude.{◌≡◌, ◌+◌, ◌<◌, ◌≢◌, Some, IfErr, OnErr, length};
 ghost use Rattle.sdbt_base.specs.Arrays.{Device, Session as OpenSession, mounted};
 ghost use Rattle.device_session.specs.Open.{IsOpen, blocks_of};
 ghost use Rattle.device_course.specs.States.{IsAt};
@@ -31,6 +31,7 @@ pub fn read_block<P: Platform>(
         session.old block out.new result }
     ensures same { (session.new.mapped ≡ session.old.mapped) × (session.new.grove ≡ session.old.grove) }
     ensures left { OnErr result (out.new ≡ out.old) }
+    ensures room { IfErr result (λ stop. stop ≢ DeviceStop.Memory) }
 {
     match session.read(platform, block, out) {
         Ok(()) => Ok(()),

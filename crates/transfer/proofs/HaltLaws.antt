@@ -41,22 +41,12 @@ read_to tells Mounted mounted image after session block bytes stops.Ledger any =
 read_to tells Mounted mounted image after session block bytes stops.BadRoot any = absurd any
 read_to tells Mounted mounted image after session block bytes (stops.BadRecord addr) any = λ told. inr (inr (any (told, mounted told), tt))
 
--- for which no memory is wanted
-pub read_memory_from : (Known : Type 0) (image after : Image) (session : Session) (block : ℕ) (bytes : List ℕ) (stop : DeviceStop) → ReadsAny Known image after session block bytes (Err stop) → WantsNoMemory (halts.From stop)
-read_memory_from Known image after session block bytes stops.Platform any = (λ is. absurd cc, λ is. absurd cc)
-read_memory_from Known image after session block bytes stops.Memory any = absurd any
-read_memory_from Known image after session block bytes stops.Tape any = absurd any
-read_memory_from Known image after session block bytes stops.Ledger any = absurd any
-read_memory_from Known image after session block bytes stops.BadRoot any = absurd any
-read_memory_from Known image after session block bytes (stops.BadRecord addr) any = (λ is. absurd cc, λ is. absurd cc)
+-- a stop that isn't for want of memory
+pub memory_from : (stop : DeviceStop) → stop ≢ stops.Memory → WantsNoMemory (halts.From stop)
+memory_from stop other = (λ is. other (let same : halts.From stop ≡ halts.From stops.Memory = is in cc), λ is. absurd cc)
 
-pub read_memory_to : (Known : Type 0) (image after : Image) (session : Session) (block : ℕ) (bytes : List ℕ) (stop : DeviceStop) → ReadsAny Known image after session block bytes (Err stop) → WantsNoMemory (halts.To stop)
-read_memory_to Known image after session block bytes stops.Platform any = (λ is. absurd cc, λ is. absurd cc)
-read_memory_to Known image after session block bytes stops.Memory any = absurd any
-read_memory_to Known image after session block bytes stops.Tape any = absurd any
-read_memory_to Known image after session block bytes stops.Ledger any = absurd any
-read_memory_to Known image after session block bytes stops.BadRoot any = absurd any
-read_memory_to Known image after session block bytes (stops.BadRecord addr) any = (λ is. absurd cc, λ is. absurd cc)
+pub memory_to : (stop : DeviceStop) → stop ≢ stops.Memory → WantsNoMemory (halts.To stop)
+memory_to stop other = (λ is. absurd cc, λ is. other (let same : halts.To stop ≡ halts.To stops.Memory = is in cc))
 
 pub no_memory : (result : Result (Unit {0}) Halt) (halt : Halt) → WantsNoMemory halt → result ≡ Err halt → result ≡ Err (halts.To stops.Memory) → ⊥
 no_memory result halt wants is memory = wants.1 (let same : halt ≡ halts.To stops.Memory = cc in same)

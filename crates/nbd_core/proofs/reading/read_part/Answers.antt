@@ -5,7 +5,7 @@ use Rattle.nbd_terms.specs.Bytes.{array_of}
 use Rattle.byte_arrays.proofs.ArrayLaws.{length-bytes_at}
 use Rattle.nbd_core.proofs.ArrayLaws.{reads_stopped, reads_whole}
 use Rattle.session_calls.proofs.CallLaws.{calls_more, calls_of, no_draw}
-use Rattle.nbd_core.proofs.MeetLaws.{read_memory, read_stops}
+use Rattle.nbd_core.proofs.MeetLaws.{read_stops}
 use Rattle.nbd_core.proofs.FoundLaws.{finds_all, finds_part, reads_part, same_of_call}
 use Rattle.nbd_core.proofs.reading.read_part.Goals as goal
 
@@ -66,13 +66,3 @@ returns-clause-damage g c told mounted =
           (c.copy_from_slice.ensures.after ∙ c.bytes_of.ensures (λ n. c.read_block-2.new.out) refl);
       met = tt;
     }
-
-pub returns-then-is_whole-clause-memory : goal.returns-then-is_whole-clause-memory
-returns-then-is_whole-clause-memory g c =
-    read_memory _ (g.P.Platform.history c.args.platform.now).present (g.P.Platform.history c.read_block.new.platform).present
-    c.args.session.now c.args.part.block c.read_block.new.out c.read_block.result c.read_block.ensures.any
-
-pub returns-in-Err-clause-memory : goal.returns-in-Err-clause-memory
-returns-in-Err-clause-memory g c =
-    read_memory _ (g.P.Platform.history c.args.platform.now).present (g.P.Platform.history c.read_block-2.new.platform).present
-    c.args.session.now c.args.part.block c.read_block-2.new.out (Err c.in-Err.stop) c.in-Err.ensures.any

@@ -4,7 +4,7 @@ use Rattle.page_store.specs.Tree.{Wrong}
 use Rattle.device_course.proofs.KeysLaws.{needed_read}
 use Rattle.sdbt_base.specs.Counts.{counts}
 use Rattle.session_calls.proofs.CellLaws.{wrong_place}
-use Rattle.session_calls.proofs.LookLaws.{read_of_call, look_along, other_read_refusal, read_blamed, read_any, read_leads, read_refused}
+use Rattle.session_calls.proofs.LookLaws.{read_of_call, look_along, other_read_refusal, read_blamed, read_any, read_leads, read_refused, read_room}
 use Rattle.session_calls.proofs.StateLaws.{at_array, served_still}
 use Rattle.session_calls.proofs.reading.read_block.Goals as goal
 
@@ -64,3 +64,6 @@ returns-in-Ok-clause-reads g c = record { most = c.in-Ok.ensures.reads.most; war
 
 pub returns-in-Err-clause-reads : goal.returns-in-Err-clause-reads
 returns-in-Err-clause-reads g c = record { most = c.in-Err.ensures.reads.most; warm = c.in-Err.ensures.reads.warm; fills = λ told. tt }
+
+pub returns-in-Err-clause-room : goal.returns-in-Err-clause-room
+returns-in-Err-clause-room g c = read_room c.in-Err.refusal c.stop_of_read.result c.stop_of_read.ensures

@@ -4,7 +4,7 @@ use Rattle.session_calls.proofs.CallLaws.{along_more, no_draw}
 use Rattle.transfer.specs.Counts.{counts}
 use Rattle.transfer.proofs.BlameLaws.{blames_done, from_quiet, from_stopped, of_platform}
 use Rattle.transfer.proofs.MovingLaws.{read_sound}
-use Rattle.transfer.proofs.HaltLaws.{read_from, read_memory_from}
+use Rattle.transfer.proofs.HaltLaws.{read_from, memory_from}
 use Rattle.transfer.proofs.sides.read_source.Goals as goal
 
 pub returns-in-Ok-clause-along : goal.returns-in-Ok-clause-along
@@ -47,6 +47,4 @@ pub returns-in-Err-clause-reads : goal.returns-in-Err-clause-reads
 returns-in-Err-clause-reads g c = record { tree = c.read_block.ensures.same.1; found = λ told. tt }
 
 pub returns-in-Err-clause-memory : goal.returns-in-Err-clause-memory
-returns-in-Err-clause-memory g c =
-    let P = g.P.Platform in
-    read_memory_from _ (P.history c.args.from.now).present (P.history c.read_block.new.platform).present c.args.source.now c.args.block c.read_block.new.out c.in-Err.stop c.in-Err.ensures.any
+returns-in-Err-clause-memory g c = memory_from c.in-Err.stop c.in-Err.ensures.room

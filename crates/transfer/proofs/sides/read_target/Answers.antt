@@ -4,7 +4,7 @@ use Rattle.session_calls.proofs.CallLaws.{along_more, no_draw}
 use Rattle.transfer.specs.Counts.{counts}
 use Rattle.transfer.proofs.BlameLaws.{blames_done, to_quiet, to_stopped, of_platform}
 use Rattle.transfer.proofs.MovingLaws.{read_sound}
-use Rattle.transfer.proofs.HaltLaws.{read_memory_to, read_to}
+use Rattle.transfer.proofs.HaltLaws.{memory_to, read_to}
 use Rattle.transfer.proofs.sides.read_target.Goals as goal
 
 pub returns-in-Ok-clause-along : goal.returns-in-Ok-clause-along
@@ -47,6 +47,4 @@ pub returns-in-Err-clause-reads : goal.returns-in-Err-clause-reads
 returns-in-Err-clause-reads g c = record { tree = c.read_block.ensures.same.1; found = λ told. tt }
 
 pub returns-in-Err-clause-memory : goal.returns-in-Err-clause-memory
-returns-in-Err-clause-memory g c =
-    let P = g.Q.Platform in
-    read_memory_to _ (P.history c.args.to.now).present (P.history c.read_block.new.platform).present c.args.target.now c.args.block c.read_block.new.out c.in-Err.stop c.in-Err.ensures.any
+returns-in-Err-clause-memory g c = memory_to c.in-Err.stop c.in-Err.ensures.room
