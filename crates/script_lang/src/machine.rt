@@ -3,7 +3,7 @@
 ghost use Rattle.std.specs.Prelude.{◌≡◌, ◌≢◌, ◌-◌, ◌^◌, ◌<◌, ◌≤◌, ℕ, List, length, true, false, None, IfOk, OnErr};
 ghost use Rattle.script_lang.specs.Arrays.{Counted, in_limits, number_of, step, takes_memory, trimmed, content_reply};
 ghost use Rattle.script_lang.specs.Answers.{answer, none_counted};
-ghost use Rattle.sdbt_base.specs.Arrays.{State, written, unmapped, padded, content_of};
+ghost use Rattle.sdbt_base.specs.Arrays.{State, written, unmapped, padded, content_of, committed, session_on};
 ghost use Rattle.std.specs.Prelude.{take, ◌%◌};
 ghost use Rattle.std.specs.Bool.{OnTrue};
 ghost use Rattle.script_lang.specs.Commands as commands;
@@ -221,18 +221,8 @@ impl Machine {
         if full {
             return Ok(Reply::Full);
         }
-        let number = device.number + 1;
-        let committed = Device {
-            version: device.version,
-            blocks: device.blocks,
-            order: device.order,
-            number,
-            contents: session.contents.duplicate()?,
-        };
-        let unchanged = Session {
-            contents: session.contents.duplicate()?,
-            touched: false,
-        };
+        let (committed, unchanged) = after_commit(device, session)?;
+        let number = committed.number;
         self.device = Some(committed);
         self.session = Some(unchanged);
         Ok(Reply::Committed { number })
@@ -304,6 +294,25 @@ impl Machine {
             number: device.number,
         }
     }
+}
+
+/// The device that a commit of a session's changes makes, and the session that goes on over it.
+fn after_commit(device: &Device, session: &Session) -> Result<(Device, Session), Memory>
+    requires { device.now.number < 2 ^ 64 - 1 }
+    ensures { IfOk result (λ it. (it.0 ≡ committed device.now session.now) × (it.1 ≡ session_on it.0)) }
+{
+    let committed = Device {
+        version: device.version,
+        blocks: device.blocks,
+        order: device.order,
+        number: device.number + 1,
+        contents: session.contents.duplicate()?,
+    };
+    let unchanged = Session {
+        contents: session.contents.duplicate()?,
+        touched: false,
+    };
+    Ok((committed, unchanged))
 }
 
 /// Whether a device may have so many blocks, and this order.
