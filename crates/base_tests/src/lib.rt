@@ -1,5 +1,5 @@
-//! Tests of the crates that pages and scripts are made of: objects in memory, keys, records, and the
-//! lines of a script.
+//! Tests of the crates that pages and scripts are made of: objects in memory, keys, records, tables of volumes, commands to a
+//! TPM, and the lines of a script.
 #![tactic(auto)]
 
 #[cfg(test)]
@@ -16,3 +16,7 @@ mod root_records;
 mod script_lines;
 #[cfg(test)]
 mod sealed_pages;
+#[cfg(test)]
+mod tpm_commands;
+#[cfg(test)]
+mod volume_tables;

@@ -26,6 +26,3 @@ pub use heads::{Failure, HEAD, Head, REPLY, read_head};
 pub use index::Index;
 pub use laws::one_spelling;
 pub use public::{Fault, Public, Refusal, read_public};
-
-#[cfg(test)]
-mod tests;

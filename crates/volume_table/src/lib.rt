@@ -20,6 +20,3 @@ pub use laws::{one_spelling, ranges_are_disjoint};
 pub use name::{Name, is_name};
 pub use table::{BLOCK, MOST, Table};
 pub use volume::Volume;
-
-#[cfg(test)]
-mod tests;
