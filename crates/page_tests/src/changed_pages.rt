@@ -40,12 +40,17 @@ impl Device {
     /// The device, with all of its pages.
     fn new(alloc: Global) -> Option<Device> {
         let mut device = Device::blank(alloc)?;
-        device.block(3)?;
-        device.block(5)?;
-        device.node(1, &[(3, 0)])?;
-        device.node(1, &[(5, 1)])?;
-        device.node(2, &[(0, 2), (5, 3)])?;
+        device.fill()?;
         Some(device)
+    }
+
+    /// Appends all pages.
+    fn fill(&mut self) -> Option<()> {
+        self.block(3)?;
+        self.block(5)?;
+        self.node(1, &[(3, 0)])?;
+        self.node(1, &[(5, 1)])?;
+        self.node(2, &[(0, 2), (5, 3)])
     }
 
     /// Appends what the buffers hold.
@@ -190,17 +195,32 @@ fn bad(addr: usize) -> Option<Result<(), FetchRefusal>> {
     Some(Err(FetchRefusal::BadRecord { addr: addr as u64 }))
 }
 
-/// The first byte of the page at an address whose change is not refused there, if there is one. `None` where there is no such page.
-fn first_taken(alloc: Global, addr: usize) -> Option<Option<usize>> {
-    let mut device = Device::new(alloc)?;
+/// What comes of the page at an address of the device, under its key, with one byte of it changed.
+fn fetched_but(
+    alloc: Global,
+    device: &mut Device,
+    (addr, place): (usize, usize),
+    key: &Key,
+) -> Option<Result<(), FetchRefusal>> {
+    let mut other = medium_but(alloc, device.platform.recorded(), addr, place)?;
+    device.fetch(&mut other, addr, key)
+}
+
+/// The first byte of a device's page at an address whose change is not refused there, if there is one.
+fn first_taken_of(alloc: Global, device: &mut Device, addr: usize) -> Option<Option<usize>> {
     let key = device.key(addr)?;
     for place in 0..RECORD {
-        let mut other = medium_but(alloc, device.platform.recorded(), addr, place)?;
-        if device.fetch(&mut other, addr, &key) != bad(addr) {
+        if fetched_but(alloc, device, (addr, place), &key) != bad(addr) {
             return Some(Some(place));
         }
     }
     Some(None)
+}
+
+/// The same of a new device. `None` where there is no such page.
+fn first_taken(alloc: Global, addr: usize) -> Option<Option<usize>> {
+    let mut device = Device::new(alloc)?;
+    first_taken_of(alloc, &mut device, addr)
 }
 
 #[test]
@@ -220,41 +240,53 @@ fn no_changed_root_node_is_answered(rt: HostRuntime) {
     assert!(rt; first_taken(rt.alloc(), 4) == Some(None));
 }
 
+/// What comes of the page at an address of the device, over a medium whose pages are those of these places.
+fn fetched_among(
+    alloc: Global,
+    device: &mut Device,
+    addr: usize,
+    places: [usize; PAGES],
+) -> Option<Result<(), FetchRefusal>> {
+    let key = device.key(addr)?;
+    let mut medium = medium_of(alloc, device.platform.recorded(), places)?;
+    device.fetch(&mut medium, addr, &key)
+}
+
+/// The first page of the device that is not answered, over the same pages, or `None`.
+fn first_lost(alloc: Global, device: &mut Device) -> Option<usize> {
+    for addr in 0..PAGES {
+        if fetched_among(alloc, device, addr, [0, 1, 2, 3, 4]) != Some(Ok(())) {
+            return Some(addr);
+        }
+    }
+    None
+}
+
 #[test]
 fn pages_that_are_not_changed_are_answered(rt: HostRuntime) -> Result<(), Fail> {
     let mut device = Device::new(rt.alloc()).ok_or("no device")?;
-    for addr in 0..PAGES {
-        let key = device.key(addr).ok_or("no page")?;
-        let mut same = medium_of(rt.alloc(), device.platform.recorded(), [0, 1, 2, 3, 4]).ok_or(
-            "no medium",
-        )?;
-        assert!(rt;
-            device.fetch(&mut same, addr, &key) == Some(Ok(())),
-            "{addr}"
-        );
-    }
+    assert_eq!(rt; first_lost(rt.alloc(), &mut device), None);
     Ok(())
+}
+
+/// The first page of the device that is not refused where another one stands in its place, with that one, or `None`.
+fn first_swapped(alloc: Global, device: &mut Device) -> Option<(usize, usize)> {
+    for one in 0..PAGES {
+        for two in 0..PAGES {
+            let mut places = [0, 1, 2, 3, 4];
+            places.swap(one, two);
+            if one != two && fetched_among(alloc, device, one, places) != bad(one) {
+                return Some((one, two));
+            }
+        }
+    }
+    None
 }
 
 #[test]
 fn no_other_page_is_answered(rt: HostRuntime) -> Result<(), Fail> {
     let mut device = Device::new(rt.alloc()).ok_or("no device")?;
-    for one in 0..PAGES {
-        let key = device.key(one).ok_or("no page")?;
-        for two in 0..PAGES {
-            if one != two {
-                let mut places = [0, 1, 2, 3, 4];
-                places.swap(one, two);
-                let mut swapped = medium_of(rt.alloc(), device.platform.recorded(), places).ok_or(
-                    "no medium",
-                )?;
-                assert!(rt;
-                    device.fetch(&mut swapped, one, &key) == bad(one),
-                    "{one} {two}"
-                );
-            }
-        }
-    }
+    assert_eq!(rt; first_swapped(rt.alloc(), &mut device), None);
     Ok(())
 }
 
@@ -269,20 +301,40 @@ fn root_but(root: &Root, place: usize) -> Option<Root> {
     decode_root(&bytes)
 }
 
+/// What comes of the root node under the key of the root record, with this byte of it changed.
+fn fetched_under(
+    device: &mut Device,
+    medium: &mut MemPlatform,
+    root: &Root,
+    place: usize,
+) -> Option<Result<(), FetchRefusal>> {
+    let other = root_but(root, place)?;
+    device.fetch(medium, 4, &other.key)
+}
+
+/// The first byte of the key in the root record, or of its digest, under whose change the root node is not refused, or `None`.
+fn first_found(device: &mut Device, medium: &mut MemPlatform, root: &Root) -> Option<usize> {
+    for place in 40..120 {
+        // Between the key and its digest stand numbers.
+        let is_of_key = place < 72 || place >= 88;
+        if is_of_key && fetched_under(device, medium, root, place) != bad(4) {
+            return Some(place);
+        }
+    }
+    None
+}
+
+/// Whether the root node of a device is found over the same pages, and the first change under which it is found too.
+fn first_found_of(alloc: Global, device: &mut Device) -> Option<(bool, Option<usize>)> {
+    let root = device.root()?;
+    let mut same = medium_of(alloc, device.platform.recorded(), [0, 1, 2, 3, 4])?;
+    let is_found = device.fetch(&mut same, 4, &root.key) == Some(Ok(()));
+    Some((is_found, first_found(device, &mut same, &root)))
+}
+
 #[test]
 fn a_changed_key_finds_no_root_node(rt: HostRuntime) -> Result<(), Fail> {
     let mut device = Device::new(rt.alloc()).ok_or("no device")?;
-    let root = device.root().ok_or("no root")?;
-    let mut same = medium_of(rt.alloc(), device.platform.recorded(), [0, 1, 2, 3, 4]).ok_or(
-        "no medium",
-    )?;
-    assert!(rt; device.fetch(&mut same, 4, &root.key) == Some(Ok(())));
-    for place in 40..120 {
-        // Between the key and its digest stand numbers.
-        if place < 72 || place >= 88 {
-            let other = root_but(&root, place).ok_or("no root")?;
-            assert!(rt; device.fetch(&mut same, 4, &other.key) == bad(4), "{place}");
-        }
-    }
+    assert!(rt; first_found_of(rt.alloc(), &mut device) == Some((true, None)));
     Ok(())
 }

@@ -207,112 +207,191 @@ fn want_of(addr: u64, level: u8, bounds: (u64, u64), counts: (u16, u16)) -> Want
     }
 }
 
-#[test]
-fn fetches_what_is_wanted_and_nothing_else(rt: HostRuntime) -> Result<(), Fail> {
-    let mut fixture = filled(rt.alloc()).ok_or("not filled")?;
-    let sound = want_of(1, 1, (0, 8), (0, 4));
-    assert!(rt; fixture.node(&sound, 2) == Some(Ok(1)));
-    // Another level, bounds that the entry crosses, too few entries and too many, and another page.
-    let wrong = [
-        want_of(1, 2, (0, 8), (0, 4)),
-        want_of(1, 1, (4, 8), (0, 4)),
-        want_of(1, 1, (0, 3), (0, 4)),
-        want_of(1, 1, (0, 8), (2, 4)),
-        want_of(1, 1, (0, 8), (0, 0)),
-    ];
-    for want in wrong {
-        assert!(rt; fixture.node(&want, 2) == bad(1), "{want:?}");
-    }
-    assert!(rt; fixture.node(&want_of(0, 1, (0, 8), (0, 4)), 1) == bad(0));
-    assert!(rt; fixture.counts() == (2, 7), "one read each");
-    Ok(())
-}
-
 /// A refusal of the page at an address.
 fn bad(addr: u64) -> Option<Result<usize, FetchRefusal>> {
     Some(Err(FetchRefusal::BadRecord { addr }))
 }
 
+/// Nodes that are wanted under a key of one byte: the one that is there, one of another level, with bounds that the entry crosses,
+/// with too few entries and too many, and another page.
+fn wants() -> [(Want, u8); 7] {
+    [
+        (want_of(1, 1, (0, 8), (0, 4)), 2),
+        (want_of(1, 2, (0, 8), (0, 4)), 2),
+        (want_of(1, 1, (4, 8), (0, 4)), 2),
+        (want_of(1, 1, (0, 3), (0, 4)), 2),
+        (want_of(1, 1, (0, 8), (2, 4)), 2),
+        (want_of(1, 1, (0, 8), (0, 0)), 2),
+        (want_of(0, 1, (0, 8), (0, 4)), 1),
+    ]
+}
+
+/// What comes of each of these, and how many pages and reads there are then.
+fn fetched_nodes(fixture: &mut Fixture) -> ([Option<Result<usize, FetchRefusal>>; 7], (u64, u64)) {
+    let wants = wants();
+    let mut came = [None; 7];
+    for (place, (want, byte)) in came.iter_mut().zip(wants) {
+        *place = fixture.node(&want, byte);
+    }
+    (came, fixture.counts())
+}
+
+#[test]
+fn fetches_what_is_wanted_and_nothing_else(rt: HostRuntime) -> Result<(), Fail> {
+    let mut fixture = filled(rt.alloc()).ok_or("not filled")?;
+    let (came, counts) = fetched_nodes(&mut fixture);
+    assert!(rt; came == [Some(Ok(1)), bad(1), bad(1), bad(1), bad(1), bad(1), bad(0)]);
+    assert!(rt; counts == (2, 7), "one read each");
+    Ok(())
+}
+
+/// What comes of reads of the empty leaf at address 0 under its key and three others: under another one with the same digest, with
+/// another digest, and without one.
+fn under_keys(fixture: &mut Fixture, digest: [u8; 32]) -> [Option<Result<usize, FetchRefusal>>; 4] {
+    let keys = [
+        key(1).with_digest(digest),
+        key(2).with_digest(digest),
+        key(1).with_digest([7; 32]),
+        key(1),
+    ];
+    let empty = want_of(0, 1, (0, 8), (0, 4));
+    let mut came = [None; 4];
+    for (place, key) in came.iter_mut().zip(keys) {
+        *place = fixture.node_under(&empty, &key);
+    }
+    came
+}
+
+/// Whether a node of the second version is placed under the key that names its digest, and found under that alone.
+fn finds_second(fixture: &mut Fixture) -> Option<bool> {
+    let placed = fixture.place_second_leaf();
+    let digest = fixture.digest(0)?;
+    let named = Placed {
+        addr: 0,
+        key: key(1).with_digest(digest),
+    };
+    let came = under_keys(fixture, digest);
+    Some(placed == Some(Ok(named)) && came == [Some(Ok(0)), bad(0), bad(0), bad(0)])
+}
+
+/// The same of one of the first version, which has no digest.
+fn finds_first(fixture: &mut Fixture) -> Option<bool> {
+    let is_placed = fixture.place_empty_leaf() == placed(0, 1);
+    let digest = fixture.digest(0)?;
+    let came = under_keys(fixture, digest);
+    Some(is_placed && came == [bad(0), bad(0), bad(0), Some(Ok(0))])
+}
+
 #[test]
 fn fetches_a_node_of_the_version_of_its_key(rt: HostRuntime) -> Result<(), Fail> {
-    let empty = want_of(0, 1, (0, 8), (0, 4));
     let mut fixture = Fixture::new(rt.alloc(), &[])?;
-    let placed_second = fixture.place_second_leaf();
-    let digest = fixture.digest(0).ok_or("no page")?;
-    let named = key(1).with_digest(digest);
-    assert!(rt;
-        placed_second
-            == Some(Ok(Placed {
-                addr: 0,
-                key: named
-            }))
-    );
-    assert!(rt; fixture.node_under(&empty, &named) == Some(Ok(0)));
-    assert!(rt; fixture.node_under(&empty, &key(2).with_digest(digest)) == bad(0));
-    assert!(rt; fixture.node_under(&empty, &key(1).with_digest([7; 32])) == bad(0));
-    assert!(rt; fixture.node(&empty, 1) == bad(0), "no digest");
-    // A node of the first version has no digest.
-    let mut fixture = Fixture::new(rt.alloc(), &[])?;
-    assert!(rt; fixture.place_empty_leaf() == placed(0, 1));
-    let digest = fixture.digest(0).ok_or("no page")?;
-    assert!(rt; fixture.node(&empty, 1) == Some(Ok(0)));
-    assert!(rt; fixture.node_under(&empty, &key(1).with_digest(digest)) == bad(0));
+    assert!(rt; finds_second(&mut fixture) == Some(true));
     Ok(())
+}
+
+#[test]
+fn fetches_a_node_without_a_digest(rt: HostRuntime) -> Result<(), Fail> {
+    let mut fixture = Fixture::new(rt.alloc(), &[])?;
+    assert!(rt; finds_first(&mut fixture) == Some(true));
+    Ok(())
+}
+
+/// What comes of reads of another block, under another key, of a leaf, and of the block that is there.
+fn fetched_blocks(fixture: &mut Fixture) -> [Option<Result<(), FetchRefusal>>; 4] {
+    let mut came = [None; 4];
+    let wants = [(0, 4, 1), (0, 3, 2), (1, 3, 2), (0, 3, 1)];
+    for (place, (addr, block, byte)) in came.iter_mut().zip(wants) {
+        *place = fixture.block(addr, block, byte);
+    }
+    came
+}
+
+/// A refusal of the data record at an address.
+fn bad_block(addr: u64) -> Option<Result<(), FetchRefusal>> {
+    Some(Err(FetchRefusal::BadRecord { addr }))
+}
+
+/// Whether the content in the buffers begins with that of the block, and with zeros once it is wiped.
+fn is_wiped(buffers: &mut Buffers) -> bool {
+    let was_there = buffers.content().starts_with(b"hi\0");
+    buffers.wipe();
+    was_there && buffers.content().starts_with(b"\0\0")
 }
 
 #[test]
 fn fetches_a_block_and_nothing_else(rt: HostRuntime) -> Result<(), Fail> {
     let mut fixture = filled(rt.alloc()).ok_or("not filled")?;
-    // Another block, another key, and a leaf.
-    for (addr, block, byte) in [(0, 4, 1), (0, 3, 2), (1, 3, 2)] {
-        let fetched = fixture.block(addr, block, byte);
-        assert!(rt;
-            fetched == Some(Err(FetchRefusal::BadRecord { addr })),
-            "{addr} {block}"
-        );
-    }
-    assert!(rt; fixture.block(0, 3, 1) == Some(Ok(())));
+    let came = fetched_blocks(&mut fixture);
+    assert!(rt; came == [bad_block(0), bad_block(0), bad_block(1), Some(Ok(()))]);
     assert!(rt; fixture.counts() == (2, 4), "one read each");
-    assert!(rt; fixture.buffers.content().starts_with(b"hi\0"));
-    fixture.buffers.wipe();
-    assert!(rt; fixture.buffers.content().starts_with(b"\0\0"));
+    assert!(rt; is_wiped(&mut fixture.buffers));
     Ok(())
+}
+
+/// Whether a draw that fails is told, and no page is handed over then.
+fn tells_a_tape(fixture: &mut Fixture) -> bool {
+    let is_told = fixture.place_block() == Some(Err(AppendFault::TapeFault));
+    is_told && fixture.counts() == (0, 0)
+}
+
+/// Whether the calls on the medium that fail are told, the first of which has recorded a page.
+fn tells_a_platform(fixture: &mut Fixture) -> bool {
+    let is_placed_untold = fixture.place_block() == Some(Err(AppendFault::PlatformFault));
+    is_placed_untold
+        && fixture.counts() == (1, 0)
+        && fixture.block(0, 3, 1) == Some(Err(FetchRefusal::PlatformFault))
+        && fixture.current() == Err(CurrentRefusal::PlatformFault)
 }
 
 #[test]
 fn hands_faults_on(rt: HostRuntime) -> Result<(), Fail> {
     let mut fixture = Fixture::new(rt.alloc(), &[1])?;
-    assert!(rt; fixture.place_block() == Some(Err(AppendFault::TapeFault)));
-    assert!(rt; fixture.counts() == (0, 0));
+    assert!(rt; tells_a_tape(&mut fixture));
     fixture.fail()?;
-    assert!(rt; fixture.place_block() == Some(Err(AppendFault::PlatformFault)));
-    assert!(rt; fixture.counts() == (1, 0));
-    assert!(rt; fixture.block(0, 3, 1) == Some(Err(FetchRefusal::PlatformFault)));
-    assert!(rt; fixture.current() == Err(CurrentRefusal::PlatformFault));
+    assert!(rt; tells_a_platform(&mut fixture));
     Ok(())
+}
+
+/// What the root cell comes to with this root record in it; `None` where it is none, or isn't put there.
+fn current_with(
+    fixture: &mut Fixture,
+    root: &Root,
+) -> Option<Result<Option<Root>, CurrentRefusal>> {
+    let record = record_of(root)?;
+    if !fixture.swap(&record) {
+        return None;
+    }
+    Some(fixture.current())
+}
+
+/// The root of the second version, with a digest.
+fn second_root() -> Root {
+    Root {
+        version: 2,
+        key: key(1).with_digest([7; 32]),
+        ..root()
+    }
+}
+
+/// Whether there is no root on a blank medium, and a record of one is bad there as long as its page is not.
+fn needs_a_page(fixture: &mut Fixture) -> bool {
+    let is_blank = fixture.current() == Ok(None);
+    is_blank && current_with(fixture, &root()) == Some(Err(CurrentRefusal::BadRoot))
+}
+
+/// Whether the root is found that the cell names, and its node.
+fn finds_roots(fixture: &mut Fixture) -> bool {
+    fixture.current() == Ok(Some(root()))
+        && fixture.node(&Want::of_root(&root()), 1) == Some(Ok(0))
+        && current_with(fixture, &second_root()) == Some(Ok(Some(second_root())))
 }
 
 #[test]
 fn finds_the_root_of_pages_that_are_there(rt: HostRuntime) -> Result<(), Fail> {
     let mut fixture = Fixture::new(rt.alloc(), &[])?;
-    let record = record_of(&root()).ok_or("no root record")?;
-    assert!(rt; fixture.current() == Ok(None));
-    assert!(rt; fixture.swap(&record));
-    assert!(rt;
-        fixture.current() == Err(CurrentRefusal::BadRoot),
-        "no page yet"
-    );
-    fixture.place_empty_leaf().ok_or("no room")??;
-    assert!(rt; fixture.current() == Ok(Some(root())));
-    assert!(rt; fixture.node(&Want::of_root(&root()), 1) == Some(Ok(0)));
-    let second = Root {
-        version: 2,
-        key: key(1).with_digest([7; 32]),
-        ..root()
-    };
-    let record = record_of(&second).ok_or("no root record")?;
-    assert!(rt; fixture.swap(&record));
-    assert!(rt; fixture.current() == Ok(Some(second)));
+    assert!(rt; needs_a_page(&mut fixture));
+    assert!(rt; fixture.place_empty_leaf() == placed(0, 1));
+    assert!(rt; finds_roots(&mut fixture));
     assert!(rt; fixture.swap(&[7; ROOT]));
     assert!(rt;
         fixture.current() == Err(CurrentRefusal::BadRoot),
