@@ -55,6 +55,24 @@ struct Rest {
     flags: u64,
 }
 
+/// The kind of a request and where it begins, with its count where that doesn't follow from the bytes behind it.
+#[derive(Clone, Copy)]
+struct Range {
+    kind: u64,
+    at: u64,
+    count: Option<u64>,
+}
+
+/// The fields of a request behind the word that it begins with.
+#[derive(Clone, Copy)]
+struct Head {
+    flags: u64,
+    kind: u64,
+    cookie: u64,
+    at: u64,
+    count: u64,
+}
+
 impl Client {
     /// A client that has said nothing, and waits for the greeting.
     pub fn new(alloc: Global) -> Result<Client, Memory> {
@@ -86,17 +104,13 @@ impl Client {
         let first = word(words)?;
         if first == "flags" {
             self.say_flags(words)
-        } else if first == "option" {
-            let kind = number(words)?;
-            self.say_option(kind, words)
-        } else if first == "export" {
-            self.say_option(EXPORT, words)
-        } else if first == "abort" {
-            self.say_option(ABORT, words)
         } else if first == "bytes" {
             self.say_bytes(words)
         } else {
-            self.say_request(first, words)
+            match option_of(first, words)? {
+                Some(kind) => self.say_option(kind, words),
+                None => self.say_request(first, words),
+            }
         }
     }
 
@@ -118,19 +132,23 @@ impl Client {
     /// Says an option of this kind, with its data.
     fn say_option(&mut self, kind: u64, words: &mut SplitWhitespace<'_>) -> Result<(), LineFault> {
         let rest = self.rest_of(words)?;
-        let count = rest.count.unwrap_or(rest.bytes.bytes().len() as u64);
+        Ok(self.say_data(kind, &rest)?)
+    }
+
+    /// Says an option of this kind with these data.
+    fn say_data(&mut self, kind: u64, data: &Rest) -> Result<(), Memory> {
+        let bytes = data.bytes.bytes();
+        let count = data.count.unwrap_or(bytes.len() as u64);
         self.said.append(b"IHAVEOPT")?;
         self.say_number(kind, 4)?;
         self.say_number(count, 4)?;
-        self.said.append(rest.bytes.bytes())?;
-        self.awaited.push(if kind == EXPORT {
-            Awaited::Export {
-                has_zeroes: self.wants_zeroes,
-            }
+        self.said.append(bytes)?;
+        let has_zeroes = self.wants_zeroes;
+        self.wait_for(if kind == EXPORT {
+            Awaited::Export { has_zeroes }
         } else {
             Awaited::Answer
-        })?;
-        Ok(())
+        })
     }
 
     /// Says a request of the kind that a word names.
@@ -139,45 +157,44 @@ impl Client {
         name: &str,
         words: &mut SplitWhitespace<'_>,
     ) -> Result<(), LineFault> {
-        if name == "flush" {
-            self.say_range(FLUSH, 0, Some(0), words)
-        } else if name == "disconnect" {
-            self.say_range(DISCONNECT, 0, Some(0), words)
-        } else if name == "write" {
-            let at = number(words)?;
-            self.say_range(WRITE, at, None, words)
-        } else {
-            let kind = kind_of(name, words)?;
-            let at = number(words)?;
-            let count = number(words)?;
-            self.say_range(kind, at, Some(count), words)
+        let range = range_of(name, words)?;
+        let rest = self.rest_of(words)?;
+        Ok(self.say_range(&range, &rest)?)
+    }
+
+    /// Says a request for a range, with bytes behind it: as many as are counted, where no other count is said.
+    fn say_range(&mut self, range: &Range, rest: &Rest) -> Result<(), Memory> {
+        let bytes = rest.bytes.bytes();
+        let count = rest.count.or(range.count).unwrap_or(bytes.len() as u64);
+        self.cookie = self.cookie.saturating_add(1);
+        self.say_head(&Head {
+            flags: rest.flags,
+            kind: range.kind,
+            cookie: rest.cookie.unwrap_or(self.cookie),
+            at: range.at,
+            count,
+        })?;
+        self.said.append(bytes)?;
+        match range.kind {
+            DISCONNECT => Ok(()),
+            READ => self.wait_for(Awaited::Reply { count }),
+            _ => self.wait_for(Awaited::Reply { count: 0 }),
         }
     }
 
-    /// Says a request of this kind for a range, with bytes behind it: as many as are counted, where no other count is said.
-    fn say_range(
-        &mut self,
-        kind: u64,
-        at: u64,
-        count: Option<u64>,
-        words: &mut SplitWhitespace<'_>,
-    ) -> Result<(), LineFault> {
-        let rest = self.rest_of(words)?;
-        let bytes = rest.bytes.bytes();
-        let count = rest.count.or(count).unwrap_or(bytes.len() as u64);
-        self.cookie = self.cookie.saturating_add(1);
+    /// Says what stands before the bytes of a request.
+    fn say_head(&mut self, head: &Head) -> Result<(), Memory> {
         self.say_number(0x25609513, 4)?;
-        self.say_number(rest.flags, 2)?;
-        self.say_number(kind, 2)?;
-        self.say_number(rest.cookie.unwrap_or(self.cookie), 8)?;
-        self.say_number(at, 8)?;
-        self.say_number(count, 4)?;
-        self.said.append(bytes)?;
-        if kind != DISCONNECT {
-            self.awaited.push(Awaited::Reply {
-                count: if kind == READ { count } else { 0 },
-            })?;
-        }
+        self.say_number(head.flags, 2)?;
+        self.say_number(head.kind, 2)?;
+        self.say_number(head.cookie, 8)?;
+        self.say_number(head.at, 8)?;
+        self.say_number(head.count, 4)
+    }
+
+    /// Waits for this too.
+    fn wait_for(&mut self, awaited: Awaited) -> Result<(), Memory> {
+        self.awaited.push(awaited)?;
         Ok(())
     }
 
@@ -200,18 +217,83 @@ impl Client {
             let Some(field) = words.next() else {
                 break;
             };
-            if field == "count" {
-                rest.count = Some(number(words)?);
-            } else if field == "cookie" {
-                rest.cookie = Some(number(words)?);
-            } else if field == "flags" {
-                rest.flags = number(words)?;
-            } else {
-                read_bytes(self.alloc, field, &mut rest.bytes)?;
-            }
+            rest.take(self.alloc, field, words)?;
         }
         Ok(rest)
     }
+}
+
+impl Rest {
+    /// Takes a word up: bytes, or the name of a field whose number comes next.
+    fn take(
+        &mut self,
+        alloc: Global,
+        field: &str,
+        words: &mut SplitWhitespace<'_>,
+    ) -> Result<(), LineFault> {
+        if field == "count" {
+            self.count = Some(number(words)?);
+        } else if field == "cookie" {
+            self.cookie = Some(number(words)?);
+        } else if field == "flags" {
+            self.flags = number(words)?;
+        } else {
+            read_bytes(alloc, field, &mut self.bytes)?;
+        }
+        Ok(())
+    }
+}
+
+/// The number of an option: `export`, `abort`, or `option` and a number. None, if it is none of these words.
+fn option_of(name: &str, words: &mut SplitWhitespace<'_>) -> Result<Option<u64>, LineFault> {
+    if name == "option" {
+        Ok(Some(number(words)?))
+    } else if name == "export" {
+        Ok(Some(EXPORT))
+    } else if name == "abort" {
+        Ok(Some(ABORT))
+    } else {
+        Ok(None)
+    }
+}
+
+/// The range of the request that a word names: of `flush` and `disconnect` an empty one.
+fn range_of(name: &str, words: &mut SplitWhitespace<'_>) -> Result<Range, LineFault> {
+    if name == "flush" {
+        Ok(empty_range(FLUSH))
+    } else if name == "disconnect" {
+        Ok(empty_range(DISCONNECT))
+    } else if name == "write" {
+        let at = number(words)?;
+        Ok(Range {
+            kind: WRITE,
+            at,
+            count: None,
+        })
+    } else {
+        let kind = kind_of(name, words)?;
+        counted_range(kind, words)
+    }
+}
+
+/// The range of a request that is for none.
+fn empty_range(kind: u64) -> Range {
+    Range {
+        kind,
+        at: 0,
+        count: Some(0),
+    }
+}
+
+/// The range whose start and count come next.
+fn counted_range(kind: u64, words: &mut SplitWhitespace<'_>) -> Result<Range, LineFault> {
+    let at = number(words)?;
+    let count = number(words)?;
+    Ok(Range {
+        kind,
+        at,
+        count: Some(count),
+    })
 }
 
 /// The number of a kind of request for a range: `read`, `trim`, or `request` and a number.

@@ -83,14 +83,18 @@ fn write_word(alloc: Global, bytes: &[u8], text: &mut Line) -> Result<usize, Mem
         digits_length(bytes)
     };
     let (front, _) = bytes.split_at(count.min(bytes.len()));
-    let digits = hex::encode(alloc, front)?;
-    text.append(digits.as_bytes())?;
+    write_digits(alloc, front, text)?;
     if run < LEAST {
         return Ok(count);
     }
     let mark = if same >= counting { "*" } else { "+" };
     text.append(format!(in alloc; "{mark}{run}")?.as_bytes())?;
     Ok(run)
+}
+
+/// Writes the hex digits of these bytes.
+fn write_digits(alloc: Global, bytes: &[u8], text: &mut Line) -> Result<(), Memory> {
+    text.append(hex::encode(alloc, bytes)?.as_bytes())
 }
 
 /// How many bytes at the front go on in this way.

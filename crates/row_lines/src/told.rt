@@ -41,30 +41,60 @@ pub fn write_told(
         last: Line::new(alloc),
         times: 0,
     };
-    let mut rest = put;
-    for awaited in client.awaited() {
-        let count = length_of(*awaited, rest);
-        if rest.len() < count {
-            break;
-        }
-        let (front, behind) = rest.split_at(count);
-        let mut line = Line::new(alloc);
-        if !describe(alloc, *awaited, front, &mut line)? {
-            break;
-        }
-        lines.add(line, text)?;
-        rest = behind;
-    }
+    let untold = lines.add_words(client.awaited(), put, text)?;
     lines.finish(text)?;
-    if !rest.is_empty() {
-        text.append(b"<~ ")?;
-        write_bytes(alloc, rest, text)?;
-        text.append(b"\n")?;
+    write_untold(alloc, untold, text)
+}
+
+/// Writes the line of the bytes behind the last word, if there are any.
+fn write_untold(alloc: Global, bytes: &[u8], text: &mut Line) -> Result<(), Memory> {
+    if bytes.is_empty() {
+        return Ok(());
     }
-    Ok(())
+    text.append(b"<~ ")?;
+    write_bytes(alloc, bytes, text)?;
+    text.append(b"\n")
 }
 
 impl Lines {
+    /// Adds the lines of the words that these bytes begin with, of those that are waited for. The answer is the bytes behind them.
+    fn add_words<'a>(
+        &mut self,
+        awaited: &[Awaited],
+        put: &'a [u8],
+        text: &mut Line,
+    ) -> Result<&'a [u8], Memory> {
+        let mut rest = put;
+        for awaited in awaited {
+            match self.add_word(*awaited, rest, text)? {
+                Some(behind) => rest = behind,
+                None => break,
+            }
+        }
+        Ok(rest)
+    }
+
+    /// Adds the line of the word that these bytes begin with. The answer is the bytes behind it; None, if it is another word than is
+    /// waited for.
+    fn add_word<'a>(
+        &mut self,
+        awaited: Awaited,
+        bytes: &'a [u8],
+        text: &mut Line,
+    ) -> Result<Option<&'a [u8]>, Memory> {
+        let count = length_of(awaited, bytes);
+        if bytes.len() < count {
+            return Ok(None);
+        }
+        let (front, behind) = bytes.split_at(count);
+        let mut line = Line::new(self.alloc);
+        if !describe(self.alloc, awaited, front, &mut line)? {
+            return Ok(None);
+        }
+        self.add(line, text)?;
+        Ok(Some(behind))
+    }
+
     /// Adds a line, and writes the one before where that is another one.
     fn add(&mut self, line: Line, text: &mut Line) -> Result<(), Memory> {
         if self.times > 0 && self.last.bytes() == line.bytes() {
