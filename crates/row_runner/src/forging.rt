@@ -4,7 +4,7 @@ ghost use Rattle.std.specs.Prelude.{◌≤◌, IfOk};
 use medium_trace::Pages;
 use page_digest::digest_of;
 use row_lines::{LineFault, byte, number, word};
-use sdbt_base::{KeySlot, RECORD, ROOT};
+use sdbt_base::{KeySlot, Memory, RECORD, ROOT};
 use seal_record::seal;
 use std::alloc::Global;
 use std::str::SplitWhitespace;
@@ -36,6 +36,14 @@ struct Child {
     key: u8,
 }
 
+/// What is put into a page: its body, the byte that its key is made of, and how many children were put.
+#[derive(Clone, Copy)]
+struct Forged {
+    body: [u8; RECORD],
+    key: u8,
+    children: u8,
+}
+
 /// Puts bytes at a place; what reaches beyond the end is left out.
 pub(crate) fn put(into: &mut [u8], place: usize, bytes: &[u8]) {
     let (_, rest) = into.split_at_mut(place.min(into.len()));
@@ -62,30 +70,66 @@ pub(crate) fn page_of(
     words: &mut SplitWhitespace<'_>,
     pages: &Pages,
 ) -> Result<[u8; RECORD], LineFault> {
-    let mut body = [0; RECORD];
-    put(&mut body, 0, b"SDBTREC1");
-    put(&mut body, 8, &addr.to_be_bytes());
-    put(&mut body, 16, &[2]);
-    let mut key = key_of(addr);
-    let mut children: u8 = 0;
+    let mut forged = Forged::at(addr);
     for _ in 0..u64::MAX {
         let Some(field) = words.next() else {
             break;
         };
-        if field == "key" {
-            key = byte(words)?;
-        } else if field == "child" {
-            put_child(&mut body, u64::from(children), words, pages)?;
-            children = children.saturating_add(1);
-            put(&mut body, 19, &[children]);
-        } else {
-            put_field(&mut body, field, words, pages)?;
+        forged.put(field, words, pages)?;
+    }
+    Ok(sealed(alloc, forged.key, &forged.body)?)
+}
+
+impl Forged {
+    /// A node without an entry, under the key of its address.
+    fn at(addr: u64) -> Forged {
+        let mut body = [0; RECORD];
+        put(&mut body, 0, b"SDBTREC1");
+        put(&mut body, 8, &addr.to_be_bytes());
+        put(&mut body, 16, &[2]);
+        Forged {
+            body,
+            key: key_of(addr),
+            children: 0,
         }
     }
+
+    /// Puts what a word names.
+    fn put(
+        &mut self,
+        field: &str,
+        words: &mut SplitWhitespace<'_>,
+        pages: &Pages,
+    ) -> Result<(), LineFault> {
+        if field == "key" {
+            self.key = byte(words)?;
+            Ok(())
+        } else if field == "child" {
+            self.put_child(words, pages)
+        } else {
+            put_field(&mut self.body, field, words, pages)
+        }
+    }
+
+    /// Puts the next entry of a node, which then counts it.
+    fn put_child(
+        &mut self,
+        words: &mut SplitWhitespace<'_>,
+        pages: &Pages,
+    ) -> Result<(), LineFault> {
+        put_child(&mut self.body, u64::from(self.children), words, pages)?;
+        self.children = self.children.saturating_add(1);
+        put(&mut self.body, 19, &[self.children]);
+        Ok(())
+    }
+}
+
+/// The page of a body under the key that is this byte 32 times.
+fn sealed(alloc: Global, key: u8, body: &[u8; RECORD]) -> Result<[u8; RECORD], Memory> {
     let mut page = [0; RECORD];
     let mut slot = KeySlot::new(alloc)?;
     slot.put([key; 32]);
-    let _ = seal(&mut slot, &body, &mut page);
+    let _ = seal(&mut slot, body, &mut page);
     Ok(page)
 }
 

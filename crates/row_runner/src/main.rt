@@ -15,6 +15,7 @@ mod showing;
 mod state;
 
 use row::Row;
+use sdbt_base::Memory;
 use std::alloc::Global;
 use std::io::Write;
 use std::process::ExitCode;
@@ -63,10 +64,14 @@ fn step_of(rt: &(impl Env + Alloc<A = Global>)) -> Option<usize> {
 /// Does what the row on standard input says, and writes it to standard output. It answers whether each line is one of a row's.
 fn follow(rt: &(impl Input + Print + Alloc<A = Global>), step: usize) -> io::Result<bool> {
     let text = io::read_to_string(rt.alloc(), rt.reader())?;
-    let mut row = Row::new(rt.alloc(), step);
-    if row.follow_all(text.as_str()).is_err() {
-        return Err(io::ErrorKind::OutOfMemory.into());
+    match Row::of(rt.alloc(), step, text.as_str()) {
+        Ok(row) => write(rt, &row),
+        Err(Memory) => Err(io::ErrorKind::OutOfMemory.into()),
     }
+}
+
+/// Writes a row that was followed to standard output. It answers whether each line is one of a row's.
+fn write(rt: &impl Print, row: &Row) -> io::Result<bool> {
     io::writer(rt).write_all(row.text())?;
     Ok(row.is_whole())
 }

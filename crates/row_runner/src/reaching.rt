@@ -2,7 +2,7 @@
 ghost use Rattle.std.specs.Prelude.{◌+◌, ◌≤◌};
 
 use medium_trace::Pages;
-use node_codec::{Body, decode};
+use node_codec::{Body, NodeBody, decode};
 use root_codec::Root;
 use sdbt_base::{Key, Memory, RECORD};
 use seal_record::{stamped, unseal};
@@ -14,16 +14,21 @@ const MOST: usize = 65_536;
 /// Which of the pages chains of opening from a key reach: each key that one of them yields is tried on every page.
 pub(crate) fn reached_from(alloc: Global, pages: &Pages, key: Key) -> Result<Vec<bool>, Memory> {
     let mut reached = vec![in alloc; false; pages.len()]?;
-    let mut found = Vec::new(alloc);
-    found.push(key)?;
+    let mut found = vec![in alloc; key; 1]?;
+    try_keys(pages, &mut reached, &mut found)?;
+    Ok(reached)
+}
+
+/// Tries the keys of a list, to which those are added that they yield.
+fn try_keys(pages: &Pages, reached: &mut [bool], found: &mut Vec<Key>) -> Result<(), Memory> {
     for next in 0..MOST {
         let Some(key) = found.get(next) else {
             break;
         };
         let key = *key;
-        try_key(pages, &key, &mut reached, &mut found)?;
+        try_key(pages, &key, reached, found)?;
     }
-    Ok(reached)
+    Ok(())
 }
 
 /// Tries a key on every page that was not reached yet.
@@ -48,15 +53,29 @@ fn add_yielded(key: &Key, page: &[u8; RECORD], found: &mut Vec<Key>) -> Result<(
     let mut body = [0; RECORD];
     unseal(key, page, &mut body);
     let count = u16::from_be_bytes([body[18], body[19]]);
-    if body[16] == 2 {
-        for entry in 0..count.min(85) as usize {
-            found.push(key_in(&body, 48 * entry + 48))?;
-        }
+    match body[16] {
+        2 => add_short(&body, count.min(85), found),
+        3 => add_long(&body, count.min(51), found),
+        _ => Ok(()),
     }
-    if body[16] == 3 {
-        for entry in 0..count.min(51) as usize {
-            found.push(key_in(&body, 80 * entry + 48))?;
-        }
+}
+
+/// Adds the keys of so many entries of kind 2.
+fn add_short(body: &[u8; RECORD], count: u16, found: &mut Vec<Key>) -> Result<(), Memory>
+    requires { count ≤ 85 }
+{
+    for entry in 0..count as usize {
+        found.push(key_in(body, 48 * entry + 48))?;
+    }
+    Ok(())
+}
+
+/// Adds the keys of so many entries of kind 3.
+fn add_long(body: &[u8; RECORD], count: u16, found: &mut Vec<Key>) -> Result<(), Memory>
+    requires { count ≤ 51 }
+{
+    for entry in 0..count as usize {
+        found.push(key_in(body, 80 * entry + 48))?;
     }
     Ok(())
 }
@@ -108,14 +127,20 @@ fn add_children(pages: &Pages, place: &Place, places: &mut Vec<Place>) -> Result
     }
     let mut body = [0; RECORD];
     unseal(&place.key, pages.at(addr), &mut body);
-    if let Some(Body::Node { node }) = decode(&body, place.addr) {
-        for entry in node.entries.iter() {
-            places.push(Place {
-                addr: entry.addr,
-                key: entry.key,
-                level: place.level - 1,
-            })?;
-        }
+    match decode(&body, place.addr) {
+        Some(Body::Node { node }) => add_entries(&node, place.level - 1, places),
+        _ => Ok(()),
+    }
+}
+
+/// Adds the places of a node's entries, which are of this level.
+fn add_entries(node: &NodeBody, level: u8, places: &mut Vec<Place>) -> Result<(), Memory> {
+    for entry in node.entries.iter() {
+        places.push(Place {
+            addr: entry.addr,
+            key: entry.key,
+            level,
+        })?;
     }
     Ok(())
 }

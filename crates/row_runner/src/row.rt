@@ -38,9 +38,26 @@ enum Given {
     Client(Client),
 }
 
+impl Given {
+    /// The bytes of the input.
+    fn bytes(&self) -> &[u8] {
+        match self {
+            Given::Script(script) => script.bytes(),
+            Given::Client(client) => client.said(),
+        }
+    }
+}
+
 impl Row {
-    /// A row of no line yet, whose scripts come so many bytes a take where it doesn't say otherwise.
-    pub(crate) fn new(alloc: Global, step: usize) -> Row {
+    /// The row that the lines of a text say, whose scripts come so many bytes a take where it doesn't say otherwise.
+    pub(crate) fn of(alloc: Global, step: usize, text: &str) -> Result<Row, Memory> {
+        let mut row = Row::new(alloc, step);
+        row.follow_all(text)?;
+        Ok(row)
+    }
+
+    /// A row of no line yet.
+    fn new(alloc: Global, step: usize) -> Row {
         Row {
             alloc,
             text: Line::new(alloc),
@@ -64,7 +81,7 @@ impl Row {
     }
 
     /// Goes on by the lines of a text, to its end.
-    pub(crate) fn follow_all(&mut self, text: &str) -> Result<(), Memory> {
+    fn follow_all(&mut self, text: &str) -> Result<(), Memory> {
         for line in text.strip_suffix('\n').unwrap_or(text).split('\n') {
             self.follow(line)?;
         }
@@ -91,21 +108,28 @@ impl Row {
 
     /// Serves the run whose input has been read, and writes how it ended.
     fn finish(&mut self) -> Result<(), Memory> {
-        let Some(run) = self.run.take() else {
-            return Ok(());
-        };
-        let input = match &run.input {
-            Given::Script(script) => script.bytes(),
-            Given::Client(client) => client.said(),
-        };
+        match self.run.take() {
+            Some(run) => self.serve(&run),
+            None => Ok(()),
+        }
+    }
+
+    /// Serves a run, and writes how it ended.
+    fn serve(&mut self, run: &Run) -> Result<(), Memory> {
+        let input = run.input.bytes();
         let ran = self.scene.run(run.server, &run.words, input, self.step)?;
-        match &run.input {
-            Given::Script(_) => self.write_output(&ran)?,
+        self.write_ran(&run.input, &ran)
+    }
+
+    /// Writes what came of a run with this input.
+    fn write_ran(&mut self, input: &Given, ran: &Ran) -> Result<(), Memory> {
+        match input {
+            Given::Script(_) => self.write_output(ran)?,
             Given::Client(client) => {
                 write_told(self.alloc, client, ran.output.bytes(), &mut self.text)?;
             }
         }
-        write_end(self.alloc, &self.scene, &ran, &mut self.text)
+        write_end(self.alloc, &self.scene, ran, &mut self.text)
     }
 
     /// Writes what a script's run put: a last line without a line feed behind another mark.
@@ -182,16 +206,11 @@ impl Row {
     /// Does what a line says that stands before a run: `keys`, `take`, `let`, `cut`, `page` or `cell`.
     fn prepare(&mut self, first: &str, words: &mut SplitWhitespace<'_>) -> Result<(), LineFault> {
         if first == "keys" {
-            self.scene.keys = keys_of(words)?;
-            end(words)
+            self.set_keys(words)
         } else if first == "take" {
-            self.step = number(words)?.min(65_536) as usize;
-            end(words)
+            self.set_step(words)
         } else if first == "let" {
-            let name = String::from_str(self.alloc, word(words)?)?;
-            let value = String::from_str(self.alloc, word(words)?)?;
-            self.names.push((name, value))?;
-            end(words)
+            self.let_be(words)
         } else if first == "cut" {
             self.scene.lose_power();
             end(words)
@@ -202,6 +221,34 @@ impl Row {
         } else {
             Err(LineFault::Unknown)
         }
+    }
+
+    /// `keys KEYS`: where the keys of the runs come from.
+    fn set_keys(&mut self, words: &mut SplitWhitespace<'_>) -> Result<(), LineFault> {
+        self.scene.keys = keys_of(words)?;
+        end(words)
+    }
+
+    /// `take COUNT`: how many bytes of a script come a take.
+    fn set_step(&mut self, words: &mut SplitWhitespace<'_>) -> Result<(), LineFault> {
+        self.step = number(words)?.min(65_536) as usize;
+        end(words)
+    }
+
+    /// `let NAME WORD`: a name that stands for a word.
+    fn let_be(&mut self, words: &mut SplitWhitespace<'_>) -> Result<(), LineFault> {
+        let name = word(words)?;
+        let value = word(words)?;
+        self.add_name(name, value)?;
+        end(words)
+    }
+
+    /// From here on a name stands for this.
+    fn add_name(&mut self, name: &str, value: &str) -> Result<(), Memory> {
+        let name = String::from_str(self.alloc, name)?;
+        let value = String::from_str(self.alloc, value)?;
+        self.names.push((name, value))?;
+        Ok(())
     }
 
     /// `run WORD..` or `volumes WORD..`: a run of a script or of volumes with these words, of which `$NAME` stands for what that was let be, `''` for an empty word, and `<ledger` for a script that is the
@@ -217,7 +264,7 @@ impl Row {
             if word == "<ledger" {
                 script.append(self.scene.ledger.bytes())?;
             } else {
-                all.push(String::from_str(self.alloc, self.meant_by(word))?)?;
+                self.add_word(word, &mut all)?;
             }
         }
         self.run = Some(Run {
@@ -230,28 +277,42 @@ impl Row {
 
     /// `transfer WORD..`: the device on the medium is moved to the other one.
     fn transfer(&mut self, words: &mut SplitWhitespace<'_>) -> Result<(), LineFault> {
-        let mut all = Vec::new(self.alloc);
-        for word in words {
-            all.push(String::from_str(self.alloc, self.meant_by(word))?)?;
-        }
+        let all = self.meant_words(words)?;
         let ran = self.scene.transfer(&mut self.other, &all)?;
-        self.write_output(&ran)?;
-        write_end(self.alloc, &self.scene, &ran, &mut self.text)?;
-        write_other(self.alloc, &self.other, &mut self.text)?;
-        Ok(())
+        Ok(self.write_moved(&ran)?)
+    }
+
+    /// Writes what came of a move.
+    fn write_moved(&mut self, ran: &Ran) -> Result<(), Memory> {
+        self.write_output(ran)?;
+        write_end(self.alloc, &self.scene, ran, &mut self.text)?;
+        write_other(self.alloc, &self.other, &mut self.text)
     }
 
     /// `nbd WORD..`: a run with these words that serves a client of NBD.
     fn begin_client(&mut self, words: &mut SplitWhitespace<'_>) -> Result<(), LineFault> {
-        let mut all = Vec::new(self.alloc);
-        for word in words {
-            all.push(String::from_str(self.alloc, self.meant_by(word))?)?;
-        }
+        let all = self.meant_words(words)?;
+        let client = Client::new(self.alloc)?;
         self.run = Some(Run {
             server: Server::Nbd,
             words: all,
-            input: Given::Client(Client::new(self.alloc)?),
+            input: Given::Client(client),
         });
+        Ok(())
+    }
+
+    /// What the words to the end of a line stand for.
+    fn meant_words(&self, words: &mut SplitWhitespace<'_>) -> Result<Vec<String>, Memory> {
+        let mut all = Vec::new(self.alloc);
+        for word in words {
+            self.add_word(word, &mut all)?;
+        }
+        Ok(all)
+    }
+
+    /// Adds what a word stands for.
+    fn add_word(&self, word: &str, all: &mut Vec<String>) -> Result<(), Memory> {
+        all.push(String::from_str(self.alloc, self.meant_by(word))?)?;
         Ok(())
     }
 
@@ -317,7 +378,8 @@ fn keys_of(words: &mut SplitWhitespace<'_>) -> Result<Keys, LineFault> {
     if kind == "rising" {
         Ok(Keys::Rising)
     } else if kind == "seed" {
-        Ok(Keys::Seeded(SeedTape::new(number(words)?)))
+        let seed = number(words)?;
+        Ok(Keys::Seeded(SeedTape::new(seed)))
     } else {
         Err(LineFault::Unknown)
     }

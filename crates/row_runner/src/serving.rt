@@ -52,6 +52,42 @@ pub(crate) struct Ran {
     pub(crate) starved: u64,
 }
 
+/// What a run puts: replies, and entries of the ledger.
+#[derive(Drop)]
+struct Sinks {
+    output: MemSink,
+    ledger: MemSink,
+}
+
+impl Sinks {
+    /// Sinks that nothing was put to, with what fails of them.
+    fn new(alloc: Global, faults: &Faults) -> Result<Sinks, Memory> {
+        let output = MemSink::new(alloc, &faults.puts)?;
+        let ledger = MemSink::new(alloc, &faults.entries)?;
+        Ok(Sinks { output, ledger })
+    }
+
+    /// How a run ended that put this, and whose platforms were given no memory so often.
+    fn ran(&self, alloc: Global, status: u8, platforms: u64) -> Result<Ran, Memory> {
+        let sinks = self.output.starved().saturating_add(self.ledger.starved());
+        let output = copied(alloc, self.output.bytes())?;
+        let entries = copied(alloc, self.ledger.bytes())?;
+        Ok(Ran {
+            status,
+            output,
+            entries,
+            starved: platforms.saturating_add(sinks),
+        })
+    }
+}
+
+/// What a run takes from and puts to.
+#[derive(Drop)]
+struct Ends {
+    input: MemSource,
+    sinks: Sinks,
+}
+
 /// Hands words and an input, of which so many bytes come a take, to a top call.
 pub(crate) fn serve(
     alloc: Global,
@@ -64,25 +100,39 @@ pub(crate) fn serve(
     step: usize,
 ) -> Result<Ran, Memory> {
     platform.set_failures(&faults.calls)?;
-    let mut input = MemSource::new(alloc, input, step.max(1), &faults.takes)?;
-    let mut output = MemSink::new(alloc, &faults.puts)?;
-    let mut ledger = MemSink::new(alloc, &faults.entries)?;
-    let ends = (&mut input, &mut output, &mut ledger);
-    let status = match keys {
-        Keys::Rising => {
-            let mut tape = rising(alloc, platform.head(), &faults.draws)?;
-            status_of(alloc, server, words, platform, &mut tape, ends)
-        }
-        Keys::Seeded(tape) => status_of(alloc, server, words, platform, tape, ends),
-    };
+    let input = MemSource::new(alloc, input, step.max(1), &faults.takes)?;
+    let sinks = Sinks::new(alloc, faults)?;
+    let mut ends = Ends { input, sinks };
+    let status = status_under(
+        alloc,
+        server,
+        words,
+        platform,
+        keys,
+        &faults.draws,
+        &mut ends,
+    )?;
     platform.set_failures(&[])?;
-    let sinks = output.starved().saturating_add(ledger.starved());
-    Ok(Ran {
-        status,
-        output: copied(alloc, output.bytes())?,
-        entries: copied(alloc, ledger.bytes())?,
-        starved: platform.starved().saturating_add(sinks),
-    })
+    ends.sinks.ran(alloc, status, platform.starved())
+}
+
+/// Hands all to a top call, with a tape of these keys of which these draws fail where keys rise.
+fn status_under(
+    alloc: Global,
+    server: Server,
+    words: &[String],
+    platform: &mut MemPlatform,
+    keys: &mut Keys,
+    failing: &[u64],
+    ends: &mut Ends,
+) -> Result<u8, Memory> {
+    match keys {
+        Keys::Rising => {
+            let mut tape = rising(alloc, platform.head(), failing)?;
+            Ok(status_of(alloc, server, words, platform, &mut tape, ends))
+        }
+        Keys::Seeded(tape) => Ok(status_of(alloc, server, words, platform, tape, ends)),
+    }
 }
 
 /// Hands all to a top call. Its contract is not said again here, so that no proof above carries it along.
@@ -92,8 +142,10 @@ fn status_of<T: Tape>(
     words: &[String],
     platform: &mut MemPlatform,
     tape: &mut T,
-    (input, output, ledger): (&mut MemSource, &mut MemSink, &mut MemSink),
+    ends: &mut Ends,
 ) -> u8 {
+    let input = &mut ends.input;
+    let (output, ledger) = (&mut ends.sinks.output, &mut ends.sinks.ledger);
     match server {
         Server::Script => run_main(alloc, words, platform, tape, input, output, ledger),
         Server::Nbd => run_nbd(alloc, words, platform, tape, input, output, ledger),
@@ -113,27 +165,30 @@ pub(crate) fn serve_transfer(
 ) -> Result<Ran, Memory> {
     from.set_failures(calls)?;
     to.set_failures(&faults.calls)?;
-    let mut output = MemSink::new(alloc, &faults.puts)?;
-    let mut ledger = MemSink::new(alloc, &faults.entries)?;
-    let status = match keys {
-        Keys::Rising => {
-            let mut tape = rising(alloc, to.head(), &faults.draws)?;
-            transfer_status(alloc, words, from, to, &mut tape, &mut output, &mut ledger)
-        }
-        Keys::Seeded(tape) => {
-            transfer_status(alloc, words, from, to, tape, &mut output, &mut ledger)
-        }
-    };
+    let mut sinks = Sinks::new(alloc, faults)?;
+    let status = transfer_under(alloc, words, from, to, keys, &faults.draws, &mut sinks)?;
     from.set_failures(&[])?;
     to.set_failures(&[])?;
-    let sinks = output.starved().saturating_add(ledger.starved());
-    let platforms = from.starved().saturating_add(to.starved());
-    Ok(Ran {
-        status,
-        output: copied(alloc, output.bytes())?,
-        entries: copied(alloc, ledger.bytes())?,
-        starved: platforms.saturating_add(sinks),
-    })
+    sinks.ran(alloc, status, from.starved().saturating_add(to.starved()))
+}
+
+/// Hands all to the top call of transfers, with a tape of these keys of which these draws fail where keys rise.
+fn transfer_under(
+    alloc: Global,
+    words: &[String],
+    from: &mut MemPlatform,
+    to: &mut MemPlatform,
+    keys: &mut Keys,
+    failing: &[u64],
+    sinks: &mut Sinks,
+) -> Result<u8, Memory> {
+    match keys {
+        Keys::Rising => {
+            let mut tape = rising(alloc, to.head(), failing)?;
+            Ok(transfer_status(alloc, words, from, to, &mut tape, sinks))
+        }
+        Keys::Seeded(tape) => Ok(transfer_status(alloc, words, from, to, tape, sinks)),
+    }
 }
 
 /// Hands all to the top call of transfers. Its contract is not said again here.
@@ -143,9 +198,9 @@ fn transfer_status<T: Tape>(
     from: &mut MemPlatform,
     to: &mut MemPlatform,
     tape: &mut T,
-    output: &mut MemSink,
-    ledger: &mut MemSink,
+    sinks: &mut Sinks,
 ) -> u8 {
+    let (output, ledger) = (&mut sinks.output, &mut sinks.ledger);
     run_transfer(alloc, words, from, to, tape, output, ledger)
 }
 

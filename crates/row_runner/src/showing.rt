@@ -3,8 +3,9 @@ use crate::reaching::{openers, reached_from, tree_of};
 use crate::serving::Ran;
 use crate::state::Scene;
 use key_tape::SeedTape;
+use medium_trace::Pages;
 use platform::Platform;
-use root_codec::decode_root;
+use root_codec::{Root, decode_root};
 use row_lines::{LineFault, end, number, word};
 use sdbt_base::{Key, KeySlot, Line, Memory, RECORD, Tape};
 use std::alloc::Global;
@@ -57,23 +58,35 @@ pub(crate) fn show(
     text: &mut Line,
 ) -> Result<(), LineFault> {
     let what = word(words)?;
-    if what == "reads" {
-        let reads = scene.platform.reads().saturating_sub(scene.reads);
-        text.append(format!(in alloc; "= reads {reads}\n")?.as_bytes())?;
-    } else if what == "cell" {
-        show_cell(alloc, scene, text)?;
-    } else if what == "ledger" {
-        show_ledger(scene, text)?;
-    } else if what == "page" {
+    if what == "page" {
         show_page(alloc, scene, number(words)?, text)?;
     } else if what == "openers" {
         show_openers(alloc, scene, number(words)?, text)?;
-    } else if what == "reached" {
-        show_reached(alloc, scene, text)?;
     } else {
-        return Err(LineFault::Unknown);
+        show_whole(alloc, scene, what, text)?;
     }
     end(words)
+}
+
+/// Adds what a word asks for that no number belongs to.
+fn show_whole(alloc: Global, scene: &Scene, what: &str, text: &mut Line) -> Result<(), LineFault> {
+    if what == "reads" {
+        Ok(show_reads(alloc, scene, text)?)
+    } else if what == "cell" {
+        Ok(show_cell(alloc, scene, text)?)
+    } else if what == "ledger" {
+        Ok(show_ledger(scene, text)?)
+    } else if what == "reached" {
+        show_reached(alloc, scene, text)
+    } else {
+        Err(LineFault::Unknown)
+    }
+}
+
+/// How many reads of pages the last run took.
+fn show_reads(alloc: Global, scene: &Scene, text: &mut Line) -> Result<(), Memory> {
+    let reads = scene.platform.reads().saturating_sub(scene.reads);
+    text.append(format!(in alloc; "= reads {reads}\n")?.as_bytes())
 }
 
 /// The root record in hex digits.
@@ -106,33 +119,65 @@ fn show_page(
     addr: u64,
     text: &mut Line,
 ) -> Result<(), LineFault> {
-    let mut page = [7; RECORD];
-    if addr >= scene.platform.head() || scene.platform.read(addr, &mut page).is_err() {
-        return Err(LineFault::Unknown);
-    }
-    let what = if page == [0; RECORD] {
-        "zeros"
-    } else {
-        "a record"
-    };
+    let what = read_as(scene, addr).ok_or(LineFault::Unknown)?;
     text.append(format!(in alloc; "= page {addr} reads as {what}\n")?.as_bytes())?;
     Ok(())
+}
+
+/// What the page at an address reads as, if it can be read.
+fn read_as(scene: &mut Scene, addr: u64) -> Option<&'static str> {
+    let mut page = [7; RECORD];
+    if addr >= scene.platform.head() || scene.platform.read(addr, &mut page).is_err() {
+        return None;
+    }
+    if page == [0; RECORD] {
+        Some("zeros")
+    } else {
+        Some("a record")
+    }
 }
 
 /// Which of the first keys of a seed open each page.
 fn show_openers(alloc: Global, scene: &Scene, seed: u64, text: &mut Line) -> Result<(), LineFault> {
     let keys = first_keys(alloc, seed)?;
-    let distinct = keys
-        .iter()
-        .filter(|one| keys.iter().filter(|other| *other == *one).count() == 1)
-        .count();
-    text.append(format!(in alloc; "= keys {KEYS} distinct {distinct}\n")?.as_bytes())?;
-    let pages = scene.platform.recorded();
+    Ok(write_openers(alloc, &keys, scene.platform.recorded(), text)?)
+}
+
+/// Which of these keys open each page.
+fn write_openers(
+    alloc: Global,
+    keys: &[Key],
+    pages: &Pages,
+    text: &mut Line,
+) -> Result<(), Memory> {
+    write_distinct(alloc, keys, text)?;
     for addr in 0..pages.len() {
-        let found = openers(alloc, &keys, pages, addr)?;
-        text.append(format!(in alloc; "= page {addr} opened by keys {found:?}\n")?.as_bytes())?;
+        write_opened(alloc, keys, pages, addr, text)?;
     }
     Ok(())
+}
+
+/// How many of these keys come once.
+fn write_distinct(alloc: Global, keys: &[Key], text: &mut Line) -> Result<(), Memory> {
+    let distinct = keys.iter().filter(|key| comes_once(keys, key)).count();
+    text.append(format!(in alloc; "= keys {KEYS} distinct {distinct}\n")?.as_bytes())
+}
+
+/// Whether a key comes once among these.
+fn comes_once(keys: &[Key], key: &Key) -> bool {
+    keys.iter().filter(|other| *other == key).count() == 1
+}
+
+/// Which of these keys open a page.
+fn write_opened(
+    alloc: Global,
+    keys: &[Key],
+    pages: &Pages,
+    addr: usize,
+    text: &mut Line,
+) -> Result<(), Memory> {
+    let found = openers(alloc, keys, pages, addr)?;
+    text.append(format!(in alloc; "= page {addr} opened by keys {found:?}\n")?.as_bytes())
 }
 
 /// The first keys of a seed.
@@ -160,11 +205,26 @@ fn next_key(alloc: Global, tape: &mut SeedTape) -> Result<Option<Key>, Memory> {
 fn show_reached(alloc: Global, scene: &Scene, text: &mut Line) -> Result<(), LineFault> {
     let cell = scene.platform.cell().ok_or(LineFault::Unknown)?;
     let root = decode_root(&cell).ok_or(LineFault::Unknown)?;
-    let pages = scene.platform.recorded();
-    let reached = numbers_of(alloc, &reached_from(alloc, pages, root.key.bare())?)?;
-    let tree = numbers_of(alloc, &tree_of(alloc, pages, &root)?)?;
-    text.append(format!(in alloc; "= reached {reached:?}\n= tree {tree:?}\n")?.as_bytes())?;
-    Ok(())
+    Ok(write_reached(alloc, scene.platform.recorded(), &root, text)?)
+}
+
+/// The pages that the key of a root record reaches, and those of its tree.
+fn write_reached(alloc: Global, pages: &Pages, root: &Root, text: &mut Line) -> Result<(), Memory> {
+    let reached = numbers_reached(alloc, pages, root)?;
+    let tree = numbers_in_tree(alloc, pages, root)?;
+    text.append(format!(in alloc; "= reached {reached:?}\n= tree {tree:?}\n")?.as_bytes())
+}
+
+/// The numbers of the pages that the key of a root record reaches.
+fn numbers_reached(alloc: Global, pages: &Pages, root: &Root) -> Result<Vec<usize>, Memory> {
+    let reached = reached_from(alloc, pages, root.key.bare())?;
+    numbers_of(alloc, &reached)
+}
+
+/// The numbers of the pages in the tree of a root record.
+fn numbers_in_tree(alloc: Global, pages: &Pages, root: &Root) -> Result<Vec<usize>, Memory> {
+    let tree = tree_of(alloc, pages, root)?;
+    numbers_of(alloc, &tree)
 }
 
 /// The places at which a list says yes.

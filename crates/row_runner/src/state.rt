@@ -120,20 +120,7 @@ impl Scene {
         let kind = word(words)?;
         let nth = number(words)?;
         let more = words.next();
-        let faults = &mut self.faults;
-        if kind == "take" {
-            faults.takes.push(nth)?;
-        } else if kind == "draw" {
-            faults.draws.push(nth)?;
-        } else if kind == "put" {
-            faults.puts.push((nth, count_of(more)?))?;
-        } else if kind == "entry" {
-            faults.entries.push((nth, count_of(more)?))?;
-        } else {
-            let call = call_of(kind)?;
-            let effect = more.is_some_and(|word| word == "done");
-            faults.calls.push(Failure { call, nth, effect })?;
-        }
+        self.faults.add(kind, nth, more)?;
         end(words)
     }
 
@@ -141,16 +128,26 @@ impl Scene {
     pub(crate) fn set_page(&mut self, words: &mut SplitWhitespace<'_>) -> Result<(), LineFault> {
         let addr = number(words)?;
         let how = word(words)?;
-        let page = if how == "holds" {
-            page_of(self.alloc, addr, words, self.platform.recorded())?
-        } else {
-            let mut page = page_at(self.platform.recorded(), addr);
-            change(how, &mut page, words)?;
-            page
-        };
+        let page = self.page_said(addr, how, words)?;
         end(words)?;
         let cell = self.platform.cell();
         self.rebuild(Some((addr, &page)), cell)
+    }
+
+    /// The page that these words say, or how the one at an address is changed by them.
+    fn page_said(
+        &self,
+        addr: u64,
+        how: &str,
+        words: &mut SplitWhitespace<'_>,
+    ) -> Result<[u8; RECORD], LineFault> {
+        let pages = self.platform.recorded();
+        if how == "holds" {
+            return page_of(self.alloc, addr, words, pages);
+        }
+        let mut page = page_at(pages, addr);
+        change(how, &mut page, words)?;
+        Ok(page)
     }
 
     /// `cell put PLACE HEX`, `cell flip PLACE HEX`, `cell holds FIELDS` or `cell clear`: another root record.
@@ -193,12 +190,48 @@ impl Scene {
     }
 }
 
-/// How many bytes a word says.
-fn count_of(word: Option<&str>) -> Result<usize, LineFault> {
-    word.ok_or(LineFault::Unknown)?
-        .parse()
-        .ok()
-        .ok_or(LineFault::Unknown)
+impl Faults {
+    /// One more fault, of the kind that a word names, with its number and what may stand behind that.
+    fn add(&mut self, kind: &str, nth: u64, more: Option<&str>) -> Result<(), LineFault> {
+        if kind == "take" {
+            add_number(&mut self.takes, nth)
+        } else if kind == "draw" {
+            add_number(&mut self.draws, nth)
+        } else if kind == "put" {
+            add_cut(&mut self.puts, nth, more)
+        } else if kind == "entry" {
+            add_cut(&mut self.entries, nth, more)
+        } else {
+            add_call(&mut self.calls, kind, nth, more)
+        }
+    }
+}
+
+/// The take or draw of this number fails.
+fn add_number(numbers: &mut Vec<u64>, nth: u64) -> Result<(), LineFault> {
+    numbers.push(nth)?;
+    Ok(())
+}
+
+/// The put of this number fails, with as many bytes written as the word behind says.
+fn add_cut(puts: &mut Vec<(u64, usize)>, nth: u64, count: Option<&str>) -> Result<(), LineFault> {
+    let count = count.ok_or(LineFault::Unknown)?;
+    let count = count.parse().ok().ok_or(LineFault::Unknown)?;
+    puts.push((nth, count))?;
+    Ok(())
+}
+
+/// The call of this number fails, of the kind that a word names, with its effect where the word behind is `done`.
+fn add_call(
+    calls: &mut Vec<Failure>,
+    kind: &str,
+    nth: u64,
+    more: Option<&str>,
+) -> Result<(), LineFault> {
+    let call = call_of(kind)?;
+    let effect = more.is_some_and(|word| word == "done");
+    calls.push(Failure { call, nth, effect })?;
+    Ok(())
 }
 
 /// The kind of call that a word names.
