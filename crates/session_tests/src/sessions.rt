@@ -74,46 +74,47 @@ fn replied(alloc: Global, reply: CommitReply) -> Option<String> {
 }
 
 /// Commits, and answers what that came to.
-fn commit(fixture: Fixture, alloc: Global) -> Option<(Fixture, String)> {
-    let (fixture, reply) = fixture.commit()?;
-    let words = replied(alloc, reply)?;
-    Some((fixture, words))
+fn committed(place: &mut Option<Fixture>) -> Option<CommitReply> {
+    let (fixture, reply) = place.take()?.commit()?;
+    *place = Some(fixture);
+    Some(reply)
 }
 
-/// What is there after an act, and what came of it.
-fn acted(fixture: Fixture, alloc: Global, words: &str) -> Option<(Fixture, String)> {
+/// Opens the session anew, and answers whether there is one.
+fn mounted(place: &mut Option<Fixture>, alloc: Global) -> Option<&'static str> {
+    *place = place.take()?.mounted(alloc);
+    if place.is_some() { Some("done") } else { None }
+}
+
+/// What comes of an act. The fixture stays in its place, so that no function has one to let go of where it gives up.
+fn act(place: &mut Option<Fixture>, alloc: Global, words: &str) -> Option<String> {
     match words {
-        "commit" => commit(fixture, alloc),
-        "mount" => Some((fixture.mounted(alloc)?, format!(in alloc; "done").ok()?)),
-        _ => {
-            let mut fixture = fixture;
-            let came = answer(&mut fixture, alloc, words)?;
-            Some((fixture, came))
-        }
+        "commit" => replied(alloc, committed(place)?),
+        "mount" => format!(in alloc; "{}", mounted(place, alloc)?).ok(),
+        _ => answer(place.as_mut()?, alloc, words),
     }
 }
 
-/// What is there after a line `ACT: OUTCOME`, if that came of it.
-fn after(fixture: Option<Fixture>, alloc: Global, line: &str) -> Option<Fixture> {
+/// Whether a line `ACT: OUTCOME` comes true.
+fn is_so(place: &mut Option<Fixture>, alloc: Global, line: &str) -> Option<bool> {
     let (words, wanted) = line.split_once(": ")?;
-    let (fixture, came) = acted(fixture?, alloc, words)?;
-    if came.as_str() == wanted {
-        Some(fixture)
-    } else {
-        None
-    }
+    Some(act(place, alloc, words)?.as_str() == wanted)
 }
 
-/// The place of the first line of a script of which something else comes, over a new device on a medium of so many pages.
-fn first_unlike(alloc: Global, pages: u32, script: &str) -> Option<usize> {
-    let mut fixture = Fixture::new(alloc, pages);
+/// The place of the first line of a script of which something else comes.
+fn first_unlike_at(place: &mut Option<Fixture>, alloc: Global, script: &str) -> Option<usize> {
     for (i, line) in script.lines().enumerate() {
-        fixture = after(fixture, alloc, line);
-        if fixture.is_none() {
+        if is_so(place, alloc, line) != Some(true) {
             return Some(i);
         }
     }
     None
+}
+
+/// The same over a new device on a medium of so many pages.
+fn first_unlike(alloc: Global, pages: u32, script: &str) -> Option<usize> {
+    let mut place = Fixture::new(alloc, pages);
+    first_unlike_at(&mut place, alloc, script)
 }
 
 #[test]
@@ -224,20 +225,30 @@ fn full_is_told_before_a_page_is_handed_over(rt: HostRuntime) {
 /// A device on which blocks 1 to 5 were committed.
 fn five_blocks(alloc: Global) -> Option<Fixture> {
     let mut fixture = Fixture::new(alloc, 13)?;
-    for block in [1, 2, 3, 4, 5] {
-        fixture.write(block, 1).ok()?;
-    }
+    write_five(&mut fixture)?;
     let (fixture, _) = fixture.commit()?;
     Some(fixture)
 }
 
-/// How many pages reads of blocks 1, 1 and 3 read, where so many nodes are kept.
-fn three_reads(alloc: Global, nodes: usize) -> Option<[u64; 3]> {
-    let mut fixture = five_blocks(alloc)?.keeping(alloc, nodes)?;
+fn write_five(fixture: &mut Fixture) -> Option<()> {
+    for block in [1, 2, 3, 4, 5] {
+        fixture.write(block, 1).ok()?;
+    }
+    Some(())
+}
+
+/// How many pages reads of blocks 1, 1 and 3 read.
+fn reads(fixture: &mut Fixture) -> Option<[u64; 3]> {
     let first = fixture.reads_of(1)?;
     let second = fixture.reads_of(1)?;
     let third = fixture.reads_of(3)?;
     Some([first, second, third])
+}
+
+/// The same of a device that keeps so many nodes.
+fn three_reads(alloc: Global, nodes: usize) -> Option<[u64; 3]> {
+    let mut fixture = five_blocks(alloc)?.keeping(alloc, nodes)?;
+    reads(&mut fixture)
 }
 
 /// The first read goes through the root node and a leaf; the last one through another leaf. With no node kept each does so.
