@@ -19,6 +19,3 @@ pub use opening::{TPM_DEVICE, TpmNotReady, open_in_tpm, view_in_tpm};
 pub use std_tpm::{StdTpm, open_tpm};
 pub use tpm_calls::TpmCalls;
 pub use tpm_cell::TpmCell;
-
-#[cfg(test)]
-mod tests;
