@@ -3,3 +3,4 @@ pub mod LogSteps
 pub mod Moments
 pub mod RunLaws
 pub mod CallLaws
+mod FailureLaws

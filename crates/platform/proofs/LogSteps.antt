@@ -1,7 +1,7 @@
 -- A change that is logged before it is made adds a moment to the history.
 use Rattle.std.proofs.Common.{◌≡◌, ℕ, zero, suc, ◌≤◌, Option, List, [], ◌∷◌, ◌++◌, length, take, refl, sym, ◌∙◌, ap, subst, arith}
 use Rattle.std.specs.Prelude.{All, AllPairs}
-use Rattle.std.proofs.lemmas.List.{take-take, map-append}
+use Rattle.std.proofs.lemmas.List.{take-take, take_all, map-append}
 use Rattle.std.proofs.lemmas.List.Elements.{All-nil, All-head, All-tail, All-push, All-take, All-weaker}
 use Rattle.std.proofs.lemmas.List.Kept.{AllPairs-cons}
 use Rattle.medium_trace.specs.Trace.{Trace, IsWhole as IsTrace}
@@ -96,3 +96,10 @@ past_images-push old new held log now is_log is_now recorded readable =
     map-append (image_then new) log (now ∷ [])
     ∙ ap (λ (images : List Image). images ++ image_then new now ∷ []) (past_images-kept old new log is_log.past recorded readable)
     ∙ ap (λ (image : Image). past_images old log ++ image ∷ []) last
+
+-- the same, where no page was added
+pub past_images-same : (old new : Trace) (held : Option (List ℕ)) (log : List Moment) (now : Moment) → IsLog old held log → IsNow old held now → new.recorded ≡ old.recorded → new.readable ≡ old.readable → past_images new (log ++ now ∷ []) ≡ past_images old log ++ image_now old held ∷ []
+past_images-same old new held log now is_log is_now recorded readable =
+    past_images-push old new held log now is_log is_now
+    (ap (take (length old.recorded)) recorded ∙ take_all (length old.recorded) old.recorded (omega arith))
+    (ap (take (length old.recorded)) readable ∙ take_all (length old.recorded) old.readable (omega (arith, is_log.medium.as_many)))

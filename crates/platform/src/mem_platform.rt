@@ -1,5 +1,5 @@
 //! A platform in memory.
-ghost use Rattle.std.specs.Prelude.{◌≡◌, ◌↔◌, ◌⊎◌, ◌<◌, ◌≤◌, ◌+◌, ◌-◌, ◌^◌, [], Some, None, IsTrue, IsSome, IsErr, IfOk, OnOk, OnErr, All, length, slice_get};
+ghost use Rattle.std.specs.Prelude.{◌≡◌, ◌↔◌, ◌⊎◌, ◌<◌, ◌≤◌, ◌+◌, ◌-◌, ◌^◌, [], Some, None, false, IsTrue, IsSome, IsErr, IfOk, OnOk, OnErr, All, length, slice_get};
 ghost use Rattle.medium_trace.specs.Trace.{Tears};
 ghost use Rattle.sdbt_base.specs.Faults.{Tells, next_count};
 ghost use Rattle.platform.specs.Image.{blank, with_page, with_cell, all_synced, MayLeave};
@@ -217,7 +217,7 @@ impl Platform for MemPlatform {
         ensures counts { Counts CallKind.Append self.old self.new }
     {
         let due = self.plan.next(CallKind::Append);
-        if self.starved == u64::MAX || matches!(due, Some(false)) {
+        if fails_at_once(self.starved, due) {
             return fault(&mut self.faults);
         }
         let Ok(addr) = self.store.append(page) else {
@@ -253,7 +253,7 @@ impl Platform for MemPlatform {
         ensures counts { Counts CallKind.Read self.old self.new }
     {
         let due = self.plan.next(CallKind::Read);
-        if self.starved == u64::MAX || self.reads == u64::MAX || matches!(due, Some(false)) {
+        if self.reads == u64::MAX || fails_at_once(self.starved, due) {
             return fault(&mut self.faults);
         }
         self.store.read(addr, into);
@@ -281,7 +281,7 @@ impl Platform for MemPlatform {
         ensures counts { Counts CallKind.Sync self.old self.new }
     {
         let due = self.plan.next(CallKind::Sync);
-        if self.starved == u64::MAX || matches!(due, Some(false)) {
+        if fails_at_once(self.starved, due) {
             return fault(&mut self.faults);
         }
         let Ok(()) = self.store.sync() else {
@@ -341,7 +341,7 @@ impl Platform for MemPlatform {
         ensures counts { Counts CallKind.Swap self.old self.new }
     {
         let due = self.plan.next(CallKind::Swap);
-        if self.starved == u64::MAX || matches!(due, Some(false)) {
+        if fails_at_once(self.starved, due) {
             return fault(&mut self.faults);
         }
         let mut record = [0; ROOT];
@@ -373,7 +373,7 @@ impl Platform for MemPlatform {
         ensures counts { Counts CallKind.Clear self.old self.new }
     {
         let due = self.plan.next(CallKind::Clear);
-        if self.starved == u64::MAX || matches!(due, Some(false)) {
+        if fails_at_once(self.starved, due) {
             return fault(&mut self.faults);
         }
         let Ok(()) = self.store.clear() else {
@@ -385,6 +385,13 @@ impl Platform for MemPlatform {
         }
         Ok(())
     }
+}
+
+// Whether a call fails without effect: memory has been wanting too often, or the list says so.
+fn fails_at_once(starved: u64, due: Option<bool>) -> bool
+    ensures { IsTrue result ↔ (starved ≡ 2 ^ 64 - 1) ⊎ (due ≡ Some false) }
+{
+    starved == u64::MAX || matches!(due, Some(false))
 }
 
 // A call that failed is counted.

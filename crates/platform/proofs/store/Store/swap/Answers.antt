@@ -1,0 +1,19 @@
+use Rattle.std.proofs.Common.{◌∷◌, ◌++◌, [], refl, sym, subst}
+use Rattle.platform.specs.Log.{IsLog}
+use Rattle.platform.proofs.LogSteps.{IsLog-push, IsLog-cell, past_images-same}
+use Rattle.platform.proofs.Moments.{Steps-push}
+use Rattle.platform.proofs.store.Store.swap.Goals as goal
+
+pub invariant_of-self-2 : goal.invariant_of-self-2
+invariant_of-self-2 c =
+    let old = c.args.self.now in
+    let logged = IsLog-push old.medium old.cell old.log.items c.now-now.result old.logged c.now-now.ensures in
+    record { logged = subst (IsLog old.medium c.replace.new.self) (sym c.in_ok-push.ensures.items) (IsLog-cell old.medium old.cell c.replace.new.self (old.log.items ++ c.now-now.result ∷ []) c.replace.ensures.bytes logged) }
+
+pub returns-clause-past : goal.returns-clause-past
+returns-clause-past c =
+    let old = c.args.self.now in
+    rw c.in_ok-push.ensures.items (past_images-same old.medium old.medium old.cell old.log.items c.now-now.result old.logged c.now-now.ensures refl refl)
+
+pub returns-clause-time : goal.returns-clause-time
+returns-clause-time c = Steps-push _ _ (returns-clause-past c)
