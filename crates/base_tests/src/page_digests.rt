@@ -16,15 +16,22 @@ fn page() -> [u8; RECORD] {
     page
 }
 
+/// Whether a page fits a key without a digest, and one with the worked one.
+fn fits(page: &[u8; RECORD]) -> (bool, bool) {
+    let plain = Key::from_bytes([7; 32]);
+    (
+        fits_digest(&plain, page),
+        fits_digest(&plain.with_digest(DIGEST), page),
+    )
+}
+
 #[test]
 fn worked_digest(rt: HostRuntime) {
     let mut page = page();
     assert!(rt; digest_of(&page) == DIGEST);
-    let plain = Key::from_bytes([7; 32]);
-    let key = plain.with_digest(DIGEST);
-    assert!(rt; fits_digest(&plain, &page) && fits_digest(&key, &page));
+    assert!(rt; fits(&page) == (true, true));
     page[4127] ^= 1;
-    assert!(rt; fits_digest(&plain, &page) && !fits_digest(&key, &page));
+    assert!(rt; fits(&page) == (true, false));
     page[4127] ^= 1;
-    assert!(rt; fits_digest(&key, &page));
+    assert!(rt; fits(&page) == (true, true));
 }

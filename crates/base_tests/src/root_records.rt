@@ -72,15 +72,31 @@ const WRONG: [(usize, u8); 21] = [
     (87, 0),
 ];
 
+/// The first of these bytes with which the record is one still, by its place; or `None`.
+fn first_read(bytes: &[(usize, u8)]) -> Option<usize> {
+    for (at, byte) in bytes {
+        if decode_with(*at, *byte).is_some() {
+            return Some(*at);
+        }
+    }
+    None
+}
+
+/// The first byte behind the fields that can be another one, or `None`: where the second version has a digest, the first has
+/// zeros, and behind them as well.
+fn first_free() -> Option<usize> {
+    for at in 88..128 {
+        if decode_with(at, 1).is_some() {
+            return Some(at);
+        }
+    }
+    None
+}
+
 #[test]
 fn refused(rt: HostRuntime) {
-    for (at, byte) in WRONG {
-        assert!(rt; decode_with(at, byte).is_none(), "{at} {byte}");
-    }
-    // Where the second version has a digest, the first has zeros, and behind them as well.
-    for at in 88..128 {
-        assert!(rt; decode_with(at, 1).is_none(), "{at}");
-    }
+    assert!(rt; first_read(&WRONG) == None);
+    assert!(rt; first_free() == None);
     assert!(rt;
         decode_with(9, 2) == Some(with_digest([0; 32])),
         "another version"
@@ -118,78 +134,109 @@ fn decode_second_with(at: usize, byte: u8) -> Option<Root> {
 
 #[test]
 fn of_the_second_version(rt: HostRuntime) -> Result<(), Fail> {
-    let second = with_digest([0x22; 32]);
     let bytes = second_record().ok_or("no root record")?;
     assert!(rt; bytes[..8] == RECORD[..8]);
     assert!(rt; bytes[8..10] == [0, 2][..]);
     assert!(rt; bytes[10..88] == RECORD[10..88]);
     assert!(rt; bytes[88..120] == [0x22; 32][..]);
     assert!(rt; bytes[120..] == [0; 8][..]);
-    assert!(rt; decode_root(&bytes) == Some(second));
-    for (at, byte) in WRONG {
-        assert!(rt; decode_second_with(at, byte).is_none(), "{at} {byte}");
+    Ok(())
+}
+
+/// The first of these bytes with which the record of the second version is one still, by its place; or `None`.
+fn first_read_second(bytes: &[(usize, u8)]) -> Option<usize> {
+    for (at, byte) in bytes {
+        if decode_second_with(*at, *byte).is_some() {
+            return Some(*at);
+        }
     }
-    // Another digest is that of another root, and behind it are zeros.
-    for at in 88..120 {
-        let other = decode_second_with(at, 9).ok_or("no root")?;
-        assert!(rt; other != second, "{at}");
-        assert!(rt;
-            Root {
-                key: second.key,
-                ..other
-            } == second,
-            "{at}"
-        );
-    }
+    None
+}
+
+/// The first byte behind the digest that can be another one, or `None`.
+fn first_free_second() -> Option<usize> {
     for at in 120..128 {
-        assert!(rt; decode_second_with(at, 1).is_none(), "{at}");
+        if decode_second_with(at, 1).is_some() {
+            return Some(at);
+        }
     }
+    None
+}
+
+#[test]
+fn refused_in_the_second_version(rt: HostRuntime) {
+    assert!(rt; decode_second_with(128, 0) == Some(with_digest([0x22; 32])));
+    assert!(rt; first_read_second(&WRONG) == None);
+    assert!(rt; first_free_second() == None);
     assert!(rt;
         decode_second_with(9, 1).is_none(),
         "a digest in the first version"
     );
-    Ok(())
+}
+
+/// Whether the record with another byte of its digest is that of another root, which differs in its key alone.
+fn is_of_another(at: usize) -> bool {
+    let second = with_digest([0x22; 32]);
+    match decode_second_with(at, 9) {
+        Some(other) => {
+            other != second
+                && Root {
+                    key: second.key,
+                    ..other
+                } == second
+        }
+        None => false,
+    }
+}
+
+#[test]
+fn digests_of_other_roots(rt: HostRuntime) {
+    for at in 88..120 {
+        assert!(rt; is_of_another(at), "{at}");
+    }
+}
+
+/// Whether the record of the first version, and that of the second one, are those of a root of another order.
+fn are_of_order(order: u8) -> (bool, bool) {
+    let first = Root {
+        order: u16::from(order),
+        ..root()
+    };
+    let second = Root {
+        order: u16::from(order),
+        ..with_digest([0x22; 32])
+    };
+    (
+        decode_with(11, order) == Some(first),
+        decode_second_with(11, order) == Some(second),
+    )
 }
 
 #[test]
 fn orders_of_the_versions(rt: HostRuntime) {
     for order in [4, 46, 48] {
-        let second = Root {
-            order: u16::from(order),
-            ..with_digest([0x22; 32])
-        };
-        assert!(rt; decode_second_with(11, order) == Some(second), "{order}");
+        assert!(rt; are_of_order(order) == (true, true), "{order}");
     }
     for order in [50, 52, 54, 56, 58, 60, 62, 64] {
-        let first = Root {
-            order: u16::from(order),
-            ..root()
-        };
-        assert!(rt; decode_with(11, order) == Some(first), "{order}");
+        assert!(rt; are_of_order(order) == (true, false), "{order}");
         assert!(rt; decode_second_with(11, order).is_none(), "{order}");
     }
+}
+
+/// Whether a root is in range with this version.
+fn is_in_range(root: Root, version: u8) -> bool {
+    Root { version, ..root }.is_in_range()
 }
 
 #[test]
 fn keys_of_the_versions(rt: HostRuntime) {
     // A key has a digest exactly in version 2, and there are no others.
     let second = with_digest([0x22; 32]);
-    assert!(rt;
-        !Root {
-            version: 2,
-            ..root()
-        }
-        .is_in_range()
-    );
-    assert!(rt;
-        !Root {
-            version: 1,
-            ..second
-        }
-        .is_in_range()
-    );
-    for version in [0, 3, 255] {
-        assert!(rt; !Root { version, ..root() }.is_in_range());
-        assert!(rt; !Root { version, ..second }.is_in_range());
+    for version in [0, 2, 3, 255] {
+        assert!(rt; !is_in_range(root(), version), "{version}");
     }
+    for version in [0, 1, 3, 255] {
+        assert!(rt; !is_in_range(second, version), "{version}");
+    }
+    assert!(rt; is_in_range(root(), 1) && is_in_range(second, 2));
 }

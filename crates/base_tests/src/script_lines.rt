@@ -1,69 +1,92 @@
 //! Lines from outside, and the machine's replies to worked scripts.
 
-ghost use Rattle.std.specs.Prelude.{IfOk};
+ghost use Rattle.std.specs.Prelude.{IfSome};
 ghost use Rattle.script_lang.specs.Replies.{CanWrite, FitsBlock, said};
 
 use script_lang::{Command, Machine, Reply, ReplyWriter, parse, read_reply};
-use sdbt_base::{BLOCK, MemSink};
+use sdbt_base::{BLOCK, MemSink, Memory};
 use std::alloc::Global;
 use std::test::Fail;
 
-#[test]
-fn grammar_refuses(rt: HostRuntime) {
+/// What a line is read as.
+fn read(line: &str) -> Option<Command> {
     let mut buffer = [0; BLOCK];
-    for line in [
-        "",
-        "write 3 abc",
-        "write 3 6g",
-        "write 3 ",
-        "write 3",
-        "read 03",
-        "READ 3",
-        "read  3",
-        "read 3 ",
-        "read +3",
-        "read -1",
-        "read 18446744073709551616",
-        "read 3\r",
-        "mount ",
-        "format 8",
-        "format 8 4 4",
-        "upgrade ",
-        "upgrade 2",
-        "stats",
-    ] {
-        assert!(rt; parse(line.as_bytes(), &mut buffer).is_none(), "{line:?}");
+    parse(line.as_bytes(), &mut buffer)
+}
+
+/// Lines that are none of the grammar; the first one is empty.
+const REFUSED: &str = "\n\
+write 3 abc\n\
+write 3 6g\n\
+write 3 \n\
+write 3\n\
+read 03\n\
+READ 3\n\
+read  3\n\
+read 3 \n\
+read +3\n\
+read -1\n\
+read 18446744073709551616\n\
+mount \n\
+format 8\n\
+format 8 4 4\n\
+upgrade \n\
+upgrade 2\n\
+stats";
+
+/// The place of the first line that is read, or `None`.
+fn first_read(lines: &str) -> Option<usize> {
+    for (i, line) in lines.lines().enumerate() {
+        if read(line).is_some() {
+            return Some(i);
+        }
     }
+    None
 }
 
 #[test]
-fn grammar_reads(rt: HostRuntime) -> Result<(), Fail> {
-    let mut buffer = [0; BLOCK];
-    for (line, want) in [
-        (
-            "format 8 4",
-            Command::Format {
-                blocks: 8,
-                order: 4,
-            },
-        ),
-        (
-            "read 18446744073709551615",
-            Command::Read { block: u64::MAX },
-        ),
-        ("trim 0", Command::Trim { block: 0 }),
-        ("mount", Command::Mount),
-        ("commit", Command::Commit),
-        ("drop", Command::Drop),
-        ("erase", Command::Erase),
-        ("upgrade", Command::Upgrade),
-        ("stat", Command::Stat),
-        ("seize", Command::Seize),
-    ] {
-        let read = parse(line.as_bytes(), &mut buffer).ok_or("a line of the grammar")?;
-        assert!(rt; read == want, "{line:?}");
+fn grammar_refuses(rt: HostRuntime) {
+    assert!(rt; first_read(REFUSED) == None);
+    // This one ends as a line of another system does.
+    assert!(rt; read("read 3\r") == None);
+}
+
+/// Lines of the grammar, and what they are read as.
+const READ: [(&str, Command); 10] = [
+    (
+        "format 8 4",
+        Command::Format {
+            blocks: 8,
+            order: 4,
+        },
+    ),
+    (
+        "read 18446744073709551615",
+        Command::Read { block: u64::MAX },
+    ),
+    ("trim 0", Command::Trim { block: 0 }),
+    ("mount", Command::Mount),
+    ("commit", Command::Commit),
+    ("drop", Command::Drop),
+    ("erase", Command::Erase),
+    ("upgrade", Command::Upgrade),
+    ("stat", Command::Stat),
+    ("seize", Command::Seize),
+];
+
+/// The place of the first of these lines that is read as something else, or `None`.
+fn first_misread() -> Option<usize> {
+    for (i, (line, want)) in READ.into_iter().enumerate() {
+        if read(line) != Some(want) {
+            return Some(i);
+        }
     }
-    Ok(())
+    None
+}
+
+#[test]
+fn grammar_reads(rt: HostRuntime) {
+    assert!(rt; first_misread() == None);
 }
 
 // A line that writes so many bytes FF to block 3.
@@ -96,119 +119,150 @@ fn content_of(line: &[u8]) -> Option<(u64, usize, u8)> {
     }
 }
 
-// The replies of a machine to the lines of a script, as text.
-fn replies_to(alloc: Global, script: &[&str]) -> Result<MemSink, Fail> {
+// Whether the replies of a machine to the lines of a script are these lines.
+fn are_replies(alloc: Global, script: &str, want: &str) -> Option<bool> {
+    let mut output = MemSink::new(alloc, &[]).ok()?;
     let mut machine = Machine::new(alloc);
-    let mut output = MemSink::new(alloc, &[])?;
+    let is_done = put_replies(&mut machine, &mut output, script).is_some();
+    Some(is_done && output.bytes() == want.as_bytes())
+}
+
+fn put_replies(machine: &mut Machine, output: &mut MemSink, script: &str) -> Option<()> {
     let mut buffer = [0; BLOCK];
     let mut writer = ReplyWriter::new();
-    for line in script {
-        let reply = reply_to(&mut machine, line.as_bytes(), &mut buffer)?;
-        writer.write(&reply, &buffer, &mut output)?;
+    for line in script.lines() {
+        let reply = reply_to(machine, line.as_bytes(), &mut buffer)?;
+        writer.write(&reply, &buffer, output).ok()?;
     }
-    Ok(output)
+    Some(())
 }
 
-fn reply_to(machine: &mut Machine, line: &[u8], buffer: &mut [u8; BLOCK]) -> Result<Reply, Fail>
-    ensures written { IfOk result (λ reply. CanWrite (said reply buffer.new)) }
-    ensures short { IfOk result FitsBlock }
+// What a machine replies to a line; `None` to a seizure, which is not the machine's, and where there were too many commits.
+fn reply_to(machine: &mut Machine, line: &[u8], buffer: &mut [u8; BLOCK]) -> Option<Reply>
+    ensures written { IfSome result (λ reply. CanWrite (said reply buffer.new)) }
+    ensures short { IfSome result FitsBlock }
 {
     let Some(command) = parse(line, buffer) else {
-        return Ok(Reply::Bad);
+        return Some(Reply::Bad);
     };
     if let Command::Seize = command {
-        return Err(Fail::new("a seizure is not the machine's"));
+        return None;
     }
     if machine.number() == u64::MAX {
-        return Err(Fail::new("too many commits"));
+        return None;
     }
-    Ok(machine.step(&command, buffer, false)?)
+    match machine.step(&command, buffer, false) {
+        Ok(reply) => Some(reply),
+        Err(Memory) => None,
+    }
 }
 
-#[test]
-fn one_block(rt: HostRuntime) -> Result<(), Fail> {
-    let output = replies_to(
-        rt.alloc(),
-        &[
-            "format 8 4",
-            "mount",
-            "write 3 6869",
-            "read 3",
-            "commit",
-            "read 3",
-        ],
-    )?;
-    let want = b"formatted\nmounted 0\nok\ndata 6869\ncommitted 1\ndata 6869\n";
-    assert!(rt; output.bytes() == want.as_slice());
-    Ok(())
-}
+const ONE_BLOCK: &str = "\
+format 8 4\n\
+mount\n\
+write 3 6869\n\
+read 3\n\
+commit\n\
+read 3";
+
+const ONE_BLOCK_REPLIES: &str = "\
+formatted\n\
+mounted 0\n\
+ok\n\
+data 6869\n\
+committed 1\n\
+data 6869\n";
 
 #[test]
-fn out_of_range(rt: HostRuntime) -> Result<(), Fail> {
-    let output = replies_to(
-        rt.alloc(),
-        &[
-            "format 8 4",
-            "mount",
-            "read 7",
-            "read 8",
-            "write 8 61",
-            "trim 8",
-        ],
-    )?;
-    let want = b"formatted\nmounted 0\ndata -\nrange\nrange\nrange\n";
-    assert!(rt; output.bytes() == want.as_slice());
-    Ok(())
+fn one_block(rt: HostRuntime) {
+    assert!(rt; are_replies(rt.alloc(), ONE_BLOCK, ONE_BLOCK_REPLIES) == Some(true));
 }
 
-#[test]
-fn state_refusals(rt: HostRuntime) -> Result<(), Fail> {
-    let output = replies_to(
-        rt.alloc(),
-        &[
-            "read 0",
-            "mount",
-            "erase",
-            "format 0 4",
-            "format 8 5",
-            "format 8 4",
-            "format 8 4",
-            "mount",
-            "mount",
-            "drop",
-            "drop",
-        ],
-    )?;
-    let want =
-        b"unmounted\nno device\nno device\nrange\nrange\nformatted\nnot empty\nmounted 0\nalready mounted\ndropped\nunmounted\n";
-    assert!(rt; output.bytes() == want.as_slice());
-    Ok(())
-}
+const OUT_OF_RANGE: &str = "\
+format 8 4\n\
+mount\n\
+read 7\n\
+read 8\n\
+write 8 61\n\
+trim 8";
+
+const OUT_OF_RANGE_REPLIES: &str = "\
+formatted\n\
+mounted 0\n\
+data -\n\
+range\n\
+range\n\
+range\n";
 
 #[test]
-fn upgrades(rt: HostRuntime) -> Result<(), Fail> {
-    let output = replies_to(
-        rt.alloc(),
-        &[
-            "upgrade",
-            "format 8 64",
-            "mount",
-            "write 3 6869",
-            "commit",
-            "upgrade",
-            "drop",
-            "upgrade",
-            "upgrade",
-            "mount",
-            "read 3",
-            "trim 3",
-            "commit",
-        ],
-    )?;
-    let want =
-        b"no device\nformatted\nmounted 0\nok\ncommitted 1\nalready mounted\ndropped\nupgraded 2\nalready upgraded\nmounted 2\ndata 6869\nok\ncommitted 3\n";
-    assert!(rt; output.bytes() == want.as_slice());
-    Ok(())
+fn out_of_range(rt: HostRuntime) {
+    assert!(rt; are_replies(rt.alloc(), OUT_OF_RANGE, OUT_OF_RANGE_REPLIES) == Some(true));
+}
+
+const STATE_REFUSALS: &str = "\
+read 0\n\
+mount\n\
+erase\n\
+format 0 4\n\
+format 8 5\n\
+format 8 4\n\
+format 8 4\n\
+mount\n\
+mount\n\
+drop\n\
+drop";
+
+const STATE_REFUSALS_REPLIES: &str = "\
+unmounted\n\
+no device\n\
+no device\n\
+range\n\
+range\n\
+formatted\n\
+not empty\n\
+mounted 0\n\
+already mounted\n\
+dropped\n\
+unmounted\n";
+
+#[test]
+fn state_refusals(rt: HostRuntime) {
+    assert!(rt; are_replies(rt.alloc(), STATE_REFUSALS, STATE_REFUSALS_REPLIES) == Some(true));
+}
+
+const UPGRADES: &str = "\
+upgrade\n\
+format 8 64\n\
+mount\n\
+write 3 6869\n\
+commit\n\
+upgrade\n\
+drop\n\
+upgrade\n\
+upgrade\n\
+mount\n\
+read 3\n\
+trim 3\n\
+commit";
+
+const UPGRADES_REPLIES: &str = "\
+no device\n\
+formatted\n\
+mounted 0\n\
+ok\n\
+committed 1\n\
+already mounted\n\
+dropped\n\
+upgraded 2\n\
+already upgraded\n\
+mounted 2\n\
+data 6869\n\
+ok\n\
+committed 3\n";
+
+#[test]
+fn upgrades(rt: HostRuntime) {
+    assert!(rt; are_replies(rt.alloc(), UPGRADES, UPGRADES_REPLIES) == Some(true));
 }
 
 // The replies, a line for each.
@@ -239,8 +293,15 @@ fn is_read_back(alloc: Global, line: &str) -> Option<bool> {
     let reply = read_reply(line.as_bytes(), &mut buffer)?;
     let mut output = MemSink::new(alloc, &[]).ok()?;
     ReplyWriter::new().write(&reply, &buffer, &mut output).ok()?;
-    let (feed, text) = output.bytes().split_last()?;
-    Some(text == line.as_bytes() && *feed == b'\n')
+    Some(is_line(output.bytes(), line))
+}
+
+// Whether these bytes are a line and a line feed.
+fn is_line(bytes: &[u8], line: &str) -> bool {
+    match bytes.split_last() {
+        Some((feed, text)) => text == line.as_bytes() && *feed == b'\n',
+        None => false,
+    }
 }
 
 #[test]

@@ -175,10 +175,10 @@ fn first_elsewhere(device: &mut Device, puts: &Puts) -> Option<&'static str> {
 #[test]
 fn least_starts(rt: HostRuntime) -> Result<(), Fail> {
     let mut device = Device::of(&[0; BLOCK], BLOCKS).ok_or("a table")?;
-    assert_eq!(rt; first_elsewhere(&mut device, &PUTS), None);
+    assert!(rt; first_elsewhere(&mut device, &PUTS) == None);
     device.take_out(1);
-    assert_eq!(rt; device.count(), 2);
-    assert_eq!(rt; first_elsewhere(&mut device, &PUTS_BETWEEN), None);
+    assert!(rt; device.count() == 2);
+    assert!(rt; first_elsewhere(&mut device, &PUTS_BETWEEN) == None);
     Ok(())
 }
 
