@@ -8,6 +8,7 @@ use folder_doubles::{
     open, view,
 };
 use folder_platform::OpenRefusal;
+use platform::Platform;
 use sdbt_base::{RECORD, ROOT};
 use std::test::Fail;
 use std::{fs, io};
@@ -111,21 +112,53 @@ swap 3: fault by no call
 clear: fault by no call
 read 1: 7 0 by seek media, read media";
 
+/// Whether a platform that only looks makes these calls as it is opened, and all lines of a script come true then.
+fn looks_are_so(rt: &HostRuntime, opening: &str, script: &str) -> Result<bool, Fail> {
+    let log = CallLog::new(rt.alloc());
+    let mut platform = view(rt, &log, FOLDER, FOLDER)?;
+    let opens = log.is(opening);
+    Ok(opens && first_unlike(&mut platform, rt.alloc(), &log, script).is_none())
+}
+
 #[test]
 fn looks_change_no_file(rt: HostRuntime) -> Result<(), Fail> {
     fresh_folder(&rt)?;
-    let log = CallLog::new(rt.alloc());
-    let mut platform = view(&rt, &log, FOLDER, FOLDER)?;
-    assert!(rt; log.is(VIEWING));
-    assert_eq!(rt; first_unlike(&mut platform, rt.alloc(), &log, LOOKS), None);
+    assert!(rt; looks_are_so(&rt, VIEWING, LOOKS)?);
     let (len, _) = length_and_mode(&rt, "folder_tests_test/media")?;
     assert!(rt; left(&rt)? == (5, true) && len == 4228);
     fs::remove_dir_all(&rt, FOLDER)?;
     Ok(())
 }
 
-/// Whether a call whose call on a file of this number fails answers a fault, and leaves a root record of this byte, or none for
-/// 0, and a `root.new` or none. Once one failed that changes something no call is made any more.
+/// Whether a line comes true, and leaves a root record of this byte, or none for 0, and a `root.new` or none; and then another line.
+fn are_left<P: Platform>(
+    rt: &HostRuntime,
+    platform: &mut P,
+    log: &CallLog,
+    lines: (&str, &str),
+    leaves: (u8, bool),
+) -> bool {
+    let is_so = first_unlike(platform, rt.alloc(), log, lines.0).is_none();
+    let is_left = match left(rt) {
+        Ok(found) => found == leaves,
+        Err(_) => false,
+    };
+    is_so && is_left && first_unlike(platform, rt.alloc(), log, lines.1).is_none()
+}
+
+/// The same of a platform over a new folder.
+fn are_left_there(
+    rt: &HostRuntime,
+    lines: (&str, &str),
+    leaves: (u8, bool),
+) -> Result<bool, OpenRefusal> {
+    let log = CallLog::new(rt.alloc());
+    let mut platform = open(rt, &log, FOLDER, FOLDER)?;
+    Ok(are_left(rt, &mut platform, &log, lines, leaves))
+}
+
+/// Whether a call whose call on a file of this number fails answers a fault, and leaves this. Once one failed that changes something
+/// no call is made any more.
 fn is_answered(
     rt: &HostRuntime,
     call: &str,
@@ -133,18 +166,13 @@ fn is_answered(
     leaves: (u8, bool),
 ) -> Result<bool, Fail> {
     fresh_folder(rt)?;
-    let alloc = rt.alloc();
-    let log = CallLog::new(alloc);
-    let mut platform = open(rt, &log, FOLDER, FOLDER)?;
-    let failed = format!(in alloc; "{call} failing {failing}: fault")?;
-    let is_failed = first_unlike(&mut platform, alloc, &log, failed.as_str()).is_none();
-    let is_left = left(rt)? == leaves;
+    let failed = format!(in rt.alloc(); "{call} failing {failing}: fault")?;
     let synced = if matches!(call, "read 0" | "load") {
         "sync: done by sync data of media"
     } else {
         "sync: fault by no call"
     };
-    Ok(is_failed && is_left && first_unlike(&mut platform, alloc, &log, synced).is_none())
+    Ok(are_left_there(rt, (failed.as_str(), synced), leaves)?)
 }
 
 #[test]

@@ -40,20 +40,27 @@ read 4: 238 0
 clear: done
 load: empty";
 
+/// The same over short files, and how long the medium is then.
+fn short_are_so(rt: &HostRuntime, script: &str) -> Result<(bool, u64), Fail> {
+    let are_so = are_so(rt, &CallLog::short(rt.alloc()), script)?;
+    let (len, _) = length_and_mode(rt, "folder_tests_test/media")?;
+    Ok((are_so, len))
+}
+
+/// The same over whole files.
+fn whole_are_so(rt: &HostRuntime, script: &str) -> Result<bool, Fail> {
+    are_so(rt, &CallLog::new(rt.alloc()), script)
+}
+
 #[test]
 fn keeps_pages_and_root_in_files(rt: HostRuntime) -> Result<(), Fail> {
     make_folder(&rt, &[7; RECORD + 100], &[5; 5])?;
-    let short = CallLog::short(rt.alloc());
-    assert!(rt; are_so(&rt, &short, "head: 2")?);
+    assert!(rt; short_are_so(&rt, "head: 2")? == (true, 2 * 4128));
     assert!(rt; !fs::exists(&rt, "folder_tests_test/root.new")?);
-    let (len, _) = length_and_mode(&rt, "folder_tests_test/media")?;
-    assert_eq!(rt; len, 2 * 4128);
-    assert!(rt; are_so(&rt, &short, WRITTEN)?);
-    let (len, _) = length_and_mode(&rt, "folder_tests_test/media")?;
-    assert_eq!(rt; len, 4 * 4128 + 4128 / 2);
+    assert!(rt; short_are_so(&rt, WRITTEN)? == (true, 4 * 4128 + 4128 / 2));
     let root = length_and_mode(&rt, "folder_tests_test/root")?;
     assert_eq!(rt; root, (128, 0o600));
-    assert!(rt; are_so(&rt, &CallLog::new(rt.alloc()), THEREAFTER)?);
+    assert!(rt; whole_are_so(&rt, THEREAFTER)?);
     assert!(rt; !fs::exists(&rt, "folder_tests_test/root")?);
     fs::remove_dir_all(&rt, FOLDER)?;
     Ok(())
