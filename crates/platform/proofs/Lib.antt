@@ -3,4 +3,3 @@ pub mod LogSteps
 pub mod Moments
 pub mod RunLaws
 pub mod CallLaws
-mod FailureLaws

@@ -1,5 +1,5 @@
 //! A platform in memory.
-ghost use Rattle.std.specs.Prelude.{◌≡◌, ◌↔◌, ◌⊎◌, ◌<◌, ◌≤◌, ◌+◌, ◌-◌, ◌^◌, [], Some, None, false, IsTrue, IsSome, IsErr, IfOk, OnOk, OnErr, All, length, slice_get};
+ghost use Rattle.std.specs.Prelude.{◌≡◌, ◌↔◌, ◌⊎◌, ◌<◌, ◌≤◌, ◌+◌, ◌-◌, ◌^◌, [], Some, None, Ok, false, IsTrue, IsSome, IsErr, IfOk, OnOk, OnErr, All, length, slice_get};
 ghost use Rattle.medium_trace.specs.Trace.{Tears};
 ghost use Rattle.sdbt_base.specs.Faults.{Tells, next_count};
 ghost use Rattle.platform.specs.Image.{blank, with_page, with_cell, all_synced, MayLeave};
@@ -220,14 +220,8 @@ impl Platform for MemPlatform {
         if fails_at_once(self.starved, due) {
             return fault(&mut self.faults);
         }
-        let Ok(addr) = self.store.append(page) else {
-            self.starved = self.starved.saturating_add(1);
-            return fault(&mut self.faults);
-        };
-        if due.is_some() {
-            return fault(&mut self.faults);
-        }
-        Ok(addr)
+        let done = self.store.append(page);
+        answer(&mut self.faults, &mut self.starved, due, done)
     }
 
     fn read(&mut self, addr: u64, into: &mut [u8]) -> Result<(), PlatformFault>
@@ -284,14 +278,8 @@ impl Platform for MemPlatform {
         if fails_at_once(self.starved, due) {
             return fault(&mut self.faults);
         }
-        let Ok(()) = self.store.sync() else {
-            self.starved = self.starved.saturating_add(1);
-            return fault(&mut self.faults);
-        };
-        if due.is_some() {
-            return fault(&mut self.faults);
-        }
-        Ok(())
+        let done = self.store.sync();
+        answer(&mut self.faults, &mut self.starved, due, done)
     }
 
     fn load_root(&mut self, into: &mut [u8]) -> Result<bool, PlatformFault>
@@ -346,14 +334,8 @@ impl Platform for MemPlatform {
         }
         let mut record = [0; ROOT];
         record.copy_from_slice(bytes);
-        let Ok(()) = self.store.swap(&record) else {
-            self.starved = self.starved.saturating_add(1);
-            return fault(&mut self.faults);
-        };
-        if due.is_some() {
-            return fault(&mut self.faults);
-        }
-        Ok(())
+        let done = self.store.swap(&record);
+        answer(&mut self.faults, &mut self.starved, due, done)
     }
 
     fn clear_root(&mut self) -> Result<(), PlatformFault>
@@ -376,14 +358,8 @@ impl Platform for MemPlatform {
         if fails_at_once(self.starved, due) {
             return fault(&mut self.faults);
         }
-        let Ok(()) = self.store.clear() else {
-            self.starved = self.starved.saturating_add(1);
-            return fault(&mut self.faults);
-        };
-        if due.is_some() {
-            return fault(&mut self.faults);
-        }
-        Ok(())
+        let done = self.store.clear();
+        answer(&mut self.faults, &mut self.starved, due, done)
     }
 }
 
@@ -392,6 +368,35 @@ fn fails_at_once(starved: u64, due: Option<bool>) -> bool
     ensures { IsTrue result ↔ (starved ≡ 2 ^ 64 - 1) ⊎ (due ≡ Some false) }
 {
     starved == u64::MAX || matches!(due, Some(false))
+}
+
+// What a call answers that didn't fail at once: it fails where a growth was refused, which is counted,
+// and where the list says so.
+fn answer<T>(
+    faults: &mut u64,
+    starved: &mut u64,
+    due: Option<bool>,
+    done: Result<T, medium_trace::Memory>,
+) -> Result<T, PlatformFault>
+where
+    T: Copy,
+    requires { starved.old < 2 ^ 64 - 1 }
+    ensures value { IfOk result (λ value. done ≡ Ok value) }
+    ensures fails { IsErr result ↔ IsSome due ⊎ IsErr done }
+    ensures ample { OnOk done (starved.new ≡ starved.old) }
+    ensures starved { OnErr done (starved.new ≡ starved.old + 1) }
+    ensures rises { faults.old ≤ faults.new }
+    ensures cause { Tells result faults.old faults.new }
+    ensures one { OnErr result (faults.new ≡ next_count faults.old) }
+{
+    let Ok(value) = done else {
+        *starved += 1;
+        return fault(faults);
+    };
+    if due.is_some() {
+        return fault(faults);
+    }
+    Ok(value)
 }
 
 // A call that failed is counted.
