@@ -1,9 +1,11 @@
-//! Tests of the crates that pages and scripts are made of: objects in memory, keys, records, tables of volumes, commands to a
-//! TPM, and the lines of a script.
+//! Tests of the crates that pages and scripts are made of: objects in memory, hex text, keys, records, tables of volumes, commands
+//! to a TPM, and the lines of a script.
 #![tactic(auto)]
 
 #[cfg(test)]
 mod drawn_keys;
+#[cfg(test)]
+mod hex_texts;
 #[cfg(test)]
 mod memory_objects;
 #[cfg(test)]

@@ -10,4 +10,4 @@ pub use doubles::{CallLog, ENDLESS, LoggedFile, LoggedFiles, TEARING};
 pub use folders::{
     APART, CELL, FOLDER, fill_apart, left, length_and_mode, make_apart, make_folder, open, view,
 };
-pub use script::first_unlike;
+pub use script::{comes_true, first_unlike};

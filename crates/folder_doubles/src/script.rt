@@ -1,5 +1,7 @@
 //! Scripts of calls on a platform: lines that say which call is made, what it answers, and which calls it makes on files.
 use crate::doubles::CallLog;
+use crate::folders::{left, open};
+use folder_platform::OpenRefusal;
 use platform::Platform;
 use sdbt_base::{PlatformFault, RECORD, ROOT};
 use std::alloc::Global;
@@ -42,8 +44,16 @@ fn done(alloc: Global, outcome: Result<(), PlatformFault>) -> Option<String> {
     format!(in alloc; "{word}").ok()
 }
 
+/// What is left in the folder, without a call on the platform: the first byte of the root record, 0 for none, and whether there is a
+/// `root.new`.
+fn in_folder(rt: &HostRuntime) -> Option<String> {
+    let (root, is_new) = left(rt).ok()?;
+    format!(in rt.alloc(); "{root} {is_new}").ok()
+}
+
 /// What a call answers.
-fn answer<P: Platform>(platform: &mut P, alloc: Global, call: &str) -> Option<String> {
+fn answer<P: Platform>(platform: &mut P, rt: &HostRuntime, call: &str) -> Option<String> {
+    let alloc = rt.alloc();
     let (name, word) = call.split_once(' ').unwrap_or((call, "0"));
     let byte: u8 = word.parse().ok()?;
     match name.as_bytes() {
@@ -54,17 +64,23 @@ fn answer<P: Platform>(platform: &mut P, alloc: Global, call: &str) -> Option<St
         [b'l', ..] => load(platform, alloc),
         [b'c', ..] => done(alloc, platform.clear_root()),
         [b'h', ..] => format!(in alloc; "{}", platform.head()).ok(),
+        [b'f', ..] => in_folder(rt),
         _ => None,
     }
 }
 
 /// Whether a line comes true: `CALL: ANSWER`, `CALL: ANSWER by CALLS ON FILES`, or either with ` failing NUMBER` behind the call:
 /// the call on a file of that number fails then.
-fn is_so<P: Platform>(platform: &mut P, alloc: Global, log: &CallLog, line: &str) -> Option<bool> {
+fn is_so<P: Platform>(
+    platform: &mut P,
+    rt: &HostRuntime,
+    log: &CallLog,
+    line: &str,
+) -> Option<bool> {
     let (words, wanted) = line.split_once(": ")?;
     let (call, failing) = words.split_once(" failing ").unwrap_or((words, ""));
     log.begin(failing.parse().ok());
-    let came = answer(platform, alloc, call)?;
+    let came = answer(platform, rt, call)?;
     match wanted.split_once(" by ") {
         Some((wanted, calls)) => Some(came.as_str() == wanted && log.is(calls)),
         None => Some(came.as_str() == wanted),
@@ -74,14 +90,28 @@ fn is_so<P: Platform>(platform: &mut P, alloc: Global, log: &CallLog, line: &str
 /// The place of the first line of a script that does not come true, or `None`.
 pub fn first_unlike<P: Platform>(
     platform: &mut P,
-    alloc: Global,
+    rt: &HostRuntime,
     log: &CallLog,
     script: &str,
 ) -> Option<usize> {
     for (i, line) in script.lines().enumerate() {
-        if is_so(platform, alloc, log, line) != Some(true) {
+        if is_so(platform, rt, log, line) != Some(true) {
             return Some(i);
         }
     }
     None
+}
+
+/// Whether an opening of these folders, for the root record and the medium, makes these calls on files, where they are given, and all
+/// lines of a script come true then.
+pub fn comes_true(
+    rt: &HostRuntime,
+    log: &CallLog,
+    folders: (&str, &str),
+    opening: Option<&str>,
+    script: &str,
+) -> Result<bool, OpenRefusal> {
+    let mut platform = open(rt, log, folders.0, folders.1)?;
+    let opens = opening.is_none_or(|calls| log.is(calls));
+    Ok(opens && first_unlike(&mut platform, rt, log, script).is_none())
 }

@@ -5,6 +5,7 @@ ghost use Rattle.folder_platform.specs.Refusals.{ShowsCause};
 use crate::own_file::{look, open_folder};
 use crate::root_file;
 use folder_platform::{FolderFile, Found, OpenRefusal};
+use std::alloc::{AllocError, Allocator};
 use std::fs::{self, OpenFile};
 use std::io::{self, ErrorKind};
 use std::rt::Files;
@@ -15,10 +16,25 @@ use std::rt::Files;
 #[derive(Drop)]
 pub(crate) struct CellFolder<R: Files + Alloc + Drop> {
     rt: R,
-    path: String<R::A>,
-    root: String<R::A>,
-    new_root: String<R::A>,
+    paths: Paths<R::A>,
     folder: R::File,
+}
+
+// The paths of the folder, and of the files `root` and `root.new` in it.
+#[derive(Drop)]
+struct Paths<A: Allocator> {
+    folder: String<A>,
+    root: String<A>,
+    new_root: String<A>,
+}
+
+// Those of a folder of this path.
+fn paths_of<R: Alloc>(rt: &R, folder: &str) -> Result<Paths<R::A>, AllocError> {
+    Ok(Paths {
+        folder: format!(in rt.alloc(); "{folder}")?,
+        root: format!(in rt.alloc(); "{folder}/root")?,
+        new_root: format!(in rt.alloc(); "{folder}/root.new")?,
+    })
 }
 
 impl<R: Files + Alloc + Drop> CellFolder<R> {
@@ -26,17 +42,9 @@ impl<R: Files + Alloc + Drop> CellFolder<R> {
     pub(crate) fn open(rt: R, path: &str) -> Result<CellFolder<R>, OpenRefusal>
         ensures cause { IfErr result (ShowsCause ⊥) }
     {
-        let root = format!(in rt.alloc(); "{path}/root")?;
-        let new_root = format!(in rt.alloc(); "{path}/root.new")?;
+        let paths = paths_of(&rt, path)?;
         let folder = open_folder(&rt, FolderFile::Cell, path)?;
-        let path = format!(in rt.alloc(); "{path}")?;
-        Ok(CellFolder {
-            rt,
-            path,
-            root,
-            new_root,
-            folder,
-        })
+        Ok(CellFolder { rt, paths, folder })
     }
 
     /// The open folder.
@@ -50,7 +58,7 @@ impl<R: Files + Alloc + Drop> CellFolder<R> {
     pub(crate) fn look_at_root(&self) -> Result<(), OpenRefusal>
         ensures cause { IfErr result (ShowsCause ⊥) }
     {
-        look(&self.rt, FolderFile::Root, self.root.as_str())?;
+        look(&self.rt, FolderFile::Root, self.paths.root.as_str())?;
         Ok(())
     }
 
@@ -58,7 +66,7 @@ impl<R: Files + Alloc + Drop> CellFolder<R> {
     pub(crate) fn look_at_new(&self) -> Result<(), OpenRefusal>
         ensures cause { IfErr result (ShowsCause ⊥) }
     {
-        look(&self.rt, FolderFile::NewRoot, self.new_root.as_str())?;
+        look(&self.rt, FolderFile::NewRoot, self.paths.new_root.as_str())?;
         Ok(())
     }
 
@@ -67,37 +75,41 @@ impl<R: Files + Alloc + Drop> CellFolder<R> {
         ensures { IfOk result (λ n. MatchOption n ⊤ (λ n. n ≤ length into.old)) }
     {
         self.stays()?;
-        root_file::read(&self.rt, self.root.as_str(), into)
+        root_file::read(&self.rt, self.paths.root.as_str(), into)
     }
 
     /// Syncs `root`, if it is there.
     pub(crate) fn sync_root(&self) -> io::Result<()> {
         self.stays()?;
-        root_file::sync(&self.rt, self.root.as_str())
+        root_file::sync(&self.rt, self.paths.root.as_str())
     }
 
     /// Removes `root`, if it is there.
     pub(crate) fn remove_root(&self) -> io::Result<()> {
         self.stays()?;
-        root_file::remove(&self.rt, self.root.as_str())
+        root_file::remove(&self.rt, self.paths.root.as_str())
     }
 
     /// Removes `root.new`, if it is there.
     pub(crate) fn remove_new(&self) -> io::Result<()> {
         self.stays()?;
-        root_file::remove(&self.rt, self.new_root.as_str())
+        root_file::remove(&self.rt, self.paths.new_root.as_str())
     }
 
     /// Makes `root.new`, which must not be there, with these bytes. It stays open.
     pub(crate) fn make_new(&self, bytes: &[u8]) -> io::Result<R::File> {
         self.stays()?;
-        root_file::make(&self.rt, self.new_root.as_str(), bytes)
+        root_file::make(&self.rt, self.paths.new_root.as_str(), bytes)
     }
 
     /// Renames `root.new` to `root`.
     pub(crate) fn rename_new(&self) -> io::Result<()> {
         self.stays()?;
-        fs::rename(&self.rt, self.new_root.as_str(), self.root.as_str())
+        fs::rename(
+            &self.rt,
+            self.paths.new_root.as_str(),
+            self.paths.root.as_str(),
+        )
     }
 
     /// Syncs the folder.
@@ -108,7 +120,7 @@ impl<R: Files + Alloc + Drop> CellFolder<R> {
 
     // Whether the path still leads to the folder. The kind of the error is `NotFound` where it leads to another one.
     fn stays(&self) -> io::Result<()> {
-        let there = Found::of(&fs::metadata(&self.rt, self.path.as_str())?);
+        let there = Found::of(&fs::metadata(&self.rt, self.paths.folder.as_str())?);
         if !there.is_same(&Found::of(&self.folder.metadata()?)) {
             return Err(ErrorKind::NotFound.into());
         }

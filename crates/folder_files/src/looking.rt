@@ -29,10 +29,19 @@ where
     ensures cause { IfErr result (ShowsCause ((held : R.File) × R.File.is_held held)) }
 {
     let cell = CellFolder::open(rt.clone()?, cell)?;
-    lock_shared(FolderFile::Cell, cell.folder())?;
-    cell.look_at_root()?;
+    share_cell(&cell)?;
     let pages = look_at_pages(&rt, folder)?;
     Ok(FolderView::open(LookFiles { pages, cell })?)
+}
+
+// Takes the shared lock on the folder of a root record, and refuses a `root` that is no file of its own.
+fn share_cell<R: Files + Alloc + Drop>(cell: &CellFolder<R>) -> Result<(), OpenRefusal>
+where
+    R::File: LockFile,
+    ensures cause { IfErr result (ShowsCause ((held : R.File) × R.File.is_held held)) }
+{
+    lock_shared(FolderFile::Cell, cell.folder())?;
+    cell.look_at_root()
 }
 
 /// The pages of a device in a folder that exists, which are only looked at, with the shared lock on `media`, if that is there.
@@ -46,15 +55,23 @@ where
     let _folder = open_folder(rt, FolderFile::Folder, folder)?;
     let how = &mut OpenOptions::new();
     let media = open_own(rt, FolderFile::Media, path.as_str(), how.read(true))?;
-    if let Some(file) = &media {
-        lock_shared(FolderFile::Media, file)?;
-        not_too_long(told(FolderFile::Media, file.metadata())?.len())?;
-    }
+    share_media(&media)?;
     Ok(LookPages {
         media,
         len: 0,
         calls: Record::new(),
     })
+}
+
+// Takes the shared lock on `media`, if it is there, and refuses it where no medium is so long.
+fn share_media<F: LockFile + OpenFile>(media: &Option<F>) -> Result<(), OpenRefusal>
+    ensures cause { IfErr result (ShowsCause ((held : F) × F.is_held held)) }
+{
+    let Some(file) = media else {
+        return Ok(());
+    };
+    lock_shared(FolderFile::Media, file)?;
+    not_too_long(told(FolderFile::Media, file.metadata())?.len())
 }
 
 // Takes the shared lock on a file.

@@ -49,19 +49,25 @@ where
     ensures cause { IfErr result (ShowsCause ((held : R.File) × R.File.is_held held)) }
 {
     let cell = CellFolder::open(rt.clone()?, cell)?;
-    let media = format!(in rt.alloc(); "{folder}/media")?;
-    let ledger = format!(in rt.alloc(); "{folder}/ledger")?;
-    let folder = open_folder(&rt, FolderFile::Folder, folder)?;
-    lock(FolderFile::Cell, cell.folder())?;
-    cell.look_at_root()?;
-    cell.look_at_new()?;
-    look(&rt, FolderFile::Ledger, ledger.as_str())?;
-    let pages = lock_pages(&rt, folder, media.as_str())?;
+    let folder = MediaFolder::open(&rt, folder)?;
+    lock_cell(&cell)?;
+    let pages = folder.into_pages(&rt)?;
     Ok(StdFiles {
         pages,
         cell,
         new_file: None,
     })
+}
+
+// Takes the lock on the folder of a root record, and refuses files in it that are none of their own.
+fn lock_cell<R: Files + Alloc + Drop>(cell: &CellFolder<R>) -> Result<(), OpenRefusal>
+where
+    R::File: LockFile,
+    ensures cause { IfErr result (ShowsCause ((held : R.File) × R.File.is_held held)) }
+{
+    lock(FolderFile::Cell, cell.folder())?;
+    cell.look_at_root()?;
+    cell.look_at_new()
 }
 
 /// The pages of a device in a folder that exists, with the lock on `media`, and no call on them yet. Nothing is changed
@@ -72,11 +78,43 @@ where
     ensures new { IfOk result (λ pages. pages.calls.events ≡ []) }
     ensures cause { IfErr result (ShowsCause ((held : R.File) × R.File.is_held held)) }
 {
-    let media = format!(in rt.alloc(); "{folder}/media")?;
-    let ledger = format!(in rt.alloc(); "{folder}/ledger")?;
-    let folder = open_folder(rt, FolderFile::Folder, folder)?;
-    look(rt, FolderFile::Ledger, ledger.as_str())?;
-    lock_pages(rt, folder, media.as_str())
+    MediaFolder::open(rt, folder)?.into_pages(rt)
+}
+
+// An open folder of a medium, and the paths of the files `media` and `ledger` in it.
+#[derive(Drop)]
+struct MediaFolder<R: Files + Alloc> {
+    media: String<R::A>,
+    ledger: String<R::A>,
+    folder: R::File,
+}
+
+impl<R: Files + Alloc> MediaFolder<R> {
+    // The folder of this path. No file in it is looked at.
+    fn open(rt: &R, path: &str) -> Result<MediaFolder<R>, OpenRefusal>
+        ensures cause { IfErr result (ShowsCause ⊥) }
+    {
+        let media = format!(in rt.alloc(); "{path}/media")?;
+        let ledger = format!(in rt.alloc(); "{path}/ledger")?;
+        let folder = open_folder(rt, FolderFile::Folder, path)?;
+        Ok(MediaFolder {
+            media,
+            ledger,
+            folder,
+        })
+    }
+
+    // Its pages, with the lock on `media`, once it was looked whether the ledger is a file of its own.
+    fn into_pages(self, rt: &R) -> Result<StdPages<R>, OpenRefusal>
+    where
+        R::File: LockFile,
+        ensures new { IfOk result (λ pages. pages.calls.events ≡ []) }
+        ensures cause { IfErr result (ShowsCause ((held : R.File) × R.File.is_held held)) }
+    {
+        look(rt, FolderFile::Ledger, self.ledger.as_str())?;
+        let MediaFolder { media, folder, .. } = self;
+        lock_pages(rt, folder, media.as_str())
+    }
 }
 
 // The pages of an open folder, and of the file of this name in it, with the lock on that.

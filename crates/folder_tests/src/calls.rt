@@ -4,11 +4,10 @@
 //! takes another folder for that of the root record or of the medium; a method of `StdFiles` that makes another call of the system
 //! than it notes, or none.
 use folder_doubles::{
-    APART, CELL, CallLog, FOLDER, first_unlike, left, length_and_mode, make_apart, make_folder,
-    open, view,
+    APART, CELL, CallLog, FOLDER, comes_true, first_unlike, left, length_and_mode, make_apart,
+    make_folder, open, view,
 };
 use folder_platform::OpenRefusal;
-use platform::Platform;
 use sdbt_base::{RECORD, ROOT};
 use std::test::Fail;
 use std::{fs, io};
@@ -48,11 +47,14 @@ fn are_so(
     folder: &str,
     opening: &str,
     script: &str,
-) -> Result<bool, Fail> {
-    let log = CallLog::new(rt.alloc());
-    let mut platform = open(rt, &log, cell, folder)?;
-    let opens = log.is(opening);
-    Ok(opens && first_unlike(&mut platform, rt.alloc(), &log, script).is_none())
+) -> Result<bool, OpenRefusal> {
+    comes_true(
+        rt,
+        &CallLog::new(rt.alloc()),
+        (cell, folder),
+        Some(opening),
+        script,
+    )
 }
 
 /// What each call answers, and the calls on files that it makes.
@@ -117,7 +119,7 @@ fn looks_are_so(rt: &HostRuntime, opening: &str, script: &str) -> Result<bool, F
     let log = CallLog::new(rt.alloc());
     let mut platform = view(rt, &log, FOLDER, FOLDER)?;
     let opens = log.is(opening);
-    Ok(opens && first_unlike(&mut platform, rt.alloc(), &log, script).is_none())
+    Ok(opens && first_unlike(&mut platform, rt, &log, script).is_none())
 }
 
 #[test]
@@ -130,35 +132,8 @@ fn looks_change_no_file(rt: HostRuntime) -> Result<(), Fail> {
     Ok(())
 }
 
-/// Whether a line comes true, and leaves a root record of this byte, or none for 0, and a `root.new` or none; and then another line.
-fn are_left<P: Platform>(
-    rt: &HostRuntime,
-    platform: &mut P,
-    log: &CallLog,
-    lines: (&str, &str),
-    leaves: (u8, bool),
-) -> bool {
-    let is_so = first_unlike(platform, rt.alloc(), log, lines.0).is_none();
-    let is_left = match left(rt) {
-        Ok(found) => found == leaves,
-        Err(_) => false,
-    };
-    is_so && is_left && first_unlike(platform, rt.alloc(), log, lines.1).is_none()
-}
-
-/// The same of a platform over a new folder.
-fn are_left_there(
-    rt: &HostRuntime,
-    lines: (&str, &str),
-    leaves: (u8, bool),
-) -> Result<bool, OpenRefusal> {
-    let log = CallLog::new(rt.alloc());
-    let mut platform = open(rt, &log, FOLDER, FOLDER)?;
-    Ok(are_left(rt, &mut platform, &log, lines, leaves))
-}
-
-/// Whether a call whose call on a file of this number fails answers a fault, and leaves this. Once one failed that changes something
-/// no call is made any more.
+/// Whether a call whose call on a file of this number fails answers a fault, and leaves a root record of this byte, or none for 0, and a
+/// `root.new` or none. Once one failed that changes something no call is made any more.
 fn is_answered(
     rt: &HostRuntime,
     call: &str,
@@ -166,13 +141,17 @@ fn is_answered(
     leaves: (u8, bool),
 ) -> Result<bool, Fail> {
     fresh_folder(rt)?;
-    let failed = format!(in rt.alloc(); "{call} failing {failing}: fault")?;
+    let (root, is_new) = leaves;
     let synced = if matches!(call, "read 0" | "load") {
-        "sync: done by sync data of media"
+        "done by sync data of media"
     } else {
-        "sync: fault by no call"
+        "fault by no call"
     };
-    Ok(are_left_there(rt, (failed.as_str(), synced), leaves)?)
+    let script = format!(in rt.alloc();
+        "{call} failing {failing}: fault\nfolder: {root} {is_new}\nsync: {synced}"
+    )?;
+    let log = CallLog::new(rt.alloc());
+    Ok(comes_true(rt, &log, (FOLDER, FOLDER), None, script.as_str())?)
 }
 
 #[test]

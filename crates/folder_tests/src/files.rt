@@ -1,6 +1,6 @@
 //! What no clause says: which bytes stand in the files of a folder, and what they are read as.
 use folder_doubles::{
-    APART, CELL, CallLog, ENDLESS, FOLDER, fill_apart, first_unlike, length_and_mode, make_apart,
+    APART, CELL, CallLog, ENDLESS, FOLDER, comes_true, fill_apart, length_and_mode, make_apart,
     make_folder, open,
 };
 use folder_files::open_in_folders;
@@ -11,9 +11,8 @@ use std::fs;
 use std::test::Fail;
 
 /// Whether all lines of a script come true, over files of which this is the log.
-fn are_so(rt: &HostRuntime, log: &CallLog, script: &str) -> Result<bool, Fail> {
-    let mut platform = open(rt, log, FOLDER, FOLDER)?;
-    Ok(first_unlike(&mut platform, rt.alloc(), log, script).is_none())
+fn are_so(rt: &HostRuntime, log: &CallLog, script: &str) -> Result<bool, OpenRefusal> {
+    comes_true(rt, log, (FOLDER, FOLDER), None, script)
 }
 
 /// A root record of another length, pages that are written whole and torn, and what is read of them: the first page was there,
@@ -48,7 +47,7 @@ fn short_are_so(rt: &HostRuntime, script: &str) -> Result<(bool, u64), Fail> {
 }
 
 /// The same over whole files.
-fn whole_are_so(rt: &HostRuntime, script: &str) -> Result<bool, Fail> {
+fn whole_are_so(rt: &HostRuntime, script: &str) -> Result<bool, OpenRefusal> {
     are_so(rt, &CallLog::new(rt.alloc()), script)
 }
 

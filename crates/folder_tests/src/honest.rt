@@ -18,7 +18,7 @@ load: empty";
 fn honest_files_keep_pages_and_the_cell(rt: HostRuntime) -> Result<(), Fail> {
     let mut platform = open_honest(rt.alloc())?;
     let log = CallLog::new(rt.alloc());
-    assert_eq!(rt; first_unlike(&mut platform, rt.alloc(), &log, SCRIPT), None);
+    assert_eq!(rt; first_unlike(&mut platform, &rt, &log, SCRIPT), None);
     assert!(rt; platform.is_sound());
     Ok(())
 }

@@ -6,6 +6,3 @@ mod encoding;
 
 pub use decoding::decode;
 pub use encoding::encode_lower;
-
-#[cfg(test)]
-mod tests;

@@ -11,9 +11,6 @@ ghost use Rattle.sdbt_base.specs.Counts.{counts};
 ghost use Rattle.device_cli.specs.World.{world};
 ghost use Rattle.two_runs.specs.TwoRuns.{TwoRuns, HaveCauses};
 
-#[cfg(test)]
-mod tests;
-
 use device_cli::run_main;
 use platform::MemPlatform;
 use power_loss::lose_power;

@@ -9,9 +9,6 @@ ghost use Rattle.device_terms.specs.Served.{IsServedImage};
 ghost use Rattle.device_course.specs.Fitting.{LeavesFitting};
 ghost use Rattle.volume_runs.specs.Runs.{TwoRuns, in_memory};
 
-#[cfg(test)]
-mod tests;
-
 use platform::MemPlatform;
 use power_loss::lose_power;
 use sdbt_base::{Sink, Source, Tape};

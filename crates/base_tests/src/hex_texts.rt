@@ -1,4 +1,5 @@
-use crate::{decode, encode_lower};
+//! The vectors of RFC 4648 for hex text, and digits that are none.
+use hex_digits::{decode, encode_lower};
 
 #[test]
 fn vectors(rt: HostRuntime) {
