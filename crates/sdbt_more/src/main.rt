@@ -8,26 +8,22 @@
 
 mod in_memory;
 mod moving;
+mod places;
+mod tasks;
 mod texts;
 
 use crate::in_memory::serve_and_move;
 use crate::moving::{move_device, reason_of_move};
+use crate::places::Place;
+use crate::tasks::{Server, Task, run_at};
 use crate::texts::{HELP, NAME, USAGE, VERSION};
-use folder_files::{LockFile, open_in_folders};
-use folder_objects::{
-    Ended, NotReady, open_keys, open_ledger, print_texts, reason_of, tell_open_cell, words_of,
-};
-use nbd_core::run_nbd;
-use platform::Platform;
-use sdbt_base::{ReadSource, Tape, WriteSink};
+use folder_files::LockFile;
+use folder_objects::{Ended, print_texts, reason_of, words_of};
 use std::alloc::Global;
 use std::io;
 use std::io::IsTerminal;
 use std::process::ExitCode;
 use std::rt::{Env, Files};
-use tpm_cell::open_in_tpm;
-use tpm_nv::{OnTpm, parse_cell};
-use volumes::run_volumes;
 
 /// The exit status where a folder or an index is named twice.
 const NOT_READY: u8 = 1;
@@ -50,15 +46,6 @@ const TOO_LONG: u8 = 12;
 
 /// The exit status where the client said what is none of its words, or not all of one.
 const BROKEN: u8 = 14;
-
-/// What serves the device.
-#[derive(Clone, Copy)]
-enum Server {
-    /// The server of a client of NBD.
-    Nbd,
-    /// That of lines of volumes.
-    Volumes,
-}
 
 /// What the command line asks for.
 #[derive(Clone, Copy)]
@@ -172,133 +159,23 @@ where
     R: Files + Alloc<A = Global> + Input + Print + Eprint + Clone + Drop,
     R::File: LockFile,
 {
-    let [first, others @ ..] = words else {
-        return FAULTY.into();
-    };
-    if first.as_str() != "--root" {
-        return serve_folders(rt, server, first.as_str(), first.as_str(), others).into();
-    }
-    match others {
-        [cell, folder, others @ ..] => {
-            serve_apart(rt, server, cell.as_str(), folder.as_str(), others)
-        }
-        _ => FAULTY.into(),
+    match place_before(words) {
+        Some((place, others)) => run_at(rt, place, Task::Serve(server, others)),
+        None => FAULTY.into(),
     }
 }
 
-/// Serves a device whose medium is in `folder`, and its root record in what `cell` names: a folder, or
-/// an index of a TPM.
-fn serve_apart<'a, R>(
-    rt: &R,
-    server: Server,
-    cell: &'a str,
-    folder: &str,
-    words: &[String],
-) -> Ended<'a>
-where
-    R: Files + Alloc<A = Global> + Input + Print + Eprint + Clone + Drop,
-    R::File: LockFile,
-{
-    let on_tpm = match parse_cell(cell) {
-        Ok(Some(on_tpm)) => on_tpm,
-        Ok(None) => return serve_folders(rt, server, cell, folder, words).into(),
-        Err(_) => return FAULTY.into(),
-    };
-    match run_in_tpm(rt, server, cell, &on_tpm, folder, words) {
-        Ok(run) => run,
-        Err(not_ready) => not_ready.status_told(rt, NAME, cell, folder).into(),
+/// The place that words begin with, and the words behind it.
+fn place_before(words: &[String]) -> Option<(Place<'_>, &[String])> {
+    match words {
+        [switch, others @ ..] if switch.as_str() == "--root" => match others {
+            [cell, folder, others @ ..] => {
+                let place = Place::of(Some(cell.as_str()), folder.as_str())?;
+                Some((place, others))
+            }
+            _ => None,
+        },
+        [folder, others @ ..] => Some((Place::of(None, folder.as_str())?, others)),
+        [] => None,
     }
-}
-
-/// Serves a device whose root record is in the folder `cell`, and its medium in `folder`. What is not
-/// ready is said on standard error.
-fn serve_folders<R>(rt: &R, server: Server, cell: &str, folder: &str, words: &[String]) -> u8
-where
-    R: Files + Alloc<A = Global> + Input + Print + Eprint + Clone + Drop,
-    R::File: LockFile,
-{
-    match run_in_folders(rt, server, cell, folder, words) {
-        Ok(status) => status,
-        Err(not_ready) => not_ready.status_told(rt, NAME, cell, folder),
-    }
-}
-
-/// Serves over folders: see [`run_over`].
-fn run_in_folders<R>(
-    rt: &R,
-    server: Server,
-    cell: &str,
-    folder: &str,
-    words: &[String],
-) -> Result<u8, NotReady>
-where
-    R: Files + Alloc<A = Global> + Input + Print + Eprint + Clone + Drop,
-    R::File: LockFile,
-{
-    let tape = open_keys(rt)?;
-    let platform = open_in_folders(rt.clone()?, cell, folder)?;
-    tell_open_cell(rt, NAME, cell);
-    let (status, _) = run_over(rt, server, platform, tape, folder, words)?;
-    Ok(status)
-}
-
-/// The same over a folder and an index of a TPM, which `cell` names.
-fn run_in_tpm<'a, R>(
-    rt: &R,
-    server: Server,
-    cell: &'a str,
-    on_tpm: &OnTpm<'_>,
-    folder: &str,
-    words: &[String],
-) -> Result<Ended<'a>, NotReady>
-where
-    R: Files + Alloc<A = Global> + Input + Print + Eprint + Clone + Drop,
-    R::File: LockFile,
-{
-    let tape = open_keys(rt)?;
-    let platform = open_in_tpm(rt, on_tpm, folder)?;
-    let (status, platform) = run_over(rt, server, platform, tape, folder, words)?;
-    Ok(Ended::over_index(status, cell, platform.into_files().failure()))
-}
-
-/// Serves over a platform whose ledger is in `folder`. It is refused before the words behind are looked
-/// at where a folder, a file in it, an index or the random source can't be made ready. The platform has
-/// its locks from before anything is changed until the run has ended.
-fn run_over<R, P, T>(
-    rt: &R,
-    server: Server,
-    mut platform: P,
-    mut tape: T,
-    folder: &str,
-    words: &[String],
-) -> Result<(u8, P), NotReady>
-where
-    R: Files + Alloc<A = Global> + Input + Print,
-    P: Platform + Drop,
-    T: Tape + Drop,
-{
-    let mut ledger = open_ledger(rt, folder)?;
-    let mut input = ReadSource::new(rt.reader());
-    let mut output = WriteSink::new(io::writer(rt));
-    let status = match server {
-        Server::Nbd => run_nbd(
-            rt.alloc(),
-            words,
-            &mut platform,
-            &mut tape,
-            &mut input,
-            &mut output,
-            &mut ledger,
-        ),
-        Server::Volumes => run_volumes(
-            rt.alloc(),
-            words,
-            &mut platform,
-            &mut tape,
-            &mut input,
-            &mut output,
-            &mut ledger,
-        ),
-    };
-    Ok((status, platform))
 }

@@ -1,10 +1,11 @@
 //! The move of a device in folders to other folders.
 
+use crate::places::{NotOpened, Place, at, open_folders, open_index};
+use crate::tasks::{Task, run_at};
 use crate::texts::NAME;
 use crate::{FAULTY, NO_DEVICE, NOT_READY};
-use folder_files::{LockFile, StdFiles, open_in_folders};
-use folder_objects::{Ended, NotReady, Watched, open_keys, open_ledger, reason_of, tell_open_cell};
-use folder_platform::{FolderPlatform, InFolder};
+use folder_files::LockFile;
+use folder_objects::{Ended, NotReady, Watched, open_ledger, reason_of};
 use page_store::current;
 use platform::Platform;
 use sdbt_base::{Tape, WriteSink};
@@ -12,8 +13,7 @@ use std::alloc::Global;
 use std::os::unix::fs::MetadataExt;
 use std::rt::Files;
 use std::{fs, io};
-use tpm_cell::{InTpm, StdTpm, TpmFault, open_in_tpm};
-use tpm_nv::{OnTpm, parse_cell};
+use tpm_nv::OnTpm;
 use transfer::run_transfer;
 
 /// The exit status where the medium or the root cell failed that is moved.
@@ -21,28 +21,6 @@ const FROM_FAULT: u8 = 5;
 
 /// The exit status where those failed that it goes to.
 const TO_FAULT: u8 = 13;
-
-/// The platform over folders.
-type OnFolders<R> = FolderPlatform<InFolder<StdFiles<R>>>;
-
-/// The one over a folder and an index of a TPM.
-type OnIndex<R> = FolderPlatform<InTpm<R, StdTpm<<R as Files>::File>>>;
-
-/// Where a device is.
-#[derive(Clone, Copy)]
-struct Place<'a> {
-    /// The word that names the folder of its root record, or an index, if one does.
-    cell: Option<&'a str>,
-    /// The folder of its medium and its ledger, and of its root record where none is named.
-    folder: &'a str,
-}
-
-/// A place that is not ready.
-#[derive(Drop)]
-struct NotOpened<'a> {
-    place: Place<'a>,
-    why: NotReady,
-}
 
 /// What failed where a move ended with this status.
 pub(crate) fn reason_of_move(status: u8) -> Option<&'static str> {
@@ -59,7 +37,7 @@ pub(crate) fn reason_of_move(status: u8) -> Option<&'static str> {
 /// Moves the device between the places that the words name, with standard error at a terminal or not.
 pub(crate) fn move_device<'a, R>(rt: &R, at_terminal: bool, words: &'a [String]) -> Ended<'a>
 where
-    R: Files + Alloc<A = Global> + Print + Eprint + Clone + Drop,
+    R: Files + Alloc<A = Global> + Input + Print + Eprint + Clone + Drop,
     R::File: LockFile,
 {
     let Some((from, to)) = places_of(words) else {
@@ -69,12 +47,7 @@ where
         let _ = eprintln!(rt; "folder not ready\n{NAME}: {word}: it is named for both devices");
         return NOT_READY.into();
     }
-    match move_from(rt, at_terminal, from, to) {
-        Ok(run) => run,
-        Err(NotOpened { place, why }) => why
-            .status_told(rt, NAME, cell_of(&place), place.folder)
-            .into(),
-    }
+    run_at(rt, from, Task::Move { at_terminal, to })
 }
 
 /// The places that the words name, in this order: the one that a device comes from, and the one that it goes to.
@@ -98,41 +71,20 @@ fn cell_behind<'a>(switch: &str, words: &'a [String]) -> (Option<&'a str>, &'a [
     }
 }
 
-/// The place of a folder, and of the cell where one is named.
+/// The place of a folder, and of the cell where one is named, if the words are those of one.
 fn place_of<'a>(cell: Option<&'a str>, folder: &'a str) -> Option<Place<'a>> {
     // A switch that is none of these, or not where it may be.
     if folder.starts_with("--") {
         return None;
     }
-    if let Some(word) = cell
-        && parse_cell(word).is_err()
-    {
-        return None;
-    }
-    Some(Place { cell, folder })
-}
-
-/// The word that names where a place's root record is.
-fn cell_of<'a>(place: &Place<'a>) -> &'a str {
-    place.cell.unwrap_or(place.folder)
-}
-
-/// The index that a place's root record is in, if it is in one.
-fn index_of<'a>(place: &Place<'a>) -> Option<OnTpm<'a>> {
-    match place.cell {
-        None => None,
-        Some(word) => match parse_cell(word) {
-            Ok(index) => index,
-            Err(_) => None,
-        },
-    }
+    Place::of(cell, folder)
 }
 
 /// The word that names a folder or an index of the second place which the first one has too. Two files may lead to one TPM,
 /// so an index of the same number is taken for the same.
 fn word_on_both<'a>(rt: &impl Files, from: &Place<'_>, to: &Place<'a>) -> Option<&'a str> {
-    if is_one_index(&index_of(from), &index_of(to)) || has_folder(rt, from, cell_folder(to)) {
-        Some(cell_of(to))
+    if is_one_index(&from.index(), &to.index()) || has_folder(rt, from, cell_folder(to)) {
+        Some(to.cell())
     } else if has_folder(rt, from, Some(to.folder)) {
         Some(to.folder)
     } else {
@@ -149,8 +101,8 @@ fn is_one_index(from: &Option<OnTpm<'_>>, to: &Option<OnTpm<'_>>) -> bool {
 
 /// The folder of a place's root record, if it is in one.
 fn cell_folder<'a>(place: &Place<'a>) -> Option<&'a str> {
-    match index_of(place) {
-        None => Some(cell_of(place)),
+    match place.index() {
+        None => Some(place.cell()),
         Some(_) => None,
     }
 }
@@ -174,42 +126,8 @@ fn is_one_folder(rt: &impl Files, one: Option<&str>, other: Option<&str>) -> boo
     }
 }
 
-/// Opens the place that the device comes from, and goes on with [`move_to`].
-fn move_from<'a, R>(
-    rt: &R,
-    at_terminal: bool,
-    from: Place<'a>,
-    to: Place<'a>,
-) -> Result<Ended<'a>, NotOpened<'a>>
-where
-    R: Files + Alloc<A = Global> + Print + Eprint + Clone + Drop,
-    R::File: LockFile,
-{
-    let tape = at(from, open_keys(rt))?;
-    match index_of(&from) {
-        None => {
-            let source = at(from, open_folders(rt, &from))?;
-            let (run, _) = move_to(rt, at_terminal, source, tape, to)?;
-            Ok(run)
-        }
-        Some(index) => {
-            let source = at(from, open_index(rt, &index, &from))?;
-            let (run, source) = move_to(rt, at_terminal, source, tape, to)?;
-            Ok(run_from_index(run, &from, source.into_files().failure()))
-        }
-    }
-}
-
-/// A run whose device came from an index, a call on which failed for this reason, if one did.
-fn run_from_index<'a>(run: Ended<'a>, from: &Place<'a>, fault: Option<TpmFault>) -> Ended<'a> {
-    match fault {
-        None => run,
-        fault => Ended::over_index(run.status, cell_of(from), fault),
-    }
-}
-
 /// Opens the place that the device on a platform goes to, and moves it.
-fn move_to<'a, R, P, T>(
+pub(crate) fn move_to<'a, R, P, T>(
     rt: &R,
     at_terminal: bool,
     source: P,
@@ -222,55 +140,30 @@ where
     P: Platform + Drop,
     T: Tape + Drop,
 {
-    match index_of(&to) {
+    match to.index() {
         None => {
             let target = at(to, open_folders(rt, &to))?;
-            let (status, source, _) = at(to, run_over(rt, at_terminal, source, target, tape, &to))?;
+            let (status, source, _) = at(
+                to,
+                move_over(rt, at_terminal, source, target, tape, &to),
+            )?;
             Ok((status.into(), source))
         }
         Some(index) => {
             let target = at(to, open_index(rt, &index, &to))?;
             let (status, source, target) = at(
                 to,
-                run_over(rt, at_terminal, source, target, tape, &to),
+                move_over(rt, at_terminal, source, target, tape, &to),
             )?;
             let fault = target.into_files().failure();
-            Ok((Ended::over_index(status, cell_of(&to), fault), source))
+            Ok((Ended::over_index(status, to.cell(), fault), source))
         }
     }
 }
 
-/// What was opened, or that this place is not ready.
-fn at<V>(place: Place<'_>, opened: Result<V, NotReady>) -> Result<V, NotOpened<'_>> {
-    match opened {
-        Ok(value) => Ok(value),
-        Err(why) => Err(NotOpened { place, why }),
-    }
-}
-
-/// Opens a place that is in folders alone.
-fn open_folders<R>(rt: &R, place: &Place<'_>) -> Result<OnFolders<R>, NotReady>
-where
-    R: Files + Alloc + Eprint + Clone + Drop,
-    R::File: LockFile,
-{
-    let platform = open_in_folders(rt.clone()?, cell_of(place), place.folder)?;
-    tell_open_cell(rt, NAME, cell_of(place));
-    Ok(platform)
-}
-
-/// Opens a place whose root record is in this index.
-fn open_index<R>(rt: &R, index: &OnTpm<'_>, place: &Place<'_>) -> Result<OnIndex<R>, NotReady>
-where
-    R: Files + Alloc + Clone + Drop,
-    R::File: LockFile,
-{
-    Ok(open_in_tpm(rt, index, place.folder)?)
-}
-
 /// Moves the device on one platform to another, whose place has the ledger. Both have their locks from before anything is changed
 /// until the run has ended. With standard error at a terminal it says how many pages of the first one were read.
-fn run_over<R, P, Q, T>(
+fn move_over<R, P, Q, T>(
     rt: &R,
     at_terminal: bool,
     source: P,
