@@ -141,7 +141,8 @@ quiet_exit (Err (stops.Device device.BadRoot)) before now h quiet = (λ e. omega
 quiet_exit (Err (stops.Device (device.BadRecord addr))) before now h quiet = (λ e. omega (arith, e), λ e. omega (arith, e), λ e. omega (arith, e), λ e. omega (arith, e), λ e. omega (arith, e), λ e. omega (arith, e))
 quiet_exit (Err stops.Limit) before now h quiet = (λ e. omega (arith, e), λ e. omega (arith, e), λ e. omega (arith, e), λ e. omega (arith, e), λ e. omega (arith, e), λ e. omega (arith, e))
 
-is_exit : (ending : Ending) → IsStatus (exit_of ending)
+-- the statuses of endings are among those that there are
+pub is_exit : (ending : Ending) → IsStatus (exit_of ending)
 is_exit (Ok done) = inl refl
 is_exit (Err stops.Source) = inr (inr (inl refl))
 is_exit (Err stops.Sink) = inr (inr (inr (inl refl)))

@@ -28,3 +28,4 @@ pub mod WordLaws
 pub mod LookLaws
 pub mod EndLaws
 pub mod StatusLaws
+pub mod ExitLaws

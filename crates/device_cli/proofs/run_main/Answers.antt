@@ -24,7 +24,8 @@ use Rattle.device_cli.proofs.EndLaws.{forgets, ended_run, serves_at, checked_at,
 use Rattle.device_cli.proofs.GivenLaws.{few_records}
 use Rattle.line_run.proofs.StopLaws.{ArePart, cause_wide}
 use Rattle.device_cli.proofs.SeizeWordLaws.{only_word, at_eight}
-use Rattle.device_cli.proofs.StatusLaws.{check_status, neither, none_of, run_status, seize_status, work_status}
+use Rattle.device_cli.proofs.ExitLaws.{check_exits, never_two, run_exits, seize_exits, work_exits}
+use Rattle.device_cli.proofs.StatusLaws.{neither, none_of}
 use Rattle.device_cli.proofs.WordLaws.{one_script, not_run, not_serving, at_most}
 use Rattle.device_cli.proofs.WorkLaws.{ended_work, working_of}
 use Rattle.device_cli.proofs.run_main.Goals as goal
@@ -40,18 +41,6 @@ never_zero (stops.Device device.Ledger) is = omega (arith, is)
 never_zero (stops.Device device.BadRoot) is = omega (arith, is)
 never_zero (stops.Device (device.BadRecord addr)) is = omega (arith, is)
 never_zero (stops.Device device.Memory) is = omega (arith, is)
-
--- nor has it 2
-never_two : (stop : Stop) → status_of stop ≡ 2 → ⊥
-never_two stops.Source is = omega (arith, is)
-never_two stops.Sink is = omega (arith, is)
-never_two stops.Limit is = omega (arith, is)
-never_two (stops.Device device.Platform) is = omega (arith, is)
-never_two (stops.Device device.Tape) is = omega (arith, is)
-never_two (stops.Device device.Ledger) is = omega (arith, is)
-never_two (stops.Device device.BadRoot) is = omega (arith, is)
-never_two (stops.Device (device.BadRecord addr)) is = omega (arith, is)
-never_two (stops.Device device.Memory) is = omega (arith, is)
 
 -- ---- a run
 
@@ -132,25 +121,19 @@ returns-in-Err-clause-refuses g c =
 
 pub returns-in-Ok-clause-exits : goal.returns-in-Ok-clause-exits
 returns-in-Ok-clause-exits g c =
+    let old = handed g.P.Platform g.T.Tape g.I.Source g.O.Sink g.L.Sink c.args.platform.now c.args.tape.now c.args.input.now c.args.output.now c.args.ledger.now in
+    let new = handed g.P.Platform g.T.Tape g.I.Source g.O.Sink g.L.Sink c.run.new.platform c.run.new.tape c.run.new.input c.run.new.output c.run.new.ledger in
     let asked : AreRunWords (map string_bytes c.args.words.now) = rw c.in-Some-Run.field-0-is at c.in-Some-Run.ensures in
-    record {
-      is = search rules;
-      forms = search rules;
-      of_words = run_status (map string_bytes c.args.words.now) 0 (Ok tt) refl asked;
-      blame = search rules;
-      taken = search rules;
-    }
+    let ran = c.in-Ok.ensures.ran.1 in
+    run_exits (map string_bytes c.args.words.now) 0 old new (Ok tt) refl asked c.in-Ok.ensures.blame ran.taken ran.gave ran.took
 
 pub returns-in-Err-clause-exits : goal.returns-in-Err-clause-exits
 returns-in-Err-clause-exits g c =
+    let old = handed g.P.Platform g.T.Tape g.I.Source g.O.Sink g.L.Sink c.args.platform.now c.args.tape.now c.args.input.now c.args.output.now c.args.ledger.now in
+    let new = handed g.P.Platform g.T.Tape g.I.Source g.O.Sink g.L.Sink c.run.new.platform c.run.new.tape c.run.new.input c.run.new.output c.run.new.ledger in
     let asked : AreRunWords (map string_bytes c.args.words.now) = rw c.in-Some-Run.field-0-is at c.in-Some-Run.ensures in
-    record {
-      is = search rules;
-      forms = search rules;
-      of_words = run_status (map string_bytes c.args.words.now) _ (Err c.in-Err.stop) c.status.ensures asked;
-      blame = search rules;
-      taken = search rules;
-    }
+    let ran = c.in-Err.ensures.ran.1 in
+    run_exits (map string_bytes c.args.words.now) c.status.result old new (Err c.in-Err.stop) c.status.ensures asked c.in-Err.ensures.blame ran.taken ran.gave ran.took
 
 -- ---- other words
 
@@ -243,25 +226,25 @@ returns-in-Ok-check-clause-refuses g c =
 
 pub returns-in-Ok-check-clause-exits : goal.returns-in-Ok-check-clause-exits
 returns-in-Ok-check-clause-exits g c =
+    let old = handed g.P.Platform g.T.Tape g.I.Source g.O.Sink g.L.Sink c.args.platform.now c.args.tape.now c.args.input.now c.args.output.now c.args.ledger.now in
+    let new = handed g.P.Platform g.T.Tape g.I.Source g.O.Sink g.L.Sink c.check.new.platform c.args.tape.now c.check.new.input c.check.new.output c.args.ledger.now in
     let asked : AreCheckWords (map string_bytes c.args.words.now) = rw c.in-Some-Check.field-0-is at c.in-Some-Check.ensures in
-    record {
-      is = search rules;
-      forms = search rules;
-      of_words = check_status g.P.Platform.tells (g.P.Platform.history c.args.platform.now).present _ _ _ _ (map string_bytes c.args.words.now) _ (Ok c.in-Ok-check.finding) c.in-Ok-check.ensures.checks.is c.status-in-Ok-check.ensures asked;
-      blame = search rules;
-      taken = search rules;
-    }
+    let before = record old.counts { tape = 0; ledger = 0 } in
+    let now = record new.counts { tape = 0; ledger = 0 } in
+    let ending : Result Finding Stop = Ok c.in-Ok-check.finding in
+    let part : ArePart before now old.counts new.counts = record { platform = inr (refl, refl); tape = inl (refl, refl, refl); input = inr (refl, refl); output = inr (refl, refl); ledger = inl (refl, refl, refl) } in
+    check_exits g.P.Platform.tells (map string_bytes c.args.words.now) c.status-in-Ok-check.result old new before now old.world.history.present ending c.status-in-Ok-check.ensures asked part c.in-Ok-check.ensures.blame c.in-Ok-check.ensures.checks
 
 pub returns-in-Err-check-clause-exits : goal.returns-in-Err-check-clause-exits
 returns-in-Err-check-clause-exits g c =
+    let old = handed g.P.Platform g.T.Tape g.I.Source g.O.Sink g.L.Sink c.args.platform.now c.args.tape.now c.args.input.now c.args.output.now c.args.ledger.now in
+    let new = handed g.P.Platform g.T.Tape g.I.Source g.O.Sink g.L.Sink c.check.new.platform c.args.tape.now c.check.new.input c.check.new.output c.args.ledger.now in
     let asked : AreCheckWords (map string_bytes c.args.words.now) = rw c.in-Some-Check.field-0-is at c.in-Some-Check.ensures in
-    record {
-      is = search rules;
-      forms = search rules;
-      of_words = check_status g.P.Platform.tells (g.P.Platform.history c.args.platform.now).present _ _ _ _ (map string_bytes c.args.words.now) _ (Err c.in-Err-check.stop) c.in-Err-check.ensures.checks.is c.status-in-Err-check.ensures asked;
-      blame = search rules;
-      taken = search rules;
-    }
+    let before = record old.counts { tape = 0; ledger = 0 } in
+    let now = record new.counts { tape = 0; ledger = 0 } in
+    let ending : Result Finding Stop = Err c.in-Err-check.stop in
+    let part : ArePart before now old.counts new.counts = record { platform = inr (refl, refl); tape = inl (refl, refl, refl); input = inr (refl, refl); output = inr (refl, refl); ledger = inl (refl, refl, refl) } in
+    check_exits g.P.Platform.tells (map string_bytes c.args.words.now) c.status-in-Err-check.result old new before now old.world.history.present ending c.status-in-Err-check.ensures asked part c.in-Err-check.ensures.blame c.in-Err-check.ensures.checks
 
 -- ---- a seizure
 
@@ -352,22 +335,26 @@ returns-in-Err-seize_word-clause-refuses g c =
     }
 
 pub returns-in-Ok-seize_word-clause-exits : goal.returns-in-Ok-seize_word-clause-exits
-returns-in-Ok-seize_word-clause-exits g c = record {
-  is = search rules;
-  forms = search rules;
-  of_words = seize_status g.P.Platform.tells _ (g.P.Platform.history c.args.platform.now).present _ _ _ (map string_bytes c.args.words.now) 0 (Ok tt) c.in-Ok-seize_word.ensures.seizes refl;
-  blame = search rules;
-  taken = search rules;
-}
+returns-in-Ok-seize_word-clause-exits g c =
+    let old = handed g.P.Platform g.T.Tape g.I.Source g.O.Sink g.L.Sink c.args.platform.now c.args.tape.now c.args.input.now c.args.output.now c.args.ledger.now in
+    let new = handed g.P.Platform g.T.Tape g.I.Source g.O.Sink g.L.Sink c.seize_word.new.platform c.args.tape.now c.args.input.now c.seize_word.new.output c.args.ledger.now in
+    let asked : AreSeizeWords (map string_bytes c.args.words.now) = rw c.in-Some-Seize.field-0-is at c.in-Some-Seize.ensures in
+    let before = record old.counts { tape = 0; input = 0; ledger = 0 } in
+    let now = record new.counts { tape = 0; input = 0; ledger = 0 } in
+    let ending : Ending = Ok tt in
+    let part : ArePart before now old.counts new.counts = record { platform = inr (refl, refl); tape = inl (refl, refl, refl); input = inl (refl, refl, refl); output = inr (refl, refl); ledger = inl (refl, refl, refl) } in
+    seize_exits g.P.Platform.tells (map string_bytes c.args.words.now) (map string_bytes c.records_of.result.now) 0 old new before now old.world.head old.world.history.present ending refl asked part c.in-Ok-seize_word.ensures.blame c.in-Ok-seize_word.ensures.seizes
 
 pub returns-in-Err-seize_word-clause-exits : goal.returns-in-Err-seize_word-clause-exits
-returns-in-Err-seize_word-clause-exits g c = record {
-  is = search rules;
-  forms = search rules;
-  of_words = seize_status g.P.Platform.tells _ (g.P.Platform.history c.args.platform.now).present _ _ _ (map string_bytes c.args.words.now) _ (Err c.in-Err-seize_word.stop) c.in-Err-seize_word.ensures.seizes c.status-in-Err-seize_word.ensures;
-  blame = search rules;
-  taken = search rules;
-}
+returns-in-Err-seize_word-clause-exits g c =
+    let old = handed g.P.Platform g.T.Tape g.I.Source g.O.Sink g.L.Sink c.args.platform.now c.args.tape.now c.args.input.now c.args.output.now c.args.ledger.now in
+    let new = handed g.P.Platform g.T.Tape g.I.Source g.O.Sink g.L.Sink c.seize_word.new.platform c.args.tape.now c.args.input.now c.seize_word.new.output c.args.ledger.now in
+    let asked : AreSeizeWords (map string_bytes c.args.words.now) = rw c.in-Some-Seize.field-0-is at c.in-Some-Seize.ensures in
+    let before = record old.counts { tape = 0; input = 0; ledger = 0 } in
+    let now = record new.counts { tape = 0; input = 0; ledger = 0 } in
+    let ending : Ending = Err c.in-Err-seize_word.stop in
+    let part : ArePart before now old.counts new.counts = record { platform = inr (refl, refl); tape = inl (refl, refl, refl); input = inl (refl, refl, refl); output = inr (refl, refl); ledger = inl (refl, refl, refl) } in
+    seize_exits g.P.Platform.tells (map string_bytes c.args.words.now) (map string_bytes c.records_of.result.now) c.status-in-Err-seize_word.result old new before now old.world.head old.world.history.present ending c.status-in-Err-seize_word.ensures asked part c.in-Err-seize_word.ensures.blame c.in-Err-seize_word.ensures.seizes
 
 -- ---- the script of a seed
 
@@ -454,25 +441,25 @@ returns-in-Err-work-clause-refuses g c =
 
 pub returns-in-Ok-work-clause-exits : goal.returns-in-Ok-work-clause-exits
 returns-in-Ok-work-clause-exits g c =
+    let old = handed g.P.Platform g.T.Tape g.I.Source g.O.Sink g.L.Sink c.args.platform.now c.args.tape.now c.args.input.now c.args.output.now c.args.ledger.now in
+    let new = handed g.P.Platform g.T.Tape g.I.Source g.O.Sink g.L.Sink c.work.new.platform c.work.new.tape c.args.input.now c.work.new.output c.work.new.ledger in
     let asked : AreWorkWords c.in-Some-Work.seed c.in-Some-Work.count (map string_bytes c.args.words.now) = rw c.in-Some-Work.field-0-is at c.in-Some-Work.ensures in
-    record {
-      is = search rules;
-      forms = (λ two. absurd (omega (arith, two)), λ other. absurd (other (inr (inr (c.in-Some-Work.seed, c.in-Some-Work.count, asked)))));
-      of_words = work_status g.P.Platform.tells c.in-Some-Work.seed c.in-Some-Work.count _ _ _ _ _ _ (map string_bytes c.args.words.now) 0 (Ok tt) c.in-Ok-work.ensures.worked.1 refl asked;
-      blame = search rules;
-      taken = λ no_seizure no_work. absurd (no_work (c.in-Some-Work.seed, c.in-Some-Work.count, asked));
-    }
+    let before = record old.counts { input = 0 } in
+    let now = record new.counts { input = 0 } in
+    let ending : Ending = Ok tt in
+    let part : ArePart before now old.counts new.counts = record { platform = inr (refl, refl); tape = inr (refl, refl); input = inl (refl, refl, refl); output = inr (refl, refl); ledger = inr (refl, refl) } in
+    work_exits g.P.Platform.tells (map string_bytes c.args.words.now) c.in-Some-Work.seed c.in-Some-Work.count 0 old new before now _ _ _ _ old.written new.written ending refl asked part c.in-Ok-work.ensures.blame c.in-Ok-work.ensures.worked.1
 
 pub returns-in-Err-work-clause-exits : goal.returns-in-Err-work-clause-exits
 returns-in-Err-work-clause-exits g c =
+    let old = handed g.P.Platform g.T.Tape g.I.Source g.O.Sink g.L.Sink c.args.platform.now c.args.tape.now c.args.input.now c.args.output.now c.args.ledger.now in
+    let new = handed g.P.Platform g.T.Tape g.I.Source g.O.Sink g.L.Sink c.work.new.platform c.work.new.tape c.args.input.now c.work.new.output c.work.new.ledger in
     let asked : AreWorkWords c.in-Some-Work.seed c.in-Some-Work.count (map string_bytes c.args.words.now) = rw c.in-Some-Work.field-0-is at c.in-Some-Work.ensures in
-    record {
-      is = search rules;
-      forms = (λ two. absurd (never_two c.in-Err-work.stop (sym c.status-in-Err-work.ensures ∙ two)), λ other. absurd (other (inr (inr (c.in-Some-Work.seed, c.in-Some-Work.count, asked)))));
-      of_words = work_status g.P.Platform.tells c.in-Some-Work.seed c.in-Some-Work.count _ _ _ _ _ _ (map string_bytes c.args.words.now) _ (Err c.in-Err-work.stop) c.in-Err-work.ensures.worked.1 c.status-in-Err-work.ensures asked;
-      blame = search rules;
-      taken = λ no_seizure no_work. absurd (no_work (c.in-Some-Work.seed, c.in-Some-Work.count, asked));
-    }
+    let before = record old.counts { input = 0 } in
+    let now = record new.counts { input = 0 } in
+    let ending : Ending = Err c.in-Err-work.stop in
+    let part : ArePart before now old.counts new.counts = record { platform = inr (refl, refl); tape = inr (refl, refl); input = inl (refl, refl, refl); output = inr (refl, refl); ledger = inr (refl, refl) } in
+    work_exits g.P.Platform.tells (map string_bytes c.args.words.now) c.in-Some-Work.seed c.in-Some-Work.count c.status-in-Err-work.result old new before now _ _ _ _ old.written new.written ending c.status-in-Err-work.ensures asked part c.in-Err-work.ensures.blame c.in-Err-work.ensures.worked.1
 
 pub returns-in-Err-work-clause-serves : goal.returns-in-Err-work-clause-serves
 returns-in-Err-work-clause-serves g c words =
