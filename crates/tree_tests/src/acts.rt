@@ -66,16 +66,19 @@ fn words_of(fixture: &Fixture, alloc: Global, outcome: &Outcome) -> Option<Strin
     format!(in alloc; "{}, {level} {grown} {gone} {never}", words.as_str()).ok()
 }
 
+/// Does what an act says to a tree that stays, and answers what came of it in words.
+fn told(fixture: &mut Fixture, alloc: Global, act: &Act) -> Option<String> {
+    let outcome = outcome_of(fixture, alloc, act.verb, act.numbers[0])?;
+    words_of(fixture, alloc, &outcome)
+}
+
 impl Stage for Fixture {
     fn act(self, alloc: Global, act: &Act) -> Option<(Fixture, String)> {
         if act.verb == b'c' {
-            let fixture = self.commit(alloc)?;
-            let words = in_words(alloc, &Outcome::Done)?;
-            return Some((fixture, words));
+            return self.commit(alloc).zip(in_words(alloc, &Outcome::Done));
         }
         let mut fixture = self;
-        let outcome = outcome_of(&mut fixture, alloc, act.verb, act.numbers[0])?;
-        let words = words_of(&fixture, alloc, &outcome)?;
-        Some((fixture, words))
+        let words = told(&mut fixture, alloc, act);
+        Some(fixture).zip(words)
     }
 }

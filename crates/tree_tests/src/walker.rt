@@ -166,11 +166,16 @@ fn row_of(alloc: Global, addrs: &Addrs) -> Option<Outcome> {
     Some(Outcome::Row(row))
 }
 
+/// Does what an act says, and answers what came of it in words.
+fn told(walker: &mut Walker, alloc: Global, act: &Act) -> Option<String> {
+    let outcome = walker.outcome(alloc, act)?;
+    in_words(alloc, &outcome)
+}
+
 impl Stage for Walker {
     fn act(self, alloc: Global, act: &Act) -> Option<(Walker, String)> {
         let mut walker = self;
-        let outcome = walker.outcome(alloc, act)?;
-        let words = in_words(alloc, &outcome)?;
-        Some((walker, words))
+        let words = told(&mut walker, alloc, act);
+        Some(walker).zip(words)
     }
 }
