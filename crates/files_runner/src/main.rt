@@ -102,50 +102,61 @@ impl Loss {
     }
 }
 
+/// A platform over files in memory.
+type DiskPlatform = FolderPlatform<InFolder<DiskFiles>>;
+
+/// What the runs over files in memory have in common: the tape of their keys, their ledger, and what they put.
+#[derive(Drop)]
+struct Runs {
+    tape: SeedTape,
+    ledger: Line,
+    text: Line,
+}
+
+impl Runs {
+    /// No run yet.
+    fn new(alloc: Global) -> Runs {
+        Runs {
+            tape: SeedTape::new(1),
+            ledger: Line::new(alloc),
+            text: Line::new(alloc),
+        }
+    }
+
+    /// One more run, with these words and this input. None, if no memory was given.
+    fn serve(
+        &mut self,
+        alloc: Global,
+        words: &[String],
+        platform: &mut DiskPlatform,
+        input: &[u8],
+    ) -> Option<()> {
+        let Runs { tape, ledger, text } = self;
+        serve(alloc, words, platform, tape, input, ledger, text)
+    }
+}
+
 /// Serves the scripts on standard input over files in memory. None, if something could not be done.
 fn lose_power(rt: &(impl Input + Print + Alloc<A = Global>), loss: &Loss) -> Option<bool> {
     let alloc = rt.alloc();
     let text = io::read_to_string(alloc, rt.reader()).ok()?;
     let (script, look) = text.split_once("--\n")?;
-    let mut tape = SeedTape::new(1);
-    let mut ledger = Line::new(alloc);
-    let mut text = Line::new(alloc);
-    let files = DiskFiles::new(alloc, loss.calls);
-    let mut platform = FolderPlatform::open(InFolder { files }).ok()?;
-    serve(
-        alloc,
-        &[],
-        &mut platform,
-        &mut tape,
-        script.as_bytes(),
-        &mut ledger,
-        &mut text,
-    )?;
+    let mut runs = Runs::new(alloc);
+    let mut platform = over_files(DiskFiles::new(alloc, loss.calls))?;
+    runs.serve(alloc, &[], &mut platform, script.as_bytes())?;
     let ended = platform.into_files().files;
-    let files = ended.left(loss.unsynced, loss.falls_back);
-    let mut platform = FolderPlatform::open(InFolder { files }).ok()?;
-    serve(
-        alloc,
-        &[],
-        &mut platform,
-        &mut tape,
-        look.as_bytes(),
-        &mut ledger,
-        &mut text,
-    )?;
+    let mut platform = over_files(ended.left(loss.unsynced, loss.falls_back))?;
+    runs.serve(alloc, &[], &mut platform, look.as_bytes())?;
     let check = [String::from_str(alloc, "check").ok()?];
-    let entries = copied(alloc, ledger.bytes())?;
-    serve(
-        alloc,
-        &check,
-        &mut platform,
-        &mut tape,
-        entries.bytes(),
-        &mut ledger,
-        &mut text,
-    )?;
-    io::writer(rt).write_all(text.bytes()).ok()?;
+    let entries = copied(alloc, runs.ledger.bytes())?;
+    runs.serve(alloc, &check, &mut platform, entries.bytes())?;
+    io::writer(rt).write_all(runs.text.bytes()).ok()?;
     Some(true)
+}
+
+/// The platform over these files. None, if it can't be opened.
+fn over_files(files: DiskFiles) -> Option<DiskPlatform> {
+    FolderPlatform::open(InFolder { files }).ok()
 }
 
 /// These bytes.
