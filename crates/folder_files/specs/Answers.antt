@@ -6,7 +6,7 @@ use Rattle.std.specs.declared.io.ErrorKind.TheVariants.{NotFound, WouldBlock}
 use Rattle.folder_platform.specs.Refusals.{TellsFile}
 use Rattle.folder_platform.specs.declared.refusals.FolderFile.{FolderFile}
 use Rattle.folder_platform.specs.declared.refusals.OpenRefusal.{OpenRefusal}
-use Rattle.folder_platform.specs.declared.refusals.OpenRefusal.TheVariants.{InUse}
+use Rattle.folder_platform.specs.declared.refusals.OpenRefusal.TheVariants.{TooLong, InUse, Io, NotOwn, Exchanged, Memory}
 
 -- a missing file is none, and every other failure is handed on
 abbrev pub TellsMissing : {T : Type 0} → Result T Error → Result (Option T) Error → Type 0
@@ -30,3 +30,34 @@ abbrev pub TellsHeld : {T : Type 0} → FolderFile → Result T Error → Result
 TellsHeld file (Ok value) told = told ≡ Ok value
 TellsHeld file (Err error) told = (error_kind error ≡ WouldBlock → told ≡ Err InUse)
     × (error_kind error ≢ WouldBlock → TellsFile file (Err error) told)
+
+-- a refusal that names a file names this one
+abbrev pub NamesFile : FolderFile → OpenRefusal → Type 0
+NamesFile file (Io named _) = named ≡ file
+NamesFile file (NotOwn named _) = named ≡ file
+NamesFile file (Exchanged named _ _) = named ≡ file
+NamesFile file (TooLong _) = Unit {0}
+NamesFile file InUse = Unit {0}
+NamesFile file Memory = Unit {0}
+
+-- what was opened is kept in the place of what was there before, and a failure is handed on and leaves it
+abbrev pub IsPut : {F : Type 0} → Result F Error → Option F → Option F → Result (Unit {0}) Error → Type 0
+IsPut (Ok file) was now told = (now ≡ Some file) × (told ≡ Ok tt)
+IsPut (Err error) was now told = (now ≡ was) × (told ≡ Err error)
+
+-- what is gone or was never there is removed, and every other failure is handed on
+abbrev pub TellsRemoved : Result (Unit {0}) Error → Result (Unit {0}) Error → Type 0
+TellsRemoved (Ok done) told = told ≡ Ok tt
+TellsRemoved (Err error) told = (error_kind error ≡ NotFound → told ≡ Ok tt) × (error_kind error ≢ NotFound → told ≡ Err error)
+
+-- a file that is there is handed on, and a refusal too
+abbrev pub HandsOn : {F : Type 0} → Result (Option F) OpenRefusal → Result F OpenRefusal → Type 0
+HandsOn (Ok (Some file)) told = told ≡ Ok file
+HandsOn (Ok None) told = Unit {0}
+HandsOn (Err refusal) told = told ≡ Err refusal
+
+-- what can't be opened is not synced, and what isn't there need not be
+abbrev pub TellsUnsynced : {F : Type 0} → Result (Option F) Error → Result (Unit {0}) Error → Type 0
+TellsUnsynced (Ok (Some file)) told = Unit {0}
+TellsUnsynced (Ok None) told = told ≡ Ok tt
+TellsUnsynced (Err error) told = told ≡ Err error

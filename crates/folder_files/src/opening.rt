@@ -2,7 +2,8 @@
 ghost use Rattle.std.specs.Prelude.{◌≡◌, ◌≤◌, ◌<◌, ◌*◌, ◌↔◌, [], false, IfOk, IfErr, IsOk};
 ghost use Rattle.sdbt_base.specs.declared.limits.TheConstants.{RECORD};
 ghost use Rattle.folder_platform.specs.Refusals.{ShowsCause};
-ghost use Rattle.folder_files.specs.Answers.{TellsHeld};
+ghost use Rattle.folder_platform.specs.declared.refusals.FolderFile.TheVariants.{Folder, Media};
+ghost use Rattle.folder_files.specs.Answers.{NamesFile, TellsHeld};
 
 use crate::cell_folder::CellFolder;
 use crate::media_file::PAGE_LEN;
@@ -93,6 +94,7 @@ impl<R: Files + Alloc> MediaFolder<R> {
     // The folder of this path. No file in it is looked at.
     fn open(rt: &R, path: &str) -> Result<MediaFolder<R>, OpenRefusal>
         ensures cause { IfErr result (ShowsCause ⊥) }
+        ensures names { IfErr result (NamesFile Folder) }
     {
         let media = format!(in rt.alloc(); "{path}/media")?;
         let ledger = format!(in rt.alloc(); "{path}/ledger")?;
@@ -123,6 +125,7 @@ where
     R::File: LockFile,
     ensures new { IfOk result (λ pages. pages.calls.events ≡ []) }
     ensures cause { IfErr result (ShowsCause ((held : R.File) × R.File.is_held held)) }
+    ensures names { IfErr result (NamesFile Media) }
 {
     let how = &mut OpenOptions::new();
     let media = open_or_make(rt, FolderFile::Media, media, how.read(true).write(true))?;
@@ -139,6 +142,7 @@ where
 // Takes the lock on a file.
 fn lock<F: LockFile>(name: FolderFile, file: &F) -> Result<(), OpenRefusal>
     ensures cause { IfErr result (ShowsCause ((held : F) × F.is_held held)) }
+    ensures names { IfErr result (NamesFile name) }
 {
     locked(name, file.try_lock())
 }

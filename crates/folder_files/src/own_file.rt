@@ -3,9 +3,15 @@
 //! Such a file is looked at before and after it is opened, so that nothing in its place is followed, waited for or changed.
 ghost use Rattle.std.specs.Prelude.{◌≡◌, ◌≢◌, ◌↔◌, ⊤, IfOk, IfErr, IsOk, MatchOption};
 ghost use Rattle.std.specs.IoError.{error_kind};
+ghost use Rattle.std.specs.declared.io.Error.{Error};
 ghost use Rattle.std.specs.declared.io.ErrorKind.TheVariants.{OutOfMemory};
 ghost use Rattle.folder_platform.specs.Refusals.{ShowsCause, IsOwn, IsSame, IsMemory};
-ghost use Rattle.folder_files.specs.Answers.{TellsMissing, IsNoneIfMissing, IsNoneOnlyIfNone};
+ghost use Rattle.std.specs.Fs.{file_type, IsDir, IsFile};
+ghost use Rattle.folder_files.specs.Answers.{HandsOn, IsNoneIfMissing, IsNoneOnlyIfNone, NamesFile, TellsMissing};
+ghost use Rattle.folder_platform.specs.declared.found.Found.{Found};
+ghost use Rattle.folder_platform.specs.declared.found.FileKind.TheVariants.{Regular};
+ghost use Rattle.folder_platform.specs.declared.refusals.FolderFile.{FolderFile};
+ghost use Rattle.folder_platform.specs.declared.refusals.OpenRefusal.TheVariants.{Io, NotOwn};
 
 use folder_platform::{FolderFile, Found, OpenRefusal, told};
 use std::fs::{self, Metadata, OpenFile, OpenOptions};
@@ -31,6 +37,7 @@ pub(crate) fn unless_missing<T>(outcome: io::Result<T>) -> io::Result<Option<T>>
 pub fn look<R: Files>(files: &R, file: FolderFile, path: &str) -> Result<Option<Found>, OpenRefusal>
     ensures own { IfOk result (λ found. MatchOption found ⊤ IsOwn) }
     ensures cause { IfErr result (ShowsCause ⊥) }
+    ensures names { IfErr result (NamesFile file) }
 {
     own_if_there(file, unless_missing(fs::symlink_metadata(files, path)))
 }
@@ -43,6 +50,7 @@ fn own_if_there(
     ensures missing { IsNoneOnlyIfNone outcome result }
     ensures own { IfOk result (λ found. MatchOption found ⊤ IsOwn) }
     ensures cause { IfErr result (ShowsCause ⊥) }
+    ensures names { IfErr result (NamesFile file) }
 {
     match told(file, outcome)? {
         Some(metadata) => Ok(Some(own(file, &metadata)?)),
@@ -58,6 +66,7 @@ pub fn open_own<R: Files>(
     how: &OpenOptions,
 ) -> Result<Option<R::File>, OpenRefusal>
     ensures cause { IfErr result (ShowsCause ⊥) }
+    ensures names { IfErr result (NamesFile file) }
 {
     open_looked(files, file, path, how, look(files, file, path))
 }
@@ -70,9 +79,11 @@ fn open_looked<R: Files>(
     how: &OpenOptions,
     looked: Result<Option<Found>, OpenRefusal>,
 ) -> Result<Option<R::File>, OpenRefusal>
-    requires { IfErr looked (ShowsCause ⊥) }
+    requires cause { IfErr looked (ShowsCause ⊥) }
+    requires names { IfErr looked (NamesFile file) }
     ensures missing { IsNoneIfMissing looked result }
     ensures cause { IfErr result (ShowsCause ⊥) }
+    ensures names { IfErr result (NamesFile file) }
 {
     let Some(looked) = looked? else {
         return Ok(None);
@@ -91,8 +102,27 @@ pub fn open_or_make<R: Files>(
     how: &mut OpenOptions,
 ) -> Result<R::File, OpenRefusal>
     ensures cause { IfErr result (ShowsCause ⊥) }
+    ensures names { IfErr result (NamesFile file) }
 {
-    match open_own(files, file, path, how)? {
+    let opened = open_own(files, file, path, how);
+    opened_or_made(files, file, path, how, opened)
+}
+
+// The same once it was tried to be opened: one is made only where there was none.
+fn opened_or_made<R: Files>(
+    files: &R,
+    file: FolderFile,
+    path: &str,
+    how: &mut OpenOptions,
+    opened: Result<Option<R::File>, OpenRefusal>,
+) -> Result<R::File, OpenRefusal>
+    requires cause { IfErr opened (ShowsCause ⊥) }
+    requires names { IfErr opened (NamesFile file) }
+    ensures opened { HandsOn opened result }
+    ensures cause { IfErr result (ShowsCause ⊥) }
+    ensures names { IfErr result (NamesFile file) }
+{
+    match opened? {
         Some(opened) => Ok(opened),
         None => told(
             file,
@@ -108,6 +138,7 @@ pub(crate) fn open_folder<R: Files>(
     path: &str,
 ) -> Result<R::File, OpenRefusal>
     ensures cause { IfErr result (ShowsCause ⊥) }
+    ensures names { IfErr result (NamesFile file) }
 {
     let metadata = told(file, fs::metadata(files, path))?;
     let looked = a_folder(file, &metadata)?;
@@ -120,7 +151,8 @@ pub(crate) fn open_folder<R: Files>(
 /// What a refusal is to a call that answers with the system's errors.
 pub(crate) fn error_of(refusal: OpenRefusal) -> io::Error
     requires { ShowsCause ⊥ refusal }
-    ensures { error_kind result ≡ OutOfMemory → IsMemory refusal }
+    ensures memory { error_kind result ≡ OutOfMemory ↔ IsMemory refusal }
+    ensures error { (file : FolderFile) (error : Error) → refusal ≡ Io file error → result ≡ error }
 {
     match refusal {
         OpenRefusal::Io { error, .. } => error,
@@ -131,8 +163,10 @@ pub(crate) fn error_of(refusal: OpenRefusal) -> io::Error
 
 // A file of which this was said, if it is one of its own.
 fn own(file: FolderFile, metadata: &Metadata) -> Result<Found, OpenRefusal>
-    ensures own { IfOk result IsOwn }
+    ensures own { IfOk result (λ found. IsOwn found × IsFile (file_type metadata.now)) }
+    ensures found { IfErr result (λ refusal. (found : Found) × (refusal ≡ NotOwn file found) × (found.kind ≡ Regular ↔ IsFile (file_type metadata.now))) }
     ensures cause { IfErr result (ShowsCause ⊥) }
+    ensures names { IfErr result (NamesFile file) }
 {
     let found = Found::of(metadata);
     if !found.is_own() {
@@ -143,7 +177,9 @@ fn own(file: FolderFile, metadata: &Metadata) -> Result<Found, OpenRefusal>
 
 // A folder of which this was said, if it is one.
 fn a_folder(file: FolderFile, metadata: &Metadata) -> Result<Found, OpenRefusal>
+    ensures folder { IsOk result ↔ IsDir (file_type metadata.now) }
     ensures cause { IfErr result (ShowsCause ⊥) }
+    ensures names { IfErr result (NamesFile file) }
 {
     if !metadata.is_dir() {
         return Err(OpenRefusal::of(file, ErrorKind::NotADirectory.into()));
@@ -155,6 +191,7 @@ fn a_folder(file: FolderFile, metadata: &Metadata) -> Result<Found, OpenRefusal>
 fn one_file(file: FolderFile, looked: Found, opened: Found) -> Result<(), OpenRefusal>
     ensures same { IsOk result ↔ IsSame looked opened }
     ensures cause { IfErr result (ShowsCause ⊥) }
+    ensures names { IfErr result (NamesFile file) }
 {
     if !looked.is_same(&opened) {
         return Err(OpenRefusal::Exchanged {

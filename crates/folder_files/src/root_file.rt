@@ -1,7 +1,7 @@
 //! What is done with the files of a root record, by their names.
 ghost use Rattle.std.specs.Prelude.{◌≡◌, ◌≤◌, ⊤, min, take, length, IfOk, IfErr, MatchOption};
 ghost use Rattle.std.specs.Io.KnownBytes.{Consumes};
-ghost use Rattle.folder_files.specs.Answers.{IsNoneIfMissing, IsNoneOnlyIfNone};
+ghost use Rattle.folder_files.specs.Answers.{IsNoneIfMissing, IsNoneOnlyIfNone, TellsRemoved, TellsUnsynced};
 ghost use Rattle.folder_platform.specs.Refusals.{ShowsCause};
 
 use crate::own_file::{OWNER_ALONE, error_of, open_own, unless_missing};
@@ -14,13 +14,27 @@ use std::rt::Files;
 
 /// Removes a file, if there is one of this name.
 pub(crate) fn remove(files: &impl Files, path: &str) -> io::Result<()> {
-    unless_missing(fs::remove_file(files, path))?;
+    removed(fs::remove_file(files, path))
+}
+
+// What a removal answered: of a file that was missing it is done.
+fn removed(outcome: io::Result<()>) -> io::Result<()>
+    ensures { TellsRemoved outcome result }
+{
+    unless_missing(outcome)?;
     Ok(())
 }
 
 /// Syncs a file of its own, if there is one of this name.
 pub(crate) fn sync(files: &impl Files, path: &str) -> io::Result<()> {
-    match open(files, path)? {
+    sync_opened(open(files, path))
+}
+
+// Syncs a file that was opened, if it is there.
+fn sync_opened<F: OpenFile + Drop>(opened: io::Result<Option<F>>) -> io::Result<()>
+    ensures { TellsUnsynced opened result }
+{
+    match opened? {
         Some(file) => file.sync_all(),
         None => Ok(()),
     }

@@ -1,5 +1,6 @@
 //! The files of a device in folders, by the calls of std on them.
 ghost use Rattle.std.specs.Prelude.{◌≡◌, []};
+ghost use Rattle.folder_files.specs.Answers.{IsPut};
 
 use crate::StdPages;
 use crate::cell_folder::CellFolder;
@@ -114,7 +115,9 @@ impl<R: Files + Alloc + Clone + Drop> FolderCalls for StdFiles<R> {
 }
 
 // Keeps a file that was opened, in the place of the one that was there.
-fn put_open<F: Drop>(opened: io::Result<F>, place: &mut Option<F>) -> io::Result<()> {
+fn put_open<F: Drop>(opened: io::Result<F>, place: &mut Option<F>) -> io::Result<()>
+    ensures { IsPut opened place.old place.new result }
+{
     *place = Some(opened?);
     Ok(())
 }

@@ -18,6 +18,10 @@ abbrev pub IsInCell : Option (List ℕ) → Option (List ℕ) → Type 0
 IsInCell held (Some bytes) = (held ≡ Some bytes) × (bytes ≢ no_root)
 IsInCell held None = (held ≡ None) ⊎ (held ≡ Some no_root)
 
+-- a call that is not on the cell leaves it, and why an earlier one on it failed
+abbrev pub IsApart : {C F : Type 0} → C → C → F → F → Type 0
+IsApart cell cell_now failure failure_now = (cell_now ≡ cell) × (failure_now ≡ failure)
+
 -- in these, `asks old command answer new` says that a command was sent, and what came of it
 
 -- the command was sent, and some reply to it is this

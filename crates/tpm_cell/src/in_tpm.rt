@@ -1,9 +1,11 @@
 //! A device whose root record is in a TPM.
-ghost use Rattle.std.specs.Prelude.{◌≡◌, ℕ, List, Option, Some, None, if◌then◌else◌, length, is_ok, IfOk, IsErr, IsSomeAnd, OnErr, OnOk};
+ghost use Rattle.std.specs.Prelude.{◌≡◌, ◌∷◌, ℕ, List, Option, Some, None, true, if◌then◌else◌, length, is_ok, IfErr, IfOk, IsErr, IsSomeAnd, MatchResult, OnErr, OnOk};
+ghost use Rattle.folder_platform.specs.Events.{pages_counted, page_read, page_written, media_synced, folder_synced, root_synced, new_removed, cell_synced};
+ghost use Rattle.folder_platform.specs.Refusals.{ShowsCause};
 ghost use Rattle.folder_platform.specs.Sequences.{NotesCell, Replaces, Clears};
 ghost use Rattle.tpm_nv.specs.Messages.{read_bytes};
 ghost use Rattle.tpm_nv.specs.Replies.{IsContent};
-ghost use Rattle.tpm_cell.specs.Asking.{no_root, FailsAs, IsInCell, Reads, Stores, StoresNot};
+ghost use Rattle.tpm_cell.specs.Asking.{no_root, FailsAs, IsApart, IsInCell, Reads, Stores, StoresNot};
 
 use crate::{TpmCalls, TpmCell, TpmFault};
 use folder_files::StdPages;
@@ -25,7 +27,9 @@ pub struct InTpm<R: Files, T: TpmCalls + Drop> {
 impl<R: Files, T: TpmCalls + Drop> InTpm<R, T> {
     /// These pages, with this cell.
     pub fn new(pages: StdPages<R>, cell: TpmCell<T>) -> InTpm<R, T>
-        ensures { result.pages ≡ pages }
+        ensures pages { result.pages ≡ pages }
+        ensures cell { result.cell ≡ cell }
+        ensures unfailed { result.failure ≡ None }
     {
         InTpm {
             pages,
@@ -55,40 +59,73 @@ impl<R: Files, T: TpmCalls + Drop> PageCalls for InTpm<R, T> {
 
     ghost occurred = { λ _. tt };
 
-    fn count_pages(&mut self) -> io::Result<u64> {
+    fn count_pages(&mut self) -> io::Result<u64>
+        ensures noted { MatchResult result
+            (λ n. self.new.pages.calls.events ≡ pages_counted n ∷ self.old.pages.calls.events)
+            (λ _. self.new.pages.calls.events ≡ self.old.pages.calls.events) }
+        // A call that is not on the cell leaves it, and asks nothing of the TPM.
+        ensures apart { IsApart self.old.cell self.new.cell self.old.failure self.new.failure }
+    {
         self.pages.count_pages()
     }
 
-    fn read_page(&mut self, addr: u64, into: &mut [u8]) -> io::Result<()> {
+    fn read_page(&mut self, addr: u64, into: &mut [u8]) -> io::Result<()>
+        requires { length into.old ≡ RECORD }
+        ensures noted { MatchResult result
+            (λ _. self.new.pages.calls.events ≡ page_read addr into.new ∷ self.old.pages.calls.events)
+            (λ _. self.new.pages.calls.events ≡ self.old.pages.calls.events) }
+        ensures apart { IsApart self.old.cell self.new.cell self.old.failure self.new.failure }
+    {
         self.pages.read_page(addr, into)
     }
 
-    fn write_page(&mut self, addr: u64, page: &[u8]) -> io::Result<()> {
+    fn write_page(&mut self, addr: u64, page: &[u8]) -> io::Result<()>
+        requires { length page.now ≡ RECORD }
+        ensures noted { self.new.pages.calls.events ≡ page_written addr (is_ok result) page.now ∷ self.old.pages.calls.events }
+        ensures apart { IsApart self.old.cell self.new.cell self.old.failure self.new.failure }
+    {
         self.pages.write_page(addr, page)
     }
 
-    fn sync_media(&mut self) -> io::Result<()> {
+    fn sync_media(&mut self) -> io::Result<()>
+        ensures noted { self.new.pages.calls.events ≡ media_synced (is_ok result) ∷ self.old.pages.calls.events }
+        ensures apart { IsApart self.old.cell self.new.cell self.old.failure self.new.failure }
+    {
         self.pages.sync_media()
     }
 
-    fn sync_pages(&mut self) -> io::Result<()> {
+    fn sync_pages(&mut self) -> io::Result<()>
+        ensures noted { self.new.pages.calls.events ≡ media_synced (is_ok result) ∷ self.old.pages.calls.events }
+        ensures apart { IsApart self.old.cell self.new.cell self.old.failure self.new.failure }
+    {
         self.pages.sync_pages()
     }
 
-    fn sync_folder(&mut self) -> io::Result<()> {
+    fn sync_folder(&mut self) -> io::Result<()>
+        ensures noted { self.new.pages.calls.events ≡ folder_synced (is_ok result) ∷ self.old.pages.calls.events }
+        ensures apart { IsApart self.old.cell self.new.cell self.old.failure self.new.failure }
+    {
         self.pages.sync_folder()
     }
 }
 
 impl<R: Files, T: TpmCalls + Drop> CellCalls for InTpm<R, T> {
     // Nothing stands beside a cell in place.
-    fn tidy(&mut self) -> Result<(), OpenRefusal> {
+    fn tidy(&mut self) -> Result<(), OpenRefusal>
+        ensures noted { IfOk result (λ _. self.new.pages.calls.events ≡ new_removed true ∷ self.old.pages.calls.events) }
+        ensures cause { IfErr result (ShowsCause ⊥) }
+        ensures apart { IsApart self.old.cell self.new.cell self.old.failure self.new.failure }
+    {
         self.pages.note(FileCall::RemoveNew, 0, true, &[]);
         Ok(())
     }
 
     // What is in a cell in place is stored.
-    fn settle(&mut self) -> Result<(), OpenRefusal> {
+    fn settle(&mut self) -> Result<(), OpenRefusal>
+        ensures noted { IfOk result (λ _. self.new.pages.calls.events ≡ cell_synced true ∷ root_synced true ∷ self.old.pages.calls.events) }
+        ensures cause { IfErr result (ShowsCause ⊥) }
+        ensures apart { IsApart self.old.cell self.new.cell self.old.failure self.new.failure }
+    {
         self.pages.note(FileCall::SyncRoot, 0, true, &[]);
         self.pages.note(FileCall::SyncCell, 0, true, &[]);
         Ok(())
@@ -102,6 +139,8 @@ impl<R: Files, T: TpmCalls + Drop> CellCalls for InTpm<R, T> {
             × IsInCell held (if full then Some into.new else None)) }
         // Where it failed, no more was asked than to read the index.
         ensures failed { OnErr result (IsSomeAnd self.new.failure (FailsAs T.TpmCalls.asks (read_bytes self.old.cell.index) IsContent self.old.cell.tpm self.new.cell.tpm)) }
+        // Why an earlier call failed stays known behind one that was done.
+        ensures kept { OnOk result (self.new.failure ≡ self.old.failure) }
     {
         match self.cell.load(into) {
             Ok(true) => {
@@ -123,6 +162,7 @@ impl<R: Files, T: TpmCalls + Drop> CellCalls for InTpm<R, T> {
         ensures stored { OnOk result (Stores T.TpmCalls.asks self.old.cell.index bytes.now self.old.cell.tpm self.new.cell.tpm) }
         // Where it failed, no more was asked than to write these bytes, and to read them back.
         ensures failed { OnErr result (IsSomeAnd self.new.failure (StoresNot T.TpmCalls.asks self.old.cell.index bytes.now self.old.cell.tpm self.new.cell.tpm)) }
+        ensures kept { OnOk result (self.new.failure ≡ self.old.failure) }
     {
         match self.cell.replace(bytes) {
             Ok(()) => {
@@ -140,6 +180,7 @@ impl<R: Files, T: TpmCalls + Drop> CellCalls for InTpm<R, T> {
         ensures noted { Clears (is_ok result) (self.old.pages.calls.events) (self.new.pages.calls.events) }
         ensures stored { OnOk result (Stores T.TpmCalls.asks self.old.cell.index no_root self.old.cell.tpm self.new.cell.tpm) }
         ensures failed { OnErr result (IsSomeAnd self.new.failure (StoresNot T.TpmCalls.asks self.old.cell.index no_root self.old.cell.tpm self.new.cell.tpm)) }
+        ensures kept { OnOk result (self.new.failure ≡ self.old.failure) }
     {
         match self.cell.clear() {
             Ok(()) => {

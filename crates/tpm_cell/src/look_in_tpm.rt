@@ -1,9 +1,10 @@
 //! A device whose root record is in a TPM, and that is only looked at.
-ghost use Rattle.std.specs.Prelude.{◌≡◌, ℕ, List, Option, Some, None, if◌then◌else◌, length, IfOk, IsSomeAnd, OnErr};
+ghost use Rattle.std.specs.Prelude.{◌≡◌, ◌∷◌, ℕ, List, Option, Some, None, if◌then◌else◌, length, IfOk, IsSomeAnd, MatchResult, OnErr, OnOk};
+ghost use Rattle.folder_platform.specs.Events.{pages_counted, page_read};
 ghost use Rattle.folder_platform.specs.Sequences.{NotesCell};
 ghost use Rattle.tpm_nv.specs.Messages.{read_bytes};
 ghost use Rattle.tpm_nv.specs.Replies.{IsContent};
-ghost use Rattle.tpm_cell.specs.Asking.{FailsAs, IsInCell, Reads};
+ghost use Rattle.tpm_cell.specs.Asking.{FailsAs, IsApart, IsInCell, Reads};
 
 use crate::in_tpm::failed;
 use crate::{TpmCalls, TpmCell, TpmFault};
@@ -24,7 +25,9 @@ pub struct LookInTpm<R: Files, T: TpmCalls + Drop> {
 impl<R: Files, T: TpmCalls + Drop> LookInTpm<R, T> {
     /// These pages, with this cell.
     pub fn new(pages: LookPages<R>, cell: TpmCell<T>) -> LookInTpm<R, T>
-        ensures { result.pages ≡ pages }
+        ensures pages { result.pages ≡ pages }
+        ensures cell { result.cell ≡ cell }
+        ensures unfailed { result.failure ≡ None }
     {
         LookInTpm {
             pages,
@@ -54,11 +57,23 @@ impl<R: Files, T: TpmCalls + Drop> LookCalls for LookInTpm<R, T> {
 
     ghost occurred = { λ _. tt };
 
-    fn look_for_pages(&mut self) -> io::Result<u64> {
+    fn look_for_pages(&mut self) -> io::Result<u64>
+        ensures noted { MatchResult result
+            (λ n. self.new.pages.calls.events ≡ pages_counted n ∷ self.old.pages.calls.events)
+            (λ _. self.new.pages.calls.events ≡ self.old.pages.calls.events) }
+        // A look that is not at the cell leaves it, and asks nothing of the TPM.
+        ensures apart { IsApart self.old.cell self.new.cell self.old.failure self.new.failure }
+    {
         self.pages.look_for_pages()
     }
 
-    fn look_at_page(&mut self, addr: u64, into: &mut [u8]) -> io::Result<()> {
+    fn look_at_page(&mut self, addr: u64, into: &mut [u8]) -> io::Result<()>
+        requires { length into.old ≡ RECORD }
+        ensures noted { MatchResult result
+            (λ _. self.new.pages.calls.events ≡ page_read addr into.new ∷ self.old.pages.calls.events)
+            (λ _. self.new.pages.calls.events ≡ self.old.pages.calls.events) }
+        ensures apart { IsApart self.old.cell self.new.cell self.old.failure self.new.failure }
+    {
         self.pages.look_at_page(addr, into)
     }
 
@@ -70,6 +85,8 @@ impl<R: Files, T: TpmCalls + Drop> LookCalls for LookInTpm<R, T> {
             × IsInCell held (if full then Some into.new else None)) }
         // Where it failed, no more was asked than to read the index.
         ensures failed { OnErr result (IsSomeAnd self.new.failure (FailsAs T.TpmCalls.asks (read_bytes self.old.cell.index) IsContent self.old.cell.tpm self.new.cell.tpm)) }
+        // Why an earlier call failed stays known behind one that was done.
+        ensures kept { OnOk result (self.new.failure ≡ self.old.failure) }
     {
         match self.cell.load(into) {
             Ok(true) => {
