@@ -142,21 +142,18 @@ fn lose_power(rt: &(impl Input + Print + Alloc<A = Global>), loss: &Loss) -> Opt
     let text = io::read_to_string(alloc, rt.reader()).ok()?;
     let (script, look) = text.split_once("--\n")?;
     let mut runs = Runs::new(alloc);
-    let mut platform = over_files(DiskFiles::new(alloc, loss.calls))?;
+    let files = DiskFiles::new(alloc, loss.calls);
+    let mut platform = FolderPlatform::open(InFolder { files }).ok()?;
     runs.serve(alloc, &[], &mut platform, script.as_bytes())?;
     let ended = platform.into_files().files;
-    let mut platform = over_files(ended.left(loss.unsynced, loss.falls_back))?;
+    let files = ended.left(loss.unsynced, loss.falls_back);
+    let mut platform = FolderPlatform::open(InFolder { files }).ok()?;
     runs.serve(alloc, &[], &mut platform, look.as_bytes())?;
     let check = [String::from_str(alloc, "check").ok()?];
     let entries = copied(alloc, runs.ledger.bytes())?;
     runs.serve(alloc, &check, &mut platform, entries.bytes())?;
     io::writer(rt).write_all(runs.text.bytes()).ok()?;
     Some(true)
-}
-
-/// The platform over these files. None, if it can't be opened.
-fn over_files(files: DiskFiles) -> Option<DiskPlatform> {
-    FolderPlatform::open(InFolder { files }).ok()
 }
 
 /// These bytes.
