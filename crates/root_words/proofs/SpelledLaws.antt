@@ -1,10 +1,11 @@
 -- Words that are spelled.
 use Rattle.std.proofs.Common.{◌≡◌, ◌≢◌, ℕ, ◌+◌, ◌<◌, ◌≤◌, List, [], ◌∷◌, ◌++◌, Bor, Option, None, Some, Bool, length, get_or, take, refl, sym, ◌∙◌, subst, ap, arith}
 use Rattle.std.specs.Prelude.{IfNone, MatchOption, IsTrue, codes, map}
-use Rattle.std.specs.List.{AllZip}
+use Rattle.std.specs.List.{AllZip, Any}
 use Rattle.std.proofs.lemmas.List.{get_or-map, length-map, take_all, take_more}
 use Rattle.std.proofs.lemmas.List.Elements.{AllZip-push}
-use Rattle.root_words.specs.Spelled.{NamesFile, IsSpelled, IsSeizure}
+use Rattle.root_words.specs.Spelled.{NamesFile, IsSpelled, IsSeizure, IsRefusalOf}
+use Rattle.root_words.specs.declared.refusals.NotSpelled.{NotSpelled}
 
 -- a word that is no @ and a rest names no file
 names_rest : (word : List ℕ) → ((rest : List ℕ) → word ≢ 64 ∷ rest) → NamesFile word → ⊥
@@ -40,3 +41,8 @@ spelled_more f xs ys i x y spelled within is one =
 pub spelled_all : {X : Type 0} (f : X → List ℕ) (xs ys : List X) (i : ℕ) → AllZip IsSpelled (take i (map f xs)) (map f ys) → length xs ≤ i → AllZip IsSpelled (map f xs) (map f ys)
 spelled_all f xs ys i spelled end =
     subst (λ (words : List (List ℕ)). AllZip IsSpelled words (map f ys)) (take_all i (map f xs) (omega (arith, end, length-map xs f))) spelled
+
+-- what one of them is refused for
+pub refused_at : {X : Type 0} (f : X → List ℕ) (xs : List X) (i : ℕ) (x : X) (refusal : NotSpelled) → i < length xs → x ≡ get_or xs i x
+    → IsRefusalOf (f x) refusal → Any (λ word. IsRefusalOf word refusal) (map f xs)
+refused_at f xs i x refusal within is one = (i, f x, omega (arith, within, length-map xs f), get_or-map f xs i x (f x) within ∙ ap f (sym is), one)

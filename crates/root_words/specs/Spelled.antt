@@ -1,6 +1,8 @@
 -- Words of a command line, and what is handed on in their place.
-use Rattle.std.specs.Prelude.{◌≡◌, ℕ, List, [], ◌∷◌, codes, length, Ok}
+use Rattle.std.specs.Prelude.{◌≡◌, ℕ, List, [], ◌∷◌, codes, length, Ok, ⊤}
 use Rattle.hex.specs.Hex.{decode_of}
+use Rattle.root_words.specs.declared.refusals.NotSpelled.{NotSpelled}
+use Rattle.root_words.specs.declared.refusals.NotSpelled.TheVariants.{File, Memory}
 
 -- the first of the words is `seize`
 abbrev pub IsSeizure : List (List ℕ) → Type 0
@@ -22,3 +24,8 @@ pub record IsRecordInHex (digits : List ℕ) : Type 0 where
 pub record IsSpelled (word spelled : List ℕ) : Type 0 where
   pub read : NamesFile word → IsRecordInHex spelled
   pub kept : (NamesFile word → ⊥) → spelled ≡ word
+
+-- the refusal of a word: the file that it names gives no root record, or no memory was given
+abbrev pub IsRefusalOf : List ℕ → NotSpelled → Type 0
+IsRefusalOf word (File name why) = word ≡ 64 ∷ name.now
+IsRefusalOf word Memory = ⊤

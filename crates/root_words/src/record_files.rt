@@ -1,5 +1,5 @@
 //! Root records in files.
-ghost use Rattle.std.specs.Prelude.{◌≡◌, ◌≢◌, ◌<◌, ◌≤◌, IfOk, OnOk, IfErr, IfSome, length, take};
+ghost use Rattle.std.specs.Prelude.{◌≡◌, ◌≢◌, ◌<◌, ◌≤◌, Ok, IfOk, OnOk, IfErr, IsErrOf, IfSome, length, take};
 ghost use Rattle.std.specs.Io.KnownBytes.{Consumes, IsAtEnd};
 ghost use Rattle.sdbt_base.specs.declared.limits.TheConstants.{ROOT};
 ghost use Rattle.root_words.specs.declared.refusals.NoRecord.TheVariants as why;
@@ -16,8 +16,18 @@ pub fn read_record<R: Read>(reader: &mut R) -> Result<[u8; ROOT], NoRecord>
 {
     // One byte more shows whether there are more.
     let mut bytes = [0; ROOT + 1];
-    match read_front(reader, &mut bytes) {
-        Ok(ROOT) => Ok(front_of(&bytes)),
+    let read = read_front(reader, &mut bytes);
+    record_of(&bytes, read)
+}
+
+// The root record that was read to these bytes, of which so many were read.
+fn record_of(bytes: &[u8; ROOT + 1], read: io::Result<usize>) -> Result<[u8; ROOT], NoRecord>
+    ensures full { IfOk read (λ count. count ≡ ROOT → result ≡ Ok (take ROOT bytes.now)) }
+    ensures other { IfOk read (λ count. count ≢ ROOT → IsErrOf result why.Length) }
+    ensures failed { IfErr read (λ error. IsErrOf result (why.Io error)) }
+{
+    match read {
+        Ok(ROOT) => Ok(front_of(bytes)),
         Ok(_) => Err(NoRecord::Length),
         Err(error) => Err(NoRecord::Io(error)),
     }

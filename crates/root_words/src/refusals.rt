@@ -1,5 +1,8 @@
 //! Why a word stands for no root record.
 
+ghost use Rattle.std.specs.Prelude.{◌≡◌};
+ghost use Rattle.root_words.specs.declared.refusals.NotSpelled.TheVariants.{Memory};
+
 use std::alloc::AllocError;
 use std::{fmt, io};
 
@@ -35,6 +38,8 @@ impl fmt::Display for NoRecord {
 }
 
 impl From<AllocError> for NotSpelled<'_> {
+    ghost from_gives = { λ error told. told ≡ Memory };
+
     fn from(_error: AllocError) -> Self {
         NotSpelled::Memory
     }

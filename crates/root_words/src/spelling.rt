@@ -1,13 +1,16 @@
 //! Words of a command line, and what is handed on in their place.
-ghost use Rattle.std.specs.Prelude.{◌≡◌, ◌∷◌, ◌↔◌, Ok, IsTrue, IfOk, IfSome, IfNone, codes, map, string_bytes};
-ghost use Rattle.std.specs.List.{AllZip};
+ghost use Rattle.std.specs.Prelude.{◌≡◌, ◌∷◌, ◌↔◌, Ok, IsTrue, IfOk, IfErr, IsErrOf, MatchResult, IfSome, IfNone, codes, map, string_bytes};
+ghost use Rattle.std.specs.List.{AllZip, Any};
 ghost use Rattle.hex.specs.Hex.{decode_of};
-ghost use Rattle.root_words.specs.Spelled.{NamesFile, IsSpelled, IsSeizure, IsRecordInHex};
+ghost use Rattle.root_words.specs.Spelled.{NamesFile, IsSpelled, IsSeizure, IsRecordInHex, IsRefusalOf};
+ghost use Rattle.root_words.specs.declared.refusals.NoRecord.TheVariants.{Io};
+ghost use Rattle.root_words.specs.declared.refusals.NotSpelled.TheVariants.{File, Memory};
 
 use crate::{NoRecord, NotSpelled, read_record};
 use sdbt_base::ROOT;
 use std::alloc::{AllocError, Global};
 use std::fs;
+use std::io::{self, Read};
 use std::rt::Files;
 
 /// Whether the words behind a device ask for a seizure: only there may files of root records be named.
@@ -35,7 +38,8 @@ fn is_seize(word: &String) -> bool
 pub fn spelled_words<'a, R>(rt: &R, words: &'a [String]) -> Result<Vec<String>, NotSpelled<'a>>
 where
     R: Files + Alloc<A = Global>,
-    ensures { IfOk result (λ spelled. AllZip IsSpelled (map string_bytes words.now) (map string_bytes spelled.items)) }
+    ensures spelled { IfOk result (λ spelled. AllZip IsSpelled (map string_bytes words.now) (map string_bytes spelled.items)) }
+    ensures refused { IfErr result (λ refusal. Any (λ word. IsRefusalOf word refusal) (map string_bytes words.now)) }
 {
     let mut spelled = Vec::new(rt.alloc());
     for word in words {
@@ -49,10 +53,11 @@ where
 fn spelled_word<'a, R>(rt: &R, word: &'a String) -> Result<String, NotSpelled<'a>>
 where
     R: Files + Alloc<A = Global>,
-    ensures { IfOk result (λ spelled. IsSpelled (string_bytes word.now) (string_bytes spelled)) }
+    ensures spelled { IfOk result (λ spelled. IsSpelled (string_bytes word.now) (string_bytes spelled)) }
+    ensures refused { IfErr result (λ refusal. IsRefusalOf (string_bytes word.now) refusal) }
 {
     match file_named(word.as_str()) {
-        Some(name) => record_in_hex(rt, name),
+        Some(name) => record_in_hex(rt.alloc(), name, record_in(fs::open(rt, name))),
         None => Ok(word.clone()?),
     }
 }
@@ -65,21 +70,28 @@ fn file_named(word: &str) -> Option<&str>
     word.strip_prefix('@')
 }
 
-// The root record of a file, in hex digits.
-fn record_in_hex<'a, R>(rt: &R, name: &'a str) -> Result<String, NotSpelled<'a>>
-where
-    R: Files + Alloc<A = Global>,
-    ensures { IfOk result (λ digits. IsRecordInHex (string_bytes digits)) }
+// The root record that was read from the file of this name, in hex digits.
+fn record_in_hex<'a>(
+    alloc: Global,
+    name: &'a str,
+    read: Result<[u8; ROOT], NoRecord>,
+) -> Result<String, NotSpelled<'a>>
+    ensures digits { IfOk result (λ digits. IsRecordInHex (string_bytes digits)) }
+    ensures read { IfOk read (λ bytes. MatchResult result (λ digits. decode_of (string_bytes digits) ≡ Ok bytes) (λ refusal. refusal ≡ Memory)) }
+    ensures refused { IfErr read (λ why. IsErrOf result (File name.entry why)) }
 {
-    match record_in(rt, name) {
-        Ok(record) => Ok(digits_of(rt.alloc(), &record)?),
+    match read {
+        Ok(record) => Ok(digits_of(alloc, &record)?),
         Err(why) => Err(NotSpelled::File { name, why }),
     }
 }
 
-// The root record that a file has, which is all that it has.
-fn record_in<R: Files>(rt: &R, name: &str) -> Result<[u8; ROOT], NoRecord> {
-    match fs::open(rt, name) {
+// The root record that a file has, which is all that it has, if the file was opened.
+fn record_in<F: Read + Drop>(opened: io::Result<F>) -> Result<[u8; ROOT], NoRecord>
+    ensures whole { IfOk opened (λ file. IfOk result (λ bytes. IfSome (F.remaining file) (λ left. left ≡ bytes))) }
+    ensures unopened { IfErr opened (λ error. IsErrOf result (Io error)) }
+{
+    match opened {
         Ok(mut file) => read_record(&mut file),
         Err(error) => Err(NoRecord::Io(error)),
     }
