@@ -6,7 +6,7 @@ use Rattle.std.specs.declared.io.ErrorKind.TheVariants.{NotFound, WouldBlock}
 use Rattle.folder_platform.specs.Refusals.{TellsFile}
 use Rattle.folder_platform.specs.declared.refusals.FolderFile.{FolderFile}
 use Rattle.folder_platform.specs.declared.refusals.OpenRefusal.{OpenRefusal}
-use Rattle.folder_platform.specs.declared.refusals.OpenRefusal.TheVariants.{TooLong, InUse, Io, NotOwn, Exchanged, Memory}
+use Rattle.folder_platform.specs.declared.refusals.OpenRefusal.TheVariants.{InUse}
 
 -- a missing file is none, and every other failure is handed on
 abbrev pub TellsMissing : {T : Type 0} → Result T Error → Result (Option T) Error → Type 0
@@ -30,15 +30,6 @@ abbrev pub TellsHeld : {T : Type 0} → FolderFile → Result T Error → Result
 TellsHeld file (Ok value) told = told ≡ Ok value
 TellsHeld file (Err error) told = (error_kind error ≡ WouldBlock → told ≡ Err InUse)
     × (error_kind error ≢ WouldBlock → TellsFile file (Err error) told)
-
--- a refusal that names a file names this one
-abbrev pub NamesFile : FolderFile → OpenRefusal → Type 0
-NamesFile file (Io named _) = named ≡ file
-NamesFile file (NotOwn named _) = named ≡ file
-NamesFile file (Exchanged named _ _) = named ≡ file
-NamesFile file (TooLong _) = Unit {0}
-NamesFile file InUse = Unit {0}
-NamesFile file Memory = Unit {0}
 
 -- what was opened is kept in the place of what was there before, and a failure is handed on and leaves it
 abbrev pub IsPut : {F : Type 0} → Result F Error → Option F → Option F → Result (Unit {0}) Error → Type 0

@@ -1,8 +1,7 @@
 //! The folder of a root record, and the files in it.
 ghost use Rattle.std.specs.Prelude.{◌≡◌, ◌≤◌, ⊤, length, IfOk, IfErr, MatchOption};
-ghost use Rattle.folder_platform.specs.Refusals.{ShowsCause};
+ghost use Rattle.folder_platform.specs.Refusals.{ShowsCause, Names};
 ghost use Rattle.folder_platform.specs.declared.refusals.FolderFile.TheVariants.{Cell, Root, NewRoot};
-ghost use Rattle.folder_files.specs.Answers.{NamesFile};
 
 use crate::own_file::{look, open_folder};
 use crate::root_file;
@@ -43,7 +42,7 @@ impl<R: Files + Alloc + Drop> CellFolder<R> {
     /// The folder of this path. No file in it is looked at.
     pub(crate) fn open(rt: R, path: &str) -> Result<CellFolder<R>, OpenRefusal>
         ensures cause { IfErr result (ShowsCause ⊥) }
-        ensures names { IfErr result (NamesFile Cell) }
+        ensures names { IfErr result (Names Cell) }
     {
         let paths = paths_of(&rt, path)?;
         let folder = open_folder(&rt, FolderFile::Cell, path)?;
@@ -60,7 +59,7 @@ impl<R: Files + Alloc + Drop> CellFolder<R> {
     /// Refuses a `root` that is no file of its own.
     pub(crate) fn look_at_root(&self) -> Result<(), OpenRefusal>
         ensures cause { IfErr result (ShowsCause ⊥) }
-        ensures names { IfErr result (NamesFile Root) }
+        ensures names { IfErr result (Names Root) }
     {
         look(&self.rt, FolderFile::Root, self.paths.root.as_str())?;
         Ok(())
@@ -69,7 +68,7 @@ impl<R: Files + Alloc + Drop> CellFolder<R> {
     /// The same of `root.new`.
     pub(crate) fn look_at_new(&self) -> Result<(), OpenRefusal>
         ensures cause { IfErr result (ShowsCause ⊥) }
-        ensures names { IfErr result (NamesFile NewRoot) }
+        ensures names { IfErr result (Names NewRoot) }
     {
         look(&self.rt, FolderFile::NewRoot, self.paths.new_root.as_str())?;
         Ok(())

@@ -1,9 +1,9 @@
 //! A platform in folders that exist: what is done before the first call on their files.
 ghost use Rattle.std.specs.Prelude.{◌≡◌, ◌≤◌, ◌<◌, ◌*◌, ◌↔◌, [], false, IfOk, IfErr, IsOk};
 ghost use Rattle.sdbt_base.specs.declared.limits.TheConstants.{RECORD};
-ghost use Rattle.folder_platform.specs.Refusals.{ShowsCause};
+ghost use Rattle.folder_platform.specs.Refusals.{ShowsCause, Names};
 ghost use Rattle.folder_platform.specs.declared.refusals.FolderFile.TheVariants.{Folder, Media};
-ghost use Rattle.folder_files.specs.Answers.{NamesFile, TellsHeld};
+ghost use Rattle.folder_files.specs.Answers.{TellsHeld};
 
 use crate::cell_folder::CellFolder;
 use crate::media_file::PAGE_LEN;
@@ -94,7 +94,7 @@ impl<R: Files + Alloc> MediaFolder<R> {
     // The folder of this path. No file in it is looked at.
     fn open(rt: &R, path: &str) -> Result<MediaFolder<R>, OpenRefusal>
         ensures cause { IfErr result (ShowsCause ⊥) }
-        ensures names { IfErr result (NamesFile Folder) }
+        ensures names { IfErr result (Names Folder) }
     {
         let media = format!(in rt.alloc(); "{path}/media")?;
         let ledger = format!(in rt.alloc(); "{path}/ledger")?;
@@ -125,7 +125,7 @@ where
     R::File: LockFile,
     ensures new { IfOk result (λ pages. pages.calls.events ≡ []) }
     ensures cause { IfErr result (ShowsCause ((held : R.File) × R.File.is_held held)) }
-    ensures names { IfErr result (NamesFile Media) }
+    ensures names { IfErr result (Names Media) }
 {
     let how = &mut OpenOptions::new();
     let media = open_or_make(rt, FolderFile::Media, media, how.read(true).write(true))?;
@@ -142,7 +142,7 @@ where
 // Takes the lock on a file.
 fn lock<F: LockFile>(name: FolderFile, file: &F) -> Result<(), OpenRefusal>
     ensures cause { IfErr result (ShowsCause ((held : F) × F.is_held held)) }
-    ensures names { IfErr result (NamesFile name) }
+    ensures names { IfErr result (Names name) }
 {
     locked(name, file.try_lock())
 }

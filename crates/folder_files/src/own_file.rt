@@ -5,9 +5,9 @@ ghost use Rattle.std.specs.Prelude.{◌≡◌, ◌≢◌, ◌↔◌, ⊤, IfOk, 
 ghost use Rattle.std.specs.IoError.{error_kind};
 ghost use Rattle.std.specs.declared.io.Error.{Error};
 ghost use Rattle.std.specs.declared.io.ErrorKind.TheVariants.{OutOfMemory};
-ghost use Rattle.folder_platform.specs.Refusals.{ShowsCause, IsOwn, IsSame, IsMemory};
+ghost use Rattle.folder_platform.specs.Refusals.{ShowsCause, IsOwn, IsSame, IsMemory, Names};
 ghost use Rattle.std.specs.Fs.{file_type, IsDir, IsFile};
-ghost use Rattle.folder_files.specs.Answers.{HandsOn, IsNoneIfMissing, IsNoneOnlyIfNone, NamesFile, TellsMissing};
+ghost use Rattle.folder_files.specs.Answers.{HandsOn, IsNoneIfMissing, IsNoneOnlyIfNone, TellsMissing};
 ghost use Rattle.folder_platform.specs.declared.found.Found.{Found};
 ghost use Rattle.folder_platform.specs.declared.found.FileKind.TheVariants.{Regular};
 ghost use Rattle.folder_platform.specs.declared.refusals.FolderFile.{FolderFile};
@@ -37,7 +37,7 @@ pub(crate) fn unless_missing<T>(outcome: io::Result<T>) -> io::Result<Option<T>>
 pub fn look<R: Files>(files: &R, file: FolderFile, path: &str) -> Result<Option<Found>, OpenRefusal>
     ensures own { IfOk result (λ found. MatchOption found ⊤ IsOwn) }
     ensures cause { IfErr result (ShowsCause ⊥) }
-    ensures names { IfErr result (NamesFile file) }
+    ensures names { IfErr result (Names file) }
 {
     own_if_there(file, unless_missing(fs::symlink_metadata(files, path)))
 }
@@ -50,7 +50,7 @@ fn own_if_there(
     ensures missing { IsNoneOnlyIfNone outcome result }
     ensures own { IfOk result (λ found. MatchOption found ⊤ IsOwn) }
     ensures cause { IfErr result (ShowsCause ⊥) }
-    ensures names { IfErr result (NamesFile file) }
+    ensures names { IfErr result (Names file) }
 {
     match told(file, outcome)? {
         Some(metadata) => Ok(Some(own(file, &metadata)?)),
@@ -66,7 +66,7 @@ pub fn open_own<R: Files>(
     how: &OpenOptions,
 ) -> Result<Option<R::File>, OpenRefusal>
     ensures cause { IfErr result (ShowsCause ⊥) }
-    ensures names { IfErr result (NamesFile file) }
+    ensures names { IfErr result (Names file) }
 {
     open_looked(files, file, path, how, look(files, file, path))
 }
@@ -80,10 +80,10 @@ fn open_looked<R: Files>(
     looked: Result<Option<Found>, OpenRefusal>,
 ) -> Result<Option<R::File>, OpenRefusal>
     requires cause { IfErr looked (ShowsCause ⊥) }
-    requires names { IfErr looked (NamesFile file) }
+    requires names { IfErr looked (Names file) }
     ensures missing { IsNoneIfMissing looked result }
     ensures cause { IfErr result (ShowsCause ⊥) }
-    ensures names { IfErr result (NamesFile file) }
+    ensures names { IfErr result (Names file) }
 {
     let Some(looked) = looked? else {
         return Ok(None);
@@ -102,7 +102,7 @@ pub fn open_or_make<R: Files>(
     how: &mut OpenOptions,
 ) -> Result<R::File, OpenRefusal>
     ensures cause { IfErr result (ShowsCause ⊥) }
-    ensures names { IfErr result (NamesFile file) }
+    ensures names { IfErr result (Names file) }
 {
     let opened = open_own(files, file, path, how);
     opened_or_made(files, file, path, how, opened)
@@ -117,10 +117,10 @@ fn opened_or_made<R: Files>(
     opened: Result<Option<R::File>, OpenRefusal>,
 ) -> Result<R::File, OpenRefusal>
     requires cause { IfErr opened (ShowsCause ⊥) }
-    requires names { IfErr opened (NamesFile file) }
+    requires names { IfErr opened (Names file) }
     ensures opened { HandsOn opened result }
     ensures cause { IfErr result (ShowsCause ⊥) }
-    ensures names { IfErr result (NamesFile file) }
+    ensures names { IfErr result (Names file) }
 {
     match opened? {
         Some(opened) => Ok(opened),
@@ -138,7 +138,7 @@ pub(crate) fn open_folder<R: Files>(
     path: &str,
 ) -> Result<R::File, OpenRefusal>
     ensures cause { IfErr result (ShowsCause ⊥) }
-    ensures names { IfErr result (NamesFile file) }
+    ensures names { IfErr result (Names file) }
 {
     let metadata = told(file, fs::metadata(files, path))?;
     let looked = a_folder(file, &metadata)?;
@@ -166,7 +166,7 @@ fn own(file: FolderFile, metadata: &Metadata) -> Result<Found, OpenRefusal>
     ensures own { IfOk result (λ found. IsOwn found × IsFile (file_type metadata.now)) }
     ensures found { IfErr result (λ refusal. (found : Found) × (refusal ≡ NotOwn file found) × (found.kind ≡ Regular ↔ IsFile (file_type metadata.now))) }
     ensures cause { IfErr result (ShowsCause ⊥) }
-    ensures names { IfErr result (NamesFile file) }
+    ensures names { IfErr result (Names file) }
 {
     let found = Found::of(metadata);
     if !found.is_own() {
@@ -179,7 +179,7 @@ fn own(file: FolderFile, metadata: &Metadata) -> Result<Found, OpenRefusal>
 fn a_folder(file: FolderFile, metadata: &Metadata) -> Result<Found, OpenRefusal>
     ensures folder { IsOk result ↔ IsDir (file_type metadata.now) }
     ensures cause { IfErr result (ShowsCause ⊥) }
-    ensures names { IfErr result (NamesFile file) }
+    ensures names { IfErr result (Names file) }
 {
     if !metadata.is_dir() {
         return Err(OpenRefusal::of(file, ErrorKind::NotADirectory.into()));
@@ -191,7 +191,7 @@ fn a_folder(file: FolderFile, metadata: &Metadata) -> Result<Found, OpenRefusal>
 fn one_file(file: FolderFile, looked: Found, opened: Found) -> Result<(), OpenRefusal>
     ensures same { IsOk result ↔ IsSame looked opened }
     ensures cause { IfErr result (ShowsCause ⊥) }
-    ensures names { IfErr result (NamesFile file) }
+    ensures names { IfErr result (Names file) }
 {
     if !looked.is_same(&opened) {
         return Err(OpenRefusal::Exchanged {

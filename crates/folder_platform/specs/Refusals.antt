@@ -1,12 +1,16 @@
 -- Why folders can't be a platform.
-use Rattle.std.specs.Prelude.{◌≡◌, ◌≢◌, ◌<◌, ◌*◌, ⊤, Result, Ok, Err}
+use Rattle.std.specs.Prelude.{◌≡◌, ◌≢◌, ◌<◌, ◌*◌, ◌-◌, ◌^◌, ℕ, min, if◌then◌else◌, List, [], ◌∷◌, ⊤, Result, Ok, Err}
 use Rattle.std.specs.IoError.{error_kind}
 use Rattle.std.specs.declared.io.Error.{Error}
 use Rattle.std.specs.declared.io.ErrorKind.TheVariants.{OutOfMemory}
 use Rattle.sdbt_base.specs.declared.limits.TheConstants.{RECORD, MAX_PAGES}
+use Rattle.folder_platform.specs.Events.{Event}
+use Rattle.folder_platform.specs.declared.file_call.FileCall.{FileCall}
+use Rattle.folder_platform.specs.declared.file_call.FileCall.TheVariants.{SyncFolder, SyncRoot, RemoveNew, SyncCell}
 use Rattle.folder_platform.specs.declared.found.Found.{Found}
 use Rattle.folder_platform.specs.declared.found.FileKind.TheVariants.{Regular}
 use Rattle.folder_platform.specs.declared.refusals.FolderFile.{FolderFile}
+use Rattle.folder_platform.specs.declared.refusals.FolderFile.TheVariants as opened
 use Rattle.folder_platform.specs.declared.refusals.OpenRefusal.{OpenRefusal}
 use Rattle.folder_platform.specs.declared.refusals.OpenRefusal.TheVariants.{TooLong, InUse, Io, NotOwn, Exchanged, Memory}
 
@@ -46,3 +50,45 @@ abbrev pub TellsFile : {T : Type 0} → FolderFile → Result T Error → Result
 TellsFile file (Ok value) told = told ≡ Ok value
 TellsFile file (Err error) (Ok value) = ⊥
 TellsFile file (Err error) (Err refusal) = IsRefusalOf file error refusal
+
+-- a refusal that names a file names this one
+abbrev pub Names : FolderFile → OpenRefusal → Type 0
+Names file (TooLong _) = ⊤
+Names file InUse = ⊤
+Names file (Io named _) = named ≡ file
+Names file (NotOwn named _) = named ≡ file
+Names file (Exchanged named _ _) = named ≡ file
+Names file Memory = ⊤
+
+-- the file on which a call of an opening is made
+abbrev pub file_of : FileCall → FolderFile
+file_of SyncFolder = opened.Folder
+file_of SyncRoot = opened.Root
+file_of RemoveNew = opened.NewRoot
+file_of SyncCell = opened.Cell
+file_of other = opened.Media
+
+-- the file of a call that failed after these: that of the newest one, or `media` where all were done, since a count of pages that failed is no event
+abbrev pub failed_file : List Event → FolderFile
+failed_file [] = opened.Media
+failed_file (e ∷ earlier) = if e.2 then opened.Media else file_of e.0
+
+-- these are more pages than a medium can have, and this is their length, or the largest number of 64 bits where it is more
+abbrev pub AreTooLong : ℕ → ℕ → Type 0
+AreTooLong pages len = (MAX_PAGES < pages) × (len ≡ min (pages * RECORD) (2 ^ 64 - 1))
+
+-- the newest call counted too many pages, which have this length
+abbrev pub FoundTooLong : List Event → ℕ → Type 0
+FoundTooLong [] len = ⊥
+FoundTooLong (e ∷ earlier) len = AreTooLong e.1 len
+
+-- a refusal after these calls tells how long the pages are that the newest one counted, or names the file on which it failed
+abbrev pub TellsLast : List Event → OpenRefusal → Type 0
+TellsLast events (TooLong len) = FoundTooLong events len
+TellsLast events other = Names (failed_file events) other
+
+-- why the pages of `media` are refused that were counted: they are too many, or the count failed
+abbrev pub RefusesPages : Result ℕ Error → OpenRefusal → Type 0
+RefusesPages (Ok pages) (TooLong len) = AreTooLong pages len
+RefusesPages (Ok pages) other = ⊥
+RefusesPages (Err error) refusal = IsRefusalOf opened.Media error refusal

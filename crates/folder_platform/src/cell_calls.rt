@@ -1,7 +1,7 @@
 //! What is asked of the cell of a root record.
 ghost use Rattle.std.specs.Prelude.{◌≡◌, ◌∷◌, length, true, is_ok, IfOk, IfErr};
 ghost use Rattle.folder_platform.specs.Events.{root_synced, new_removed, cell_synced};
-ghost use Rattle.folder_platform.specs.Refusals.{ShowsCause};
+ghost use Rattle.folder_platform.specs.Refusals.{ShowsCause, TellsLast};
 ghost use Rattle.folder_platform.specs.Sequences.{Replaces, Clears, NotesCell};
 
 use crate::{OpenRefusal, PageCalls};
@@ -17,12 +17,14 @@ pub trait CellCalls: PageCalls {
     fn tidy(&mut self) -> Result<(), OpenRefusal>
         ensures start { Self.start self.new ≡ Self.start self.old }
         ensures noted { IfOk result (λ _. Self.events self.new ≡ new_removed true ∷ Self.events self.old) }
+        ensures told { IfErr result (TellsLast (Self.events self.new)) }
         ensures cause { IfErr result (ShowsCause ⊥) };
 
     /// What the cell holds outlasts a loss of power, and nothing else can be found in it after one.
     fn settle(&mut self) -> Result<(), OpenRefusal>
         ensures start { Self.start self.new ≡ Self.start self.old }
         ensures noted { IfOk result (λ _. Self.events self.new ≡ cell_synced true ∷ root_synced true ∷ Self.events self.old) }
+        ensures told { IfErr result (TellsLast (Self.events self.new)) }
         ensures cause { IfErr result (ShowsCause ⊥) };
 
     /// Whether the cell is full: what it holds is in the buffer of `ROOT` bytes then.

@@ -5,13 +5,14 @@ ghost use Rattle.folder_platform.specs.Files.{Files};
 ghost use Rattle.folder_platform.specs.Events.{all_done};
 ghost use Rattle.folder_platform.specs.Model.{replay};
 ghost use Rattle.folder_platform.specs.Loss.{Settled, MayHold, AreLeft, AllSafe, opened};
-ghost use Rattle.folder_platform.specs.Refusals.{ShowsCause};
-ghost use Rattle.folder_platform.specs.Sequences.{IsOpening, counted};
+ghost use Rattle.folder_platform.specs.Refusals.{ShowsCause, TellsLast};
+ghost use Rattle.folder_platform.specs.Sequences.{IsOpening, opening, counted};
 ghost use Rattle.folder_platform.specs.Told.{IsTold, now_of};
 
+use crate::refusals::pages_told;
 use crate::{CellCalls, FolderFile, OpenRefusal, told};
 use platform::Platform;
-use sdbt_base::{MAX_PAGES, PlatformFault, RECORD};
+use sdbt_base::{MAX_PAGES, PlatformFault};
 
 /// A medium in a folder and a root cell, by the calls on both.
 ///
@@ -46,15 +47,7 @@ impl<C: CellCalls + Drop> FolderPlatform<C> {
         ensures sound { IfOk result (λ platform. platform.is_stuck ≡ false) }
         ensures cause { IfErr result (ShowsCause ⊥) }
     {
-        calls.tidy()?;
-        let pages = told(FolderFile::Media, calls.count_pages())?;
-        if pages > MAX_PAGES {
-            let len = pages.saturating_mul(RECORD as u64);
-            return Err(OpenRefusal::TooLong { len });
-        }
-        told(FolderFile::Media, calls.sync_media())?;
-        told(FolderFile::Folder, calls.sync_folder())?;
-        calls.settle()?;
+        let pages = settle_all(&mut calls)?;
         Ok(FolderPlatform {
             calls,
             head: pages,
@@ -185,6 +178,23 @@ impl<C: CellCalls + Drop> Platform for FolderPlatform<C> {
         }
         Ok(())
     }
+}
+
+// How many pages are found, and all that is found outlasts a loss of power.
+fn settle_all<C: CellCalls>(calls: &mut C) -> Result<u64, OpenRefusal>
+    requires { C.PageCalls.events calls.old ≡ [] }
+    ensures start { C.PageCalls.start calls.new ≡ C.PageCalls.start calls.old }
+    ensures noted { IfOk result (λ pages. C.PageCalls.events calls.new ≡ opening pages) }
+    ensures within { IfOk result (λ pages. pages ≤ MAX_PAGES) }
+    ensures told { IfErr result (TellsLast (C.PageCalls.events calls.new)) }
+    ensures cause { IfErr result (ShowsCause ⊥) }
+{
+    calls.tidy()?;
+    let pages = pages_told(calls.count_pages())?;
+    told(FolderFile::Media, calls.sync_media())?;
+    told(FolderFile::Folder, calls.sync_folder())?;
+    calls.settle()?;
+    Ok(pages)
 }
 
 /// A call that failed is counted.

@@ -4,13 +4,15 @@ ghost use Rattle.sdbt_base.specs.Faults.{Tells};
 ghost use Rattle.folder_platform.specs.Events.{pages_counted, all_done};
 ghost use Rattle.folder_platform.specs.Model.{replay};
 ghost use Rattle.folder_platform.specs.Looks.{are_looks, looked_at};
-ghost use Rattle.folder_platform.specs.Refusals.{ShowsCause};
+ghost use Rattle.folder_platform.specs.Refusals.{ShowsCause, Names};
+ghost use Rattle.folder_platform.specs.declared.refusals.FolderFile.TheVariants.{Media};
 ghost use Rattle.folder_platform.specs.Told.{IsTold};
 
 use crate::folder_platform::fault;
-use crate::{FolderFile, LookCalls, OpenRefusal, told};
+use crate::refusals::pages_told;
+use crate::{LookCalls, OpenRefusal};
 use platform::Platform;
-use sdbt_base::{MAX_PAGES, PlatformFault, RECORD};
+use sdbt_base::{MAX_PAGES, PlatformFault};
 
 /// A medium in a folder and a root cell, by calls that change neither: each call of the platform that would is a fault.
 ///
@@ -37,13 +39,10 @@ impl<C: LookCalls + Drop> FolderView<C> {
         ensures past { IfOk result (λ view. (n : ℕ) × (C.LookCalls.events view.calls ≡ pages_counted n ∷ [])) }
         ensures image { IfOk result (λ view. ⟦<FolderView<C> as Platform>⟧.tells → (⟦<FolderView<C> as Platform>⟧.history view).present ≡ looked_at (C.LookCalls.start calls)) }
         ensures faults { IfOk result (λ view. view.faults ≡ 0) }
+        ensures names { IfErr result (Names Media) }
         ensures cause { IfErr result (ShowsCause ⊥) }
     {
-        let pages = told(FolderFile::Media, calls.look_for_pages())?;
-        if pages > MAX_PAGES {
-            let len = pages.saturating_mul(RECORD as u64);
-            return Err(OpenRefusal::TooLong { len });
-        }
+        let pages = pages_told(calls.look_for_pages())?;
         Ok(FolderView {
             calls,
             head: pages,

@@ -1,8 +1,8 @@
 //! What is found under the name of a file.
 ghost use Rattle.std.specs.Prelude.{◌≡◌, ◌↔◌, IsTrue};
-ghost use Rattle.std.specs.Fs.{file_type, IsFile, metadata_mode};
+ghost use Rattle.std.specs.Fs.{file_type, IsFile, IsDir, IsSymlink, metadata_mode};
 ghost use Rattle.folder_platform.specs.Refusals.{IsOwn, IsSame};
-ghost use Rattle.folder_platform.specs.declared.found.FileKind.TheVariants.{Regular};
+ghost use Rattle.folder_platform.specs.declared.found.FileKind.TheVariants.{Regular, Link, Folder};
 
 use std::fmt;
 use std::fs::Metadata;
@@ -43,7 +43,9 @@ pub struct Found {
 impl Found {
     /// What this says of a file. No contract says which numbers a file has.
     pub fn of(metadata: &Metadata) -> Found
-        ensures { result.kind ≡ Regular ↔ IsFile (file_type metadata.now) }
+        ensures regular { result.kind ≡ Regular ↔ IsFile (file_type metadata.now) }
+        ensures link { result.kind ≡ Link ↔ IsSymlink (file_type metadata.now) }
+        ensures folder { result.kind ≡ Folder ↔ IsDir (file_type metadata.now) }
     {
         Found {
             kind: kind_of(metadata),
@@ -70,7 +72,9 @@ impl Found {
 
 // The kind of a file of which this was said.
 fn kind_of(metadata: &Metadata) -> FileKind
-    ensures { result ≡ Regular ↔ IsFile (file_type metadata.now) }
+    ensures regular { result ≡ Regular ↔ IsFile (file_type metadata.now) }
+    ensures link { result ≡ Link ↔ IsSymlink (file_type metadata.now) }
+    ensures folder { result ≡ Folder ↔ IsDir (file_type metadata.now) }
 {
     let kind = metadata.file_type();
     if metadata.is_file() {

@@ -1,7 +1,9 @@
 //! Why folders can't be a platform.
-ghost use Rattle.folder_platform.specs.Refusals.{IsRefusalOf, IsMemory, TellsFile};
+ghost use Rattle.std.specs.Prelude.{◌≡◌, ◌≤◌, Ok, IfOk, IfErr};
+ghost use Rattle.folder_platform.specs.Refusals.{IsRefusalOf, IsMemory, TellsFile, RefusesPages};
 
 use crate::Found;
+use sdbt_base::{MAX_PAGES, RECORD};
 use std::alloc::AllocError;
 use std::error::Error;
 use std::{fmt, io};
@@ -73,6 +75,20 @@ pub fn told<T>(file: FolderFile, outcome: io::Result<T>) -> Result<T, OpenRefusa
         Ok(value) => Ok(value),
         Err(error) => Err(OpenRefusal::of(file, error)),
     }
+}
+
+/// What a count of the pages of `media` answered: more than a medium can have are refused.
+pub(crate) fn pages_told(outcome: io::Result<u64>) -> Result<u64, OpenRefusal>
+    ensures counted { IfOk result (λ pages. outcome ≡ Ok pages) }
+    ensures within { IfOk result (λ pages. pages ≤ MAX_PAGES) }
+    ensures refused { IfErr result (RefusesPages outcome) }
+{
+    let pages = told(FolderFile::Media, outcome)?;
+    if pages > MAX_PAGES {
+        let len = pages.saturating_mul(RECORD as u64);
+        return Err(OpenRefusal::TooLong { len });
+    }
+    Ok(pages)
 }
 
 impl fmt::Display for OpenRefusal {

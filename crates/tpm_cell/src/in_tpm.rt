@@ -1,7 +1,7 @@
 //! A device whose root record is in a TPM.
 ghost use Rattle.std.specs.Prelude.{◌≡◌, ◌∷◌, ℕ, List, Option, Some, None, true, if◌then◌else◌, length, is_ok, IfErr, IfOk, IsErr, IsSomeAnd, MatchResult, OnErr, OnOk};
 ghost use Rattle.folder_platform.specs.Events.{pages_counted, page_read, page_written, media_synced, folder_synced, root_synced, new_removed, cell_synced};
-ghost use Rattle.folder_platform.specs.Refusals.{ShowsCause};
+ghost use Rattle.folder_platform.specs.Refusals.{ShowsCause, TellsLast};
 ghost use Rattle.folder_platform.specs.Sequences.{NotesCell, Replaces, Clears};
 ghost use Rattle.tpm_nv.specs.Messages.{read_bytes};
 ghost use Rattle.tpm_nv.specs.Replies.{IsContent};
@@ -113,6 +113,7 @@ impl<R: Files, T: TpmCalls + Drop> CellCalls for InTpm<R, T> {
     // Nothing stands beside a cell in place.
     fn tidy(&mut self) -> Result<(), OpenRefusal>
         ensures noted { IfOk result (λ _. self.new.pages.calls.events ≡ new_removed true ∷ self.old.pages.calls.events) }
+        ensures told { IfErr result (TellsLast self.new.pages.calls.events) }
         ensures cause { IfErr result (ShowsCause ⊥) }
         ensures apart { IsApart self.old.cell self.new.cell self.old.failure self.new.failure }
     {
@@ -123,6 +124,7 @@ impl<R: Files, T: TpmCalls + Drop> CellCalls for InTpm<R, T> {
     // What is in a cell in place is stored.
     fn settle(&mut self) -> Result<(), OpenRefusal>
         ensures noted { IfOk result (λ _. self.new.pages.calls.events ≡ cell_synced true ∷ root_synced true ∷ self.old.pages.calls.events) }
+        ensures told { IfErr result (TellsLast self.new.pages.calls.events) }
         ensures cause { IfErr result (ShowsCause ⊥) }
         ensures apart { IsApart self.old.cell self.new.cell self.old.failure self.new.failure }
     {

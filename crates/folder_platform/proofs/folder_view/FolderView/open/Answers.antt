@@ -7,7 +7,7 @@ pub invariant_of-result : goal.invariant_of-result
 invariant_of-result g c =
     let is : g.C.LookCalls.events c.look_for_pages.new.self ≡ pages_counted c.in_ok-pages.pages ∷ [] = search rules in
     let all = views _ _ c.in_ok-pages.pages (g.met.C.LookCalls.are_files c.look_for_pages.new.self) is in
-    record { told = all.told; readable = all.readable; recorded = all.recorded; room = omega arith; looks = all.looks; done = all.done }
+    record { told = all.told; readable = all.readable; recorded = all.recorded; room = omega (arith, c.in_ok-pages.ensures.within); looks = all.looks; done = all.done }
 
 pub returns-clause-image : goal.returns-clause-image
 returns-clause-image g c told =
