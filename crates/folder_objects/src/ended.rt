@@ -1,6 +1,7 @@
 //! How a run over a platform ended.
 
 ghost use Rattle.std.specs.Prelude.{◌≡◌, None};
+ghost use Rattle.std.specs.Option.{option_map};
 
 use tpm_cell::TpmFault;
 
@@ -16,7 +17,8 @@ pub struct Ended<'a> {
 impl<'a> Ended<'a> {
     /// A run over an index that this word named.
     pub fn over_index(status: u8, cell: &'a str, fault: Option<TpmFault>) -> Ended<'a>
-        ensures { result.status ≡ status }
+        ensures status { result.status ≡ status }
+        ensures fault { result.fault ≡ option_map (λ fault. (cell.entry, fault)) fault }
     {
         Ended {
             status,

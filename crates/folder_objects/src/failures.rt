@@ -1,8 +1,14 @@
 //! What failed where a run ended with some status.
 
+ghost use Rattle.std.specs.Prelude.{◌≡◌};
+ghost use Rattle.std.specs.Option.{option_map};
+ghost use Rattle.folder_objects.specs.Reasons.{reason_text};
+
 /// What failed where a run ended with this status, for a line on standard error behind the program's name. At status 1
 /// that was said before, and at 2 a program says how it is called.
-pub fn reason_of(status: u8) -> Option<&'static str> {
+pub fn reason_of(status: u8) -> Option<&'static str>
+    ensures { option_map (λ text. text.now) result ≡ reason_text status }
+{
     match status {
         3 => Some("the input failed"),
         4 => Some("the output failed"),

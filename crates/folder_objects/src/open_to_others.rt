@@ -1,5 +1,8 @@
 //! What others than its owner may do with the cell of a root record in a folder.
 
+ghost use Rattle.std.specs.Prelude.{◌≡◌, ◌≢◌, ◌↔◌, IsTrue, IfOk, OnErr, bit_and, false};
+ghost use Rattle.std.specs.Fs.{metadata_mode};
+
 use std::fs::{self, Metadata};
 use std::io;
 use std::os::unix::fs::MetadataExt;
@@ -29,7 +32,10 @@ pub fn tell_open_cell(rt: &(impl Files + Alloc + Eprint), program: &str, cell: &
 }
 
 // Whether this was said of a file, and others than its owner have one of these permissions.
-fn may_others(metadata: io::Result<Metadata>, permissions: u32) -> bool {
+fn may_others(metadata: io::Result<Metadata>, permissions: u32) -> bool
+    ensures known { IfOk metadata (λ file. IsTrue result ↔ (bit_and (metadata_mode file) permissions ≢ 0)) }
+    ensures unknown { OnErr metadata (result ≡ false) }
+{
     match metadata {
         Ok(metadata) => metadata.mode() & permissions != 0,
         Err(_) => false,
