@@ -42,6 +42,10 @@ looks_of platform = platform.looks
 abbrev pub answered_of : MemPlatform → ℕ
 answered_of platform = reads_of platform + looks_of platform
 
+-- how often the pages were synced, or the cell was replaced or cleared
+abbrev pub changes_of : MemPlatform → ℕ
+changes_of platform = platform.store.changes
+
 -- how many calls failed
 abbrev pub faults_of : MemPlatform → ℕ
 faults_of platform = platform.faults
@@ -104,6 +108,7 @@ pub record CountsRead {T E : Type 0} (old new : MemPlatform) (result : Result T 
   pub with_effect : due old Read ≡ Some true → ¬ (Starved old new) → reads_of old < 2 ^ 64 - 1 → reads_of new ≡ reads_of old + 1
   pub without_effect : due old Read ≡ Some false → reads_of new ≡ reads_of old
   pub looks : looks_of new ≡ looks_of old
+  pub changes : changes_of new ≡ changes_of old
 
 -- a look at the cell counts where it is answered, and is one step of the history
 pub record CountsLook {T E : Type 0} (old new : MemPlatform) (result : Result T E) : Type 0 where
@@ -112,3 +117,4 @@ pub record CountsLook {T E : Type 0} (old new : MemPlatform) (result : Result T 
   pub reads : reads_of new ≡ reads_of old
   pub answered : OnOk result (looks_of new ≡ looks_of old + 1)
   pub failed : OnErr result (looks_of new ≡ looks_of old)
+  pub changes : changes_of new ≡ changes_of old

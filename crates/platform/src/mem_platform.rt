@@ -32,7 +32,7 @@ pub struct MemPlatform {
 }
 
 impl MemPlatform {
-    ghost use Rattle.platform.specs.Mem.{mem_history, image_of_now, failures_of, calls_of, starved_of, reads_of, looks_of, faults_of, capacity_of, IsSameRest};
+    ghost use Rattle.platform.specs.Mem.{mem_history, image_of_now, failures_of, calls_of, starved_of, reads_of, looks_of, changes_of, faults_of, capacity_of, IsSameRest};
 
     /// No page, an empty cell and no failures.
     pub fn blank(alloc: Global, capacity: u64) -> Self
@@ -43,6 +43,7 @@ impl MemPlatform {
         ensures failures { failures_of result ≡ [] }
         ensures calls { calls_of result ≡ no_calls }
         ensures reads { (reads_of result ≡ 0) × (looks_of result ≡ 0) }
+        ensures changes { changes_of result ≡ 0 }
         ensures faults { faults_of result ≡ 0 }
         ensures starved { starved_of result ≡ 0 }
     {
@@ -69,6 +70,7 @@ impl MemPlatform {
         ensures failures { failures_of result ≡ [] }
         ensures calls { calls_of result ≡ no_calls }
         ensures reads { (reads_of result ≡ 0) × (looks_of result ≡ 0) }
+        ensures changes { changes_of result ≡ 0 }
         ensures faults { faults_of result ≡ 0 }
         ensures starved { starved_of result ≡ 0 }
     {
@@ -93,6 +95,7 @@ impl MemPlatform {
         ensures still_counting { OnErr result (calls_of self.new ≡ calls_of self.old) }
         ensures image { image_of_now self.new ≡ image_of_now self.old }
         ensures past { (mem_history self.new).past ≡ (mem_history self.old).past }
+        ensures changes { changes_of self.new ≡ changes_of self.old }
         ensures rest { IsSameRest self.old self.new }
     {
         self.plan = Plan::of(self.alloc, list)?;
@@ -107,7 +110,7 @@ impl MemPlatform {
         ensures torn { Tears torn.now (image_of_now self.old).readable
             (image_of_now self.new).readable }
         ensures left { MayLeave (image_of_now self.old) (image_of_now self.new) }
-        ensures past { (mem_history self.new).past ≡ [] }
+        ensures past { ((mem_history self.new).past ≡ []) × (changes_of self.new ≡ 0) }
         ensures failures { failures_of self.new ≡ failures_of self.old }
         ensures calls { calls_of self.new ≡ calls_of self.old }
         ensures rest { IsSameRest self.old self.new }
@@ -150,6 +153,13 @@ impl MemPlatform {
         self.looks
     }
 
+    /// How often the pages were synced, or the cell was replaced or cleared, since the history began.
+    pub fn changes(&self) -> u64
+        ensures { result ≡ changes_of self.now }
+    {
+        self.store.changes()
+    }
+
     /// How many calls failed because a growth was refused.
     pub fn starved(&self) -> u64
         ensures { result ≡ starved_of self.now }
@@ -161,10 +171,10 @@ impl MemPlatform {
 impl Platform for MemPlatform {
     ghost use Rattle.std.specs.Prelude.{◌≡◌, ◌↔◌, ◌⊎◌, ◌<◌, ◌≤◌, ◌+◌, ◌-◌, ◌^◌, false, Some, None, IsTrue, IsSome, IsErr, IfOk, OnOk, OnErr, length, slice_get, refl};
     ghost use Rattle.sdbt_base.specs.Faults.{Rose, next_count};
-    ghost use Rattle.platform.specs.Counts.{MayRiseByOne};
+    ghost use Rattle.platform.specs.Counts.{MayRiseByOne, CountsOnce};
     ghost use Rattle.platform.specs.Image.{with_page, with_cell, all_synced, IsEither, MayHavePage};
     ghost use Rattle.platform.specs.History.{Steps};
-    ghost use Rattle.platform.specs.Mem.{mem_history, image_of_now, due, starved_of, reads_of, looks_of, answered_of, faults_of, capacity_of, FailsAsListed, Starved, Counts, HasEffect, TellsFaults, StepsBeside, CountsLook, CountsRead};
+    ghost use Rattle.platform.specs.Mem.{mem_history, image_of_now, due, starved_of, reads_of, looks_of, answered_of, changes_of, faults_of, capacity_of, FailsAsListed, Starved, Counts, HasEffect, TellsFaults, StepsBeside, CountsLook, CountsRead};
 
     ghost tells = { Unit {0} };
 
@@ -177,6 +187,8 @@ impl Platform for MemPlatform {
     ghost reads = { answered_of };
 
     ghost page_reads = { reads_of };
+
+    ghost changes = { changes_of };
 
     ghost faults = { faults_of };
 
@@ -206,6 +218,7 @@ impl Platform for MemPlatform {
         ensures either { MayHavePage (image_of_now self.old) page.now (image_of_now self.new) }
         ensures cell { (image_of_now self.new).cell ≡ (image_of_now self.old).cell }
         ensures beside { StepsBeside self.old self.new }
+        ensures changes { changes_of self.new ≡ changes_of self.old }
 
         ensures head { MayRiseByOne (length (image_of_now self.old).recorded)
             (length (image_of_now self.new).recorded) }
@@ -264,6 +277,7 @@ impl Platform for MemPlatform {
             (image_of_now self.new) }
         ensures cell { (image_of_now self.new).cell ≡ (image_of_now self.old).cell }
         ensures beside { StepsBeside self.old self.new }
+        ensures changes { CountsOnce result (changes_of self.old) (changes_of self.new) }
 
         ensures head { length (image_of_now self.new).recorded
             ≡ length (image_of_now self.old).recorded }
@@ -318,6 +332,7 @@ impl Platform for MemPlatform {
         ensures either { IsEither (image_of_now self.old)
             (with_cell (image_of_now self.old) (Some bytes.now)) (image_of_now self.new) }
         ensures beside { StepsBeside self.old self.new }
+        ensures changes { CountsOnce result (changes_of self.old) (changes_of self.new) }
 
         ensures head { length (image_of_now self.new).recorded
             ≡ length (image_of_now self.old).recorded }
@@ -344,6 +359,7 @@ impl Platform for MemPlatform {
         ensures either { IsEither (image_of_now self.old) (with_cell (image_of_now self.old) None)
             (image_of_now self.new) }
         ensures beside { StepsBeside self.old self.new }
+        ensures changes { CountsOnce result (changes_of self.old) (changes_of self.new) }
 
         ensures head { length (image_of_now self.new).recorded
             ≡ length (image_of_now self.old).recorded }

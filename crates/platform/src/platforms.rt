@@ -1,6 +1,6 @@
 ghost use Rattle.std.specs.Prelude.{◌≡◌, ◌↔◌, ◌<◌, ◌≤◌, ◌+◌, ◌^◌, ℕ, Some, None, IsTrue, IsSome, IfOk, OnOk, length, slice_get};
 ghost use Rattle.sdbt_base.specs.Faults.{Tells};
-ghost use Rattle.platform.specs.Counts.{MayRiseByOne};
+ghost use Rattle.platform.specs.Counts.{MayRiseByOne, CountsOnce};
 ghost use Rattle.platform.specs.Image.{with_page, with_cell, all_synced, IsEither, MayHavePage};
 ghost use Rattle.platform.specs.History.{History, Steps};
 
@@ -29,6 +29,9 @@ pub trait Platform {
 
     /// How many of those were of pages.
     ghost page_reads: { Self → ℕ };
+
+    /// How often the pages were synced, or the cell was replaced or cleared.
+    ghost changes: { Self → ℕ };
 
     /// How often the platform has failed; it never falls.
     ghost faults: { Self → ℕ };
@@ -62,6 +65,7 @@ pub trait Platform {
         ensures head { MayRiseByOne (head self.old) (head self.new) }
         ensures capacity { capacity self.new ≡ capacity self.old }
         ensures reads { tells → (reads self.new ≡ reads self.old) × (page_reads self.new ≡ page_reads self.old) }
+        ensures changes { tells → changes self.new ≡ changes self.old }
         ensures faults { faults self.old ≤ faults self.new }
         ensures cause { Tells result (faults self.old) (faults self.new) };
 
@@ -80,6 +84,7 @@ pub trait Platform {
         ensures reads_ok { tells → OnOk result (reads self.new ≡ reads self.old + 1) }
         ensures reads { tells → MayRiseByOne (reads self.old) (reads self.new) }
         ensures page_reads { tells → page_reads self.new + reads self.old ≡ page_reads self.old + reads self.new }
+        ensures changes { tells → changes self.new ≡ changes self.old }
         ensures faults { faults self.old ≤ faults self.new }
         ensures cause { Tells result (faults self.old) (faults self.new) };
 
@@ -95,6 +100,7 @@ pub trait Platform {
         ensures head { head self.new ≡ head self.old }
         ensures capacity { capacity self.new ≡ capacity self.old }
         ensures reads { tells → (reads self.new ≡ reads self.old) × (page_reads self.new ≡ page_reads self.old) }
+        ensures changes { tells → CountsOnce result (changes self.old) (changes self.new) }
         ensures faults { faults self.old ≤ faults self.new }
         ensures cause { Tells result (faults self.old) (faults self.new) };
 
@@ -113,6 +119,7 @@ pub trait Platform {
         ensures capacity { capacity self.new ≡ capacity self.old }
         ensures reads_ok { tells → OnOk result (reads self.new ≡ reads self.old + 1) }
         ensures reads { tells → MayRiseByOne (reads self.old) (reads self.new) × (page_reads self.new ≡ page_reads self.old) }
+        ensures changes { tells → changes self.new ≡ changes self.old }
         ensures faults { faults self.old ≤ faults self.new }
         ensures cause { Tells result (faults self.old) (faults self.new) };
 
@@ -129,6 +136,7 @@ pub trait Platform {
         ensures head { head self.new ≡ head self.old }
         ensures capacity { capacity self.new ≡ capacity self.old }
         ensures reads { tells → (reads self.new ≡ reads self.old) × (page_reads self.new ≡ page_reads self.old) }
+        ensures changes { tells → CountsOnce result (changes self.old) (changes self.new) }
         ensures faults { faults self.old ≤ faults self.new }
         ensures cause { Tells result (faults self.old) (faults self.new) };
 
@@ -143,6 +151,7 @@ pub trait Platform {
         ensures head { head self.new ≡ head self.old }
         ensures capacity { capacity self.new ≡ capacity self.old }
         ensures reads { tells → (reads self.new ≡ reads self.old) × (page_reads self.new ≡ page_reads self.old) }
+        ensures changes { tells → CountsOnce result (changes self.old) (changes self.new) }
         ensures faults { faults self.old ≤ faults self.new }
         ensures cause { Tells result (faults self.old) (faults self.new) };
 

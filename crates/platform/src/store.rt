@@ -18,13 +18,15 @@ pub struct Moment {
     synced: u64,
 }
 
-/// A medium and a cell, and each moment that they had.
+/// A medium and a cell, each moment that they had, and how many of these a change of another kind than a page ended.
 #[derive(Drop)]
 pub struct Store {
     medium: MediumTrace,
     cell: RootCell,
     log: Vec<Moment>,
+    changes: u64,
     ghost logged: { IsLog medium cell log.items },
+    ghost counted: { changes ≤ length log.items },
 }
 
 impl Store {
@@ -34,11 +36,13 @@ impl Store {
     pub fn blank(alloc: Global) -> Self
         ensures present { (store_history result).present ≡ blank }
         ensures past { (store_history result).past ≡ [] }
+        ensures changes { result.changes ≡ 0 }
     {
         Store {
             medium: MediumTrace::new(alloc),
             cell: RootCell::empty(),
             log: Vec::new(alloc),
+            changes: 0,
         }
     }
 
@@ -47,6 +51,7 @@ impl Store {
         ensures present { (store_history result).present
             ≡ record { cell = held; recorded = pages; readable = pages; synced = length pages } }
         ensures past { (store_history result).past ≡ [] }
+        ensures changes { result.changes ≡ 0 }
     {
         let mut cell = RootCell::empty();
         if let Some(bytes) = &held {
@@ -57,6 +62,7 @@ impl Store {
             medium: MediumTrace::from_pages(alloc, pages),
             cell,
             log: Vec::new(alloc),
+            changes: 0,
         }
     }
 
@@ -68,7 +74,9 @@ impl Store {
             (store_history self.new).present.readable }
         ensures left { MayLeave (store_history self.old).present (store_history self.new).present }
         ensures past { (store_history self.new).past ≡ [] }
+        ensures changes { self.new.changes ≡ 0 }
     {
+        self.changes = 0;
         self.log.clear();
         self.medium.cut(torn);
     }
@@ -92,6 +100,13 @@ impl Store {
         ensures { result.now ≡ (store_history self.now).present.recorded }
     {
         self.medium.recorded()
+    }
+
+    /// How often the pages were synced, or the cell was replaced or cleared, since the log began.
+    pub fn changes(&self) -> u64
+        ensures { result ≡ self.now.changes }
+    {
+        self.changes
     }
 
     /// What the cell holds.
@@ -124,6 +139,7 @@ impl Store {
             then (store_history self.old).past ++ (store_history self.old).present ∷ []
             else (store_history self.old).past) }
         ensures time { Steps (store_history self.old) (store_history self.new) }
+        ensures changes { self.new.changes ≡ self.old.changes }
     {
         let now = self.now();
         self.log.push(now)?;
@@ -145,9 +161,11 @@ impl Store {
             then (store_history self.old).past ++ (store_history self.old).present ∷ []
             else (store_history self.old).past) }
         ensures time { Steps (store_history self.old) (store_history self.new) }
+        ensures changes { self.new.changes ≡ (if is_ok result then self.old.changes + 1 else self.old.changes) }
     {
         let now = self.now();
         self.log.push(now)?;
+        self.changes += 1;
         self.medium.mark_synced();
         Ok(())
     }
@@ -161,9 +179,11 @@ impl Store {
             then (store_history self.old).past ++ (store_history self.old).present ∷ []
             else (store_history self.old).past) }
         ensures time { Steps (store_history self.old) (store_history self.new) }
+        ensures changes { self.new.changes ≡ (if is_ok result then self.old.changes + 1 else self.old.changes) }
     {
         let now = self.now();
         self.log.push(now)?;
+        self.changes += 1;
         self.cell.replace(bytes);
         Ok(())
     }
@@ -177,9 +197,11 @@ impl Store {
             then (store_history self.old).past ++ (store_history self.old).present ∷ []
             else (store_history self.old).past) }
         ensures time { Steps (store_history self.old) (store_history self.new) }
+        ensures changes { self.new.changes ≡ (if is_ok result then self.old.changes + 1 else self.old.changes) }
     {
         let now = self.now();
         self.log.push(now)?;
+        self.changes += 1;
         self.cell.clear();
         Ok(())
     }

@@ -1,4 +1,4 @@
-use Rattle.std.proofs.Common.{◌≡◌, ℕ, ◌+◌, Option, Some, option_to_list, vec_len, ◌<◌, List, ◌∷◌, ◌++◌, [], length, take, refl, sym, ap, subst, ◌∙◌, arith}
+use Rattle.std.proofs.Common.{◌≡◌, ℕ, ◌+◌, Option, Some, option_to_list, vec_len, ◌<◌, ◌≤◌, List, ◌∷◌, ◌++◌, [], length, take, refl, sym, ap, subst, ◌∙◌, arith}
 use Rattle.std.proofs.Math.ListN.{length-append}
 use Rattle.std.proofs.lemmas.List.{take_at}
 use Rattle.medium_trace.specs.Trace.{Trace, IsWhole as IsTrace}
@@ -31,6 +31,10 @@ log_longer page old new held log recorded synced is_trace is_log =
 not_empty : (n m : ℕ) → m ≡ n + 1 → 0 < m
 not_empty n m one = omega (arith, one)
 
+-- one moment more is logged
+no_fewer : (n few many : ℕ) → n ≤ few → many ≡ few + 1 → n ≤ many
+no_fewer n few many within one = omega (arith, within, one)
+
 pub invariant_of-self-in-Ok-1 : goal.invariant_of-self-in-Ok-1
 invariant_of-self-in-Ok-1 c =
     let old = c.args.self.now in
@@ -39,6 +43,7 @@ invariant_of-self-in-Ok-1 c =
     record {
       logged = subst (IsLog new old.cell) (sym c.in_ok-push.ensures.items)
           (log_longer c.args.page.now old.medium new old.cell (old.log.items ++ c.now-now.result ∷ []) c.in-Ok.ensures.recorded c.push-2.ensures.synced c.push-2.ensures.whole logged);
+      counted = no_fewer old.changes (length old.log.items) (length c.push.new.self.items) old.counted (ap length c.in_ok-push.ensures.items ∙ length-append old.log.items (c.now-now.result ∷ []));
     }
 
 pub returns-in-Ok-clause-past : goal.returns-in-Ok-clause-past
@@ -52,12 +57,12 @@ returns-in-Ok-clause-past c =
 pub returns-in-Ok-clause-time : goal.returns-in-Ok-clause-time
 returns-in-Ok-clause-time c = Steps-push _ _ (returns-in-Ok-clause-past c)
 
-pub invariant_of-self-in-Err : goal.invariant_of-self-in-Err
-invariant_of-self-in-Err c =
+pub invariant_of-self-in-Err-clause-logged : goal.invariant_of-self-in-Err-clause-logged
+invariant_of-self-in-Err-clause-logged c =
     let old = c.args.self.now in
     let same = same_trace c.push-2.new.self old.medium c.in-Err.ensures.recorded c.in-Err.ensures.readable c.push-2.ensures.synced in
     let back = taken_back old.log.items c.pop.new.self.items c.now-now.result _ c.push.new.self.items c.pop.result c.in_ok-push.ensures.items c.pop.ensures.items (c.pop.ensures.value c.now-now.result (not_empty (vec_len old.log) (vec_len c.push.new.self) c.in_ok-push.ensures.len)) in
-    record { logged = subst (λ (trace : Trace). IsLog trace old.cell c.pop.new.self.items) (sym same) (subst (IsLog old.medium old.cell) (sym back) old.logged) }
+    subst (λ (trace : Trace). IsLog trace old.cell c.pop.new.self.items) (sym same) (subst (IsLog old.medium old.cell) (sym back) old.logged)
 
 pub returns-in-Err-clause-present : goal.returns-in-Err-clause-present
 returns-in-Err-clause-present c =

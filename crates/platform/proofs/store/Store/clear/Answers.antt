@@ -9,11 +9,11 @@ use Rattle.platform.proofs.store.Store.clear.Goals as goal
 no_record : (held : Option (List ℕ)) → held ≡ None → IsCell held
 no_record held none bytes is = absurd (cc)
 
-pub invariant_of-self-2 : goal.invariant_of-self-2
-invariant_of-self-2 c =
+pub invariant_of-self-2-clause-logged : goal.invariant_of-self-2-clause-logged
+invariant_of-self-2-clause-logged c =
     let old = c.args.self.now in
     let logged = IsLog-push old.medium old.cell old.log.items c.now-now.result old.logged c.now-now.ensures in
-    record { logged = subst (IsLog old.medium c.clear.new.self) (sym c.in_ok-push.ensures.items) (IsLog-cell old.medium old.cell c.clear.new.self (old.log.items ++ c.now-now.result ∷ []) (no_record c.clear.new.self c.clear.ensures) logged) }
+    subst (IsLog old.medium c.clear.new.self) (sym c.in_ok-push.ensures.items) (IsLog-cell old.medium old.cell c.clear.new.self (old.log.items ++ c.now-now.result ∷ []) (no_record c.clear.new.self c.clear.ensures) logged)
 
 pub returns-clause-past : goal.returns-clause-past
 returns-clause-past c =

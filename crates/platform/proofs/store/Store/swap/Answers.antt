@@ -4,11 +4,11 @@ use Rattle.platform.proofs.LogSteps.{IsLog-push, IsLog-cell, past_images-same}
 use Rattle.platform.proofs.Moments.{Steps-push}
 use Rattle.platform.proofs.store.Store.swap.Goals as goal
 
-pub invariant_of-self-2 : goal.invariant_of-self-2
-invariant_of-self-2 c =
+pub invariant_of-self-2-clause-logged : goal.invariant_of-self-2-clause-logged
+invariant_of-self-2-clause-logged c =
     let old = c.args.self.now in
     let logged = IsLog-push old.medium old.cell old.log.items c.now-now.result old.logged c.now-now.ensures in
-    record { logged = subst (IsLog old.medium c.replace.new.self) (sym c.in_ok-push.ensures.items) (IsLog-cell old.medium old.cell c.replace.new.self (old.log.items ++ c.now-now.result ∷ []) c.replace.ensures.bytes logged) }
+    subst (IsLog old.medium c.replace.new.self) (sym c.in_ok-push.ensures.items) (IsLog-cell old.medium old.cell c.replace.new.self (old.log.items ++ c.now-now.result ∷ []) c.replace.ensures.bytes logged)
 
 pub returns-clause-past : goal.returns-clause-past
 returns-clause-past c =
