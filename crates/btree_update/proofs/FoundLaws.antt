@@ -26,6 +26,7 @@ looks_more P few most old new le l = record {
   capacity = l.capacity;
   reads_rise = l.reads_rise;
   reads_most = λ tells. (let r = l.reads_most tells in omega (arith, le, r));
+  changes = l.changes;
   faults = l.faults;
 }
 

@@ -25,6 +25,7 @@ looks_still P x = record {
   capacity = refl;
   reads_rise = λ tells. omega arith;
   reads_most = λ tells. omega arith;
+  changes = λ tells. refl;
   faults = omega arith;
 }
 

@@ -11,6 +11,7 @@ pub record Looks {S : Type 0} (P : Ghosts S) (most : ℕ) (old new : S) : Type 0
   pub capacity : P.capacity new ≡ P.capacity old
   pub reads_rise : P.tells → P.reads old ≤ P.reads new
   pub reads_most : P.tells → P.reads new ≤ P.reads old + most
+  pub changes : P.tells → P.changes new ≡ P.changes old
   pub faults : P.faults old ≤ P.faults new
 
 -- the image stays, and nothing is handed over
@@ -20,4 +21,5 @@ pub record OnlyLooks {S : Type 0} (P : Ghosts S) (old new : S) : Type 0 where
   pub head : P.head new ≡ P.head old
   pub capacity : P.capacity new ≡ P.capacity old
   pub reads_rise : P.tells → P.reads old ≤ P.reads new
+  pub changes : P.tells → P.changes new ≡ P.changes old
   pub faults : P.faults old ≤ P.faults new

@@ -35,7 +35,7 @@ use Rattle.device_session.specs.Holds.{Holds}
 
 -- a look with so many reads at most is a look
 pub walk_looks : {S : Type 0} (P : Ghosts S) (most : ℕ) (old new : S) → WalkLooks P most old new → Looks P old new
-walk_looks P most old new l = looks_call P old new l.time l.image l.head l.capacity l.faults
+walk_looks P most old new l = looks_call P old new l.time l.image l.head l.capacity l.changes l.faults
 
 -- ---- a mount
 

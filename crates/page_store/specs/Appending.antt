@@ -29,11 +29,12 @@ pub record MayBePlaced {S R : Type 0} (P : PlatformGhosts S) (T : TapeGhosts R) 
   pub drew : Drew (T.drawn tape) key (T.drawn tape_now)
   pub image : P.tells → MayHavePage (P.history platform).present (masked key body) (P.history platform_now).present
 
--- beside its purpose a call adds one page at most, in one step: the cell stays, no page is read, and counts of faults don't fall
+-- beside its purpose a call adds one page at most, in one step: the cell stays, no page is read, nothing is synced, and counts of faults don't fall
 pub record AddsOne {S R : Type 0} (P : PlatformGhosts S) (T : TapeGhosts R) (platform platform_now : S) (tape tape_now : R) : Type 0 where
   pub cell : P.tells → (P.history platform_now).present.cell ≡ (P.history platform).present.cell
   pub time : P.tells → Steps (P.history platform) (P.history platform_now)
   pub grows : Grows P platform platform_now
   pub reads : P.tells → P.reads platform_now ≡ P.reads platform
   pub page_reads : P.tells → P.page_reads platform_now ≡ P.page_reads platform
+  pub changes : P.tells → P.changes platform_now ≡ P.changes platform
   pub tape_faults : T.faults tape ≤ T.faults tape_now

@@ -12,6 +12,7 @@ pub record ReadsPage {S : Type 0} (P : Ghosts S) (old new : S) : Type 0 where
   pub capacity : P.capacity new ≡ P.capacity old
   pub reads_rise : P.tells → P.reads old ≤ P.reads new
   pub reads_by_one : P.tells → P.reads new ≤ P.reads old + 1
+  pub changes : P.tells → P.changes new ≡ P.changes old
   pub faults : P.faults old ≤ P.faults new
 
 -- neither a page was read nor the cell looked at
@@ -30,4 +31,5 @@ pub record ReadsCell {S : Type 0} (P : Ghosts S) (old new : S) : Type 0 where
   pub capacity : P.capacity new ≡ P.capacity old
   pub reads : P.tells → MayRiseByOne (P.reads old) (P.reads new)
   pub page_reads : P.tells → P.page_reads new ≡ P.page_reads old
+  pub changes : P.tells → P.changes new ≡ P.changes old
   pub faults : P.faults old ≤ P.faults new

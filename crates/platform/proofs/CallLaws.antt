@@ -16,17 +16,19 @@ looks_start P x = record {
   time = λ told. During-start (P.history x) (HasCell (P.history x).present.cell) refl;
   head = refl;
   capacity = refl;
+  changes = λ told. refl;
   faults = omega arith;
 }
 
 -- one call that leaves the image
 pub looks_call : {S : Type 0} (P : Ghosts S) (old new : S) → (P.tells → Steps (P.history old) (P.history new)) → (P.tells → (P.history new).present ≡ (P.history old).present)
-    → P.head new ≡ P.head old → P.capacity new ≡ P.capacity old → P.faults old ≤ P.faults new → Looks P old new
-looks_call P old new steps image head capacity faults = record {
+    → P.head new ≡ P.head old → P.capacity new ≡ P.capacity old → (P.tells → P.changes new ≡ P.changes old) → P.faults old ≤ P.faults new → Looks P old new
+looks_call P old new steps image head capacity changes faults = record {
   image = image;
   time = λ told. During-step (P.history old) (P.history new) (HasCell (P.history old).present.cell) (steps told) refl (ap (λ (i : Image). i.cell) (image told));
   head = head;
   capacity = capacity;
+  changes = changes;
   faults = faults;
 }
 
@@ -39,5 +41,6 @@ looks_then P first second third one two = record {
       (λ image is. is ∙ ap (λ (i : Image). i.cell) (one.image told)) (two.time told));
   head = two.head ∙ one.head;
   capacity = two.capacity ∙ one.capacity;
+  changes = λ told. two.changes told ∙ one.changes told;
   faults = let a = one.faults in let b = two.faults in omega arith;
 }

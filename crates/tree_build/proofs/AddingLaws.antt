@@ -48,6 +48,7 @@ adds_none P T x y = record {
   draws = drew_none 0 (T.drawn y) (T.drawn y) refl;
   reads_rise = λ told. omega arith;
   reads_most = λ told. omega arith;
+  changes = λ told. refl;
   platform_faults = omega arith;
   tape_faults = omega arith;
 }
@@ -64,6 +65,7 @@ adds_read P T x x' y looks =
       draws = drew_none 0 (T.drawn y) (T.drawn y) refl;
       reads_rise = looks.reads_rise;
       reads_most = looks.reads_by_one;
+      changes = looks.changes;
       platform_faults = looks.faults;
       tape_faults = omega arith;
     }
@@ -80,6 +82,7 @@ adds_one P T x x' y y' one draws =
       draws = draws;
       reads_rise = λ told. omega (arith, one.reads told);
       reads_most = λ told. omega (arith, one.reads told);
+      changes = one.changes;
       platform_faults = omega (arith, grows);
       tape_faults = one.tape_faults;
     }
@@ -98,6 +101,7 @@ adds_then P T one two most few more reads x x' x'' y y' y'' within seen a b = re
   draws = drew_after one two most (T.drawn y) (T.drawn y') (T.drawn y'') within a.draws b.draws;
   reads_rise = λ told. omega (arith, a.reads_rise told, b.reads_rise told);
   reads_most = λ told. omega (arith, a.reads_most told, b.reads_most told, seen);
+  changes = λ told. b.changes told ∙ a.changes told;
   platform_faults = omega (arith, a.platform_faults, b.platform_faults);
   tape_faults = omega (arith, a.tape_faults, b.tape_faults);
 }
@@ -112,6 +116,7 @@ adds_within P T fewer most few reads x x' y y' within seen a = record {
   draws = let draws = a.draws in (draws.0, draws.1, omega (arith, draws.2, within));
   reads_rise = a.reads_rise;
   reads_most = λ told. omega (arith, a.reads_most told, seen);
+  changes = a.changes;
   platform_faults = a.platform_faults;
   tape_faults = a.tape_faults;
 }

@@ -62,7 +62,7 @@ abbrev pub DrewFew : ℕ → Option (List (List ℕ)) → Option (List (List ℕ
 DrewFew most drawn drawn_now = (keys : List (List ℕ)) × DrewAll drawn keys drawn_now × (length keys ≤ most)
 
 -- beside its purpose a call adds at most so many pages, draws no more keys than that, and reads at most so many pages: at each moment the cell is the one from
--- before, and counts of reads and of faults don't fall
+-- before, nothing is synced, and counts of reads and of faults don't fall
 pub record OnlyAdds {S R : Type 0} (P : PlatformGhosts S) (T : TapeGhosts R) (most reads : ℕ) (platform platform_now : S) (tape tape_now : R) : Type 0 where
   pub cell : P.tells → CellStays (P.history platform) (P.history platform_now)
   pub rises : P.head platform ≤ P.head platform_now
@@ -71,5 +71,6 @@ pub record OnlyAdds {S R : Type 0} (P : PlatformGhosts S) (T : TapeGhosts R) (mo
   pub draws : DrewFew most (T.drawn tape) (T.drawn tape_now)
   pub reads_rise : P.tells → P.reads platform ≤ P.reads platform_now
   pub reads_most : P.tells → P.reads platform_now ≤ P.reads platform + reads
+  pub changes : P.tells → P.changes platform_now ≡ P.changes platform
   pub platform_faults : P.faults platform ≤ P.faults platform_now
   pub tape_faults : T.faults tape ≤ T.faults tape_now
