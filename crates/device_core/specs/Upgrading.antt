@@ -7,6 +7,7 @@ use Rattle.sdbt_base.specs.Keys.{IsKeyOf}
 use Rattle.sdbt_base.specs.declared.tapes.Tape.{Ghosts as TapeGhosts}
 use Rattle.platform.specs.declared.platforms.Platform.{Ghosts as PlatformGhosts}
 use Rattle.platform.specs.Image.{Image}
+use Rattle.platform.specs.Counts.{MayRiseBy}
 use Rattle.platform.specs.History.{History, CellStays}
 use Rattle.root_codec.specs.declared.root.Root.{Root}
 use Rattle.root_codec.specs.RootRecord.{FitsRoot, root_bytes}
@@ -78,12 +79,13 @@ pub record IsPartly {S : Type 0} (P : PlatformGhosts S) (platform platform_now :
   pub still : P.tells → CellStays (P.history platform) (P.history platform_now)
 
 -- an upgrade of the root record in the cell drew no more keys than it adds pages, and looked at the cell once, and read each node of the tree before it twice and
--- each data record once, at most
+-- each data record once, and synced once and replaced the root record once, at most
 pub record SpendsOn {S R : Type 0} (P : PlatformGhosts S) (T : TapeGhosts R) (platform platform_now : S) (tape tape_now : R) : Type 0 where
   pub root : Root
   pub begins : Begins P.tells (P.history platform).present (P.head platform) (P.capacity platform) root
   pub draws : DrewFew (needed_of_root root) (T.drawn tape) (T.drawn tape_now)
   pub reads : P.tells → (nodes : List Node) × NodesOf (P.history platform).present.readable root nodes × (P.reads platform_now ≤ P.reads platform + (1 + 2 * length nodes + root.mapped))
+  pub changes : P.tells → MayRiseBy 2 (P.changes platform) (P.changes platform_now)
 
 -- of the tree of a root record nothing was read; or a walk over its nodes was cut short, and read none twice; or each node was read, and, only where they list as many entries as the
 -- root record says, each once more at most, or by a second walk that was cut short
@@ -101,10 +103,10 @@ ReadsFew P platform platform_now =
     ⊎ ((root : Root) × Begins P.tells (P.history platform).present (P.head platform) (P.capacity platform) root
     × (P.tells → ReadsCut (P.history platform).present.readable root (P.reads platform + 1) (P.reads platform_now)))
 
--- so it is; or no key was drawn, there is no upgrade, and each node was read twice at most, and no data record
+-- so it is; or no key was drawn and nothing synced, there is no upgrade, and each node was read twice at most, and no data record
 abbrev pub SpendsUpgrade : {S R : Type 0} → PlatformGhosts S → TapeGhosts R → S → S → R → R → Type 0 → Type 0
 SpendsUpgrade P T platform platform_now tape tape_now Done =
-    ((T.drawn tape_now ≡ T.drawn tape) × (Done → ⊥) × ReadsFew P platform platform_now) ⊎ SpendsOn P T platform platform_now tape tape_now
+    ((T.drawn tape_now ≡ T.drawn tape) × (Done → ⊥) × (P.tells → P.changes platform_now ≡ P.changes platform) × ReadsFew P platform platform_now) ⊎ SpendsOn P T platform platform_now tape tape_now
 
 -- the ledger is as it was; or it got something, and before that the pages that an upgrade of the root record in the cell needs were added and all pages were synced
 abbrev pub PutsUpgrade : {S W : Type 0} → PlatformGhosts S → S → S → W → W → Type 0

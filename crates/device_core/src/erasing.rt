@@ -1,10 +1,11 @@
 ghost use Rattle.std.specs.Prelude.{◌≡◌, ◌≤◌, ℕ, List, Option, None};
 ghost use Rattle.platform.specs.Image.{IsEither, LeavesOnly, with_cell};
+ghost use Rattle.platform.specs.Counts.{CountsOnce};
 ghost use Rattle.platform.specs.History.{During, Steps, Turns};
 ghost use Rattle.sdbt_base.specs.Arrays.{Device};
 ghost use Rattle.page_store.specs.Stands.{Stands};
 ghost use Rattle.page_store.specs.Kept.{Kept};
-ghost use Rattle.page_store.specs.Reading.{MayLook, ReadsNothing};
+ghost use Rattle.page_store.specs.Reading.{MayLookAndChange, ReadsNothing};
 ghost use Rattle.page_store.specs.Stands.{IsSound};
 ghost use Rattle.page_store.specs.Floors.{Forgets};
 ghost use Rattle.device_terms.specs.Served.{IsServedImage};
@@ -37,8 +38,8 @@ pub fn erase<P: Platform>(platform: &mut P) -> Result<(), EraseRefusal>
 
     ensures pages { (P.head platform.new ≡ P.head platform.old) × (P.capacity platform.new ≡ P.capacity platform.old)
         × (P.faults platform.old ≤ P.faults platform.new) }
-    // The cell is looked at once at most, and no page is read.
-    ensures reads { P.tells → MayLook P.Platform platform.old platform.new }
+    // The cell is looked at once and cleared once, at most, and no page is read.
+    ensures reads { P.tells → MayLookAndChange P.Platform 1 platform.old platform.new }
 {
     let mut cell = [0; ROOT];
     match platform.load_root(&mut cell) {
@@ -76,6 +77,7 @@ pub fn clear<P: Platform>(platform: &mut P) -> Result<(), PlatformFault>
     ensures pages { (P.head platform.new ≡ P.head platform.old) × (P.capacity platform.new ≡ P.capacity platform.old)
         × (P.faults platform.old ≤ P.faults platform.new) }
     ensures reads { P.tells → ReadsNothing P.Platform platform.old platform.new }
+    ensures changes { P.tells → CountsOnce result (P.changes platform.old) (P.changes platform.new) }
 {
     platform.clear_root()
 }

@@ -5,7 +5,7 @@ ghost use Rattle.platform.specs.Calls.{Grows};
 ghost use Rattle.platform.specs.History.{Turns, CellStays};
 ghost use Rattle.sdbt_base.specs.Arrays.{Device, new_device};
 ghost use Rattle.page_store.specs.Keeping.{DrewAll};
-ghost use Rattle.page_store.specs.Reading.{MayLook};
+ghost use Rattle.page_store.specs.Reading.{MayLookAndChange};
 ghost use Rattle.page_store.specs.Stands.{Stands, IsSound};
 ghost use Rattle.root_codec.specs.declared.root.Root.{Root};
 ghost use Rattle.root_codec.specs.RootRecord.{root_bytes};
@@ -48,8 +48,9 @@ pub fn format<P: Platform, T: Tape, L: Sink>(
         × IsServedImage (P.history platform.new).present
         × ((root : Root) × ((P.history platform.new).present.cell ≡ Some (root_bytes root))
         × NamesLast (T.drawn tape.old) (T.drawn tape.new) (P.head platform.new) root)) }
-    // The cell is looked at once at most, no page is read, and no key drawn but that of the leaf.
-    ensures spends { (P.tells → MayLook P.Platform platform.old platform.new)
+    // The cell is looked at once at most, no page is read, and no key drawn but that of the leaf; all is synced and the cell replaced
+    // once at most.
+    ensures spends { (P.tells → MayLookAndChange P.Platform 2 platform.old platform.new)
         × OnOk result ((key : List ℕ) × DrewAll (T.drawn tape.old) (key ∷ []) (T.drawn tape.new)) }
     ensures cause { IsFormatCause P.Platform T.Tape platform.old platform.new tape.old tape.new
         (counts (P.faults platform.old) (T.faults tape.old) 0 0 (L.faults ledger.old))

@@ -3,6 +3,7 @@ ghost use Rattle.std.specs.Prelude.{◌≡◌, ◌≤◌, ◌⊎◌, Some, OnOk,
 ghost use Rattle.sdbt_base.specs.Counts.{counts};
 ghost use Rattle.sdbt_base.specs.Told.{Got, GotPart};
 ghost use Rattle.platform.specs.Image.{with_cell, all_synced};
+ghost use Rattle.platform.specs.Counts.{MayRiseBy};
 ghost use Rattle.platform.specs.History.{Turns, CellStays};
 ghost use Rattle.page_store.specs.Reading.{ReadsNothing};
 ghost use Rattle.root_codec.specs.RootRecord.{FitsRoot, root_bytes};
@@ -46,7 +47,8 @@ pub(crate) fn publish<P: Platform, L: Sink>(
     ensures synced { PutsSynced P.Platform 0 platform.old platform.new ledger.old ledger.new }
     ensures head { P.head platform.new ≡ P.head platform.old }
     ensures capacity { P.capacity platform.new ≡ P.capacity platform.old }
-    ensures reads { P.tells → ReadsNothing P.Platform platform.old platform.new }
+    ensures reads { P.tells → ReadsNothing P.Platform platform.old platform.new
+        × MayRiseBy 2 (P.changes platform.old) (P.changes platform.new) }
     ensures faults { P.faults platform.old ≤ P.faults platform.new }
     ensures ledger_faults { L.faults ledger.old ≤ L.faults ledger.new }
     ensures cause { IsPublishCause (P.tells → CellStays (P.history platform.old) (P.history platform.new))

@@ -10,6 +10,7 @@ use Rattle.sdbt_base.specs.declared.tapes.Tape.{Ghosts as TapeGhosts}
 use Rattle.std.specs.List.{AllByRecursion}
 use Rattle.platform.specs.declared.platforms.Platform.{Ghosts as PlatformGhosts}
 use Rattle.platform.specs.Image.{Image}
+use Rattle.platform.specs.Counts.{MayRiseByOne, MayRiseBy}
 use Rattle.platform.specs.History.{Turns, CellStays}
 use Rattle.platform.proofs.Moments.{During-start, Extends-earlier, whole-now}
 use Rattle.root_codec.specs.declared.root.Root.{Root}
@@ -104,6 +105,7 @@ commits_nothing P T L platform tape ledger session result opened array cause =
       quiet = on_any result _ refl;
       grows = record { rises = omega arith; at_most = omega arith; capacity = refl; platform_faults = omega arith; tape_faults = omega arith; ledger_faults = omega arith };
       unread = λ told. refl;
+      changes = λ told. record { rises = omega arith; at_most = omega arith };
     }
 
 -- a commit for which there was no room
@@ -122,8 +124,15 @@ pub same_counts : {S R W : Type 0} (P : PlatformGhosts S) (T : TapeGhosts R) (L 
     → commit_counts P T L platform_now tape_now ledger ≡ commit_counts P T L platform tape ledger
 same_counts P T L platform platform_now tape tape_now ledger same_platform same_tape = λ k. commit_counts P T L (same_platform k) (same_tape k) ledger
 
+-- a sync alone, and a sync and a replacement of the root record
+few_of_two : (old new : ℕ) → MayRiseBy 1 old new → MayRiseBy 2 old new
+few_of_two old new one = record { rises = one.rises; at_most = let most = one.at_most in omega (arith, most) }
+
+sync_and_swap : (old mid new : ℕ) → MayRiseBy 1 old mid → MayRiseByOne mid new → MayRiseBy 2 old new
+sync_and_swap old mid new sync swap = let a = sync.rises in let b = sync.at_most in let c = swap.rises in let d = swap.by_one in record { rises = omega (arith, a, c); at_most = omega (arith, b, d) }
+
 pub commits_stopped : {S R W : Type 0} (P : PlatformGhosts S) (T : TapeGhosts R) (L : SinkGhosts W) (platform platform_now : S) (tape tape_now : R) (ledger : W) (session now : Session) (fault : CommitFault)
-    → OnlyAdds P T platform platform_now tape tape_now → P.head platform_now ≤ P.head platform + needed_by session
+    → OnlyAdds P T 1 platform platform_now tape tape_now → P.head platform_now ≤ P.head platform + needed_by session
     → KeepsKeys P.tells (T.drawn tape) (T.drawn tape_now) (P.history platform) (P.history platform_now) (KnowsPlaces (P.history platform).present (places_of session.grove)) (λ keys. Unit {0})
     → IsCommitCause P T platform platform_now tape tape_now ledger ledger (commit_counts P T L platform tape ledger) (commit_counts P T L platform_now tape_now ledger) fault
     → Commits P T L platform platform_now tape tape_now ledger ledger session now (Err fault)
@@ -146,6 +155,7 @@ commits_stopped P T L platform platform_now tape tape_now ledger session now fau
       quiet = tt;
       grows = record { rises = adds.head; at_most = within; capacity = adds.capacity; platform_faults = adds.platform_faults; tape_faults = adds.tape_faults; ledger_faults = omega arith };
       unread = adds.reads;
+      changes = λ told. few_of_two _ _ (adds.changes told);
     }
 
 -- ---- a commit whose last step was taken or failed
@@ -154,7 +164,7 @@ commits_stopped P T L platform platform_now tape tape_now ledger session now fau
 pub record IsCommitting {S R W : Type 0} (P : PlatformGhosts S) (T : TapeGhosts R) (L : SinkGhosts W) (platform mid new : S) (tape tape_now : R) (ledger ledger_now : W) (session : Session) (prepared : Prepared) (Was : Type 0) : Type 0 where
   pub readied : IsReadied P.tells (P.history platform) (P.history mid) (T.drawn tape) (T.drawn tape_now) session (P.head platform) (P.head mid) prepared
   pub keeps : KeepsSealed P.tells (T.drawn tape) (T.drawn tape_now) (P.history platform) (P.history mid) session prepared
-  pub adds : OnlyAdds P T platform mid tape tape_now
+  pub adds : OnlyAdds P T 1 platform mid tape tape_now
   pub within : P.head mid ≤ P.head platform + needed_by session
   pub swaps : Swaps P mid new
   pub size : P.tells → length (P.history new).present.recorded ≡ length (P.history mid).present.recorded
@@ -242,6 +252,7 @@ commits_failed P T L platform mid new tape tape_now ledger ledger_now session no
   quiet = tt;
   grows = commit_grows P T L platform mid new tape tape_now ledger ledger_now session prepared Was all;
   unread = λ told. all.swaps.reads told ∙ all.adds.reads told;
+  changes = λ told. sync_and_swap _ _ _ (all.adds.changes told) (all.swaps.changes told);
 }
 
 -- ---- the session after a commit
@@ -319,6 +330,7 @@ commits_done P T L platform mid new tape tape_now ledger ledger_now session now 
           λ k. counts (same k) (all.quiet.1 k) 0 0 (quiet k).ledger;
       grows = commit_grows P T L platform mid new tape tape_now ledger ledger_now session prepared Was all;
       unread = λ told. all.swaps.reads told ∙ all.adds.reads told;
+      changes = λ told. sync_and_swap _ _ _ (all.adds.changes told) (all.swaps.changes told);
     }
 
 pub commits_raised : {S R W : Type 0} (P : PlatformGhosts S) (T : TapeGhosts R) (L : SinkGhosts W) (platform mid new : S) (tape tape_now : R) (ledger ledger_now : W) (session now : Session) (prepared : Prepared) (Was : Type 0) (number : ℕ)

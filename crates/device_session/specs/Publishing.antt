@@ -5,6 +5,7 @@ use Rattle.sdbt_base.specs.Arrays.{Device, Blocks, committed_with}
 use Rattle.sdbt_base.specs.declared.sinks.Sink.{Ghosts as SinkGhosts}
 use Rattle.sdbt_base.specs.declared.tapes.Tape.{Ghosts as TapeGhosts}
 use Rattle.platform.specs.declared.platforms.Platform.{Ghosts as PlatformGhosts}
+use Rattle.platform.specs.Counts.{MayRiseBy}
 use Rattle.platform.specs.Image.{LeavesOnly}
 use Rattle.platform.specs.History.{Turns, CellStays}
 use Rattle.root_codec.specs.RootRecord.{root_bytes}
@@ -106,3 +107,5 @@ pub record Commits {S R W : Type 0} (P : PlatformGhosts S) (T : TapeGhosts R) (L
   pub grows : GrowsBy P T L (needed_by session) platform platform_now tape tape_now ledger ledger_now
   -- no page is read, and the cell isn't looked at
   pub unread : P.tells → P.reads platform_now ≡ P.reads platform
+  -- it syncs once and replaces the root record once, at most
+  pub changes : P.tells → MayRiseBy 2 (P.changes platform) (P.changes platform_now)

@@ -1,6 +1,6 @@
 -- What a look does to a platform beside its purpose.
 use Rattle.std.specs.Prelude.{◌≡◌, ◌≤◌, ◌+◌}
-use Rattle.platform.specs.Counts.{MayRiseByOne}
+use Rattle.platform.specs.Counts.{MayRiseByOne, MayRiseBy}
 use Rattle.platform.specs.History.{Steps}
 use Rattle.platform.specs.declared.platforms.Platform.{Ghosts}
 
@@ -22,6 +22,10 @@ ReadsNothing P old new = (P.reads new ≡ P.reads old) × (P.page_reads new ≡ 
 -- the cell was looked at once at most, and no page read
 abbrev pub MayLook : {S : Type 0} → Ghosts S → S → S → Type 0
 MayLook P old new = MayRiseByOne (P.reads old) (P.reads new) × (P.page_reads new ≡ P.page_reads old)
+
+-- the same, and syncs and changes of the cell were so many at most
+abbrev pub MayLookAndChange : {S : Type 0} → Ghosts S → ℕ → S → S → Type 0
+MayLookAndChange P most old new = MayRiseByOne (P.reads old) (P.reads new) × (P.page_reads new ≡ P.page_reads old) × MayRiseBy most (P.changes old) (P.changes new)
 
 -- a call that looks at the cell alone, and once at most: the image stays, and no page is read or added
 pub record ReadsCell {S : Type 0} (P : Ghosts S) (old new : S) : Type 0 where

@@ -6,6 +6,11 @@ pub record MayRiseByOne (old new : ℕ) : Type 0 where
   pub rises : old ≤ new
   pub by_one : new ≤ old + 1
 
+-- a count rose by so much at most, and it didn't fall
+pub record MayRiseBy (most old new : ℕ) : Type 0 where
+  pub rises : old ≤ new
+  pub at_most : new ≤ old + most
+
 -- a call counts once where it was done, and where it failed once at most
 abbrev pub CountsOnce : {T E : Type 0} → Result T E → ℕ → ℕ → Type 0
 CountsOnce (Ok done) old new = new ≡ old + 1

@@ -4,6 +4,7 @@ use Rattle.sdbt_base.specs.Arrays.{Device, Session as OpenSession, committed, co
 use Rattle.sdbt_base.specs.declared.sinks.Sink.{Ghosts as SinkGhosts}
 use Rattle.sdbt_base.specs.declared.tapes.Tape.{Ghosts as TapeGhosts}
 use Rattle.platform.specs.declared.platforms.Platform.{Ghosts as PlatformGhosts}
+use Rattle.platform.specs.Counts.{MayRiseBy}
 use Rattle.platform.specs.History.{CellStays, During, History, Turns}
 use Rattle.page_store.specs.Keeping.{DrewAll}
 use Rattle.device_terms.specs.Certifying.{PutsSynced}
@@ -53,7 +54,7 @@ LeavesLedger ledger ledger_now (stops.BadRecord addr) = ⊥
 abbrev pub DrewForPages : {S R : Type 0} → PlatformGhosts S → TapeGhosts R → S → S → R → R → Type 0
 DrewForPages P T platform platform_now tape tape_now = (keys : List (List ℕ)) × (P.head platform_now ≡ P.head platform + length keys) × DrewAll (T.drawn tape) keys (T.drawn tape_now)
 
--- what a commit does to a run, whatever its answer: it adds at most the pages that it needs, and reads none; keys are kept, and the ledger gets what belongs to the root records that come into the cell, of one
+-- what a commit does to a run, whatever its answer: it adds at most the pages that it needs, and reads none, and syncs once and replaces the root record once at most; keys are kept, and the ledger gets what belongs to the root records that come into the cell, of one
 -- more entry a part only where no session comes back; a stop at a fault came where the count of that object rose; and one that was answered drew as many keys as it added pages
 pub record CommitGoes {S R W : Type 0} (P : PlatformGhosts S) (T : TapeGhosts R) (L : SinkGhosts W) (platform platform_now : S) (tape tape_now : R) (ledger ledger_now : W) (session : Session) (result : Result Committed DeviceStop) : Type 0 where
   pub back : IfOk result (λ done. ComesBack P platform_now session done.session)
@@ -61,6 +62,7 @@ pub record CommitGoes {S R W : Type 0} (P : PlatformGhosts S) (T : TapeGhosts R)
   pub rises : P.head platform ≤ P.head platform_now
   pub adds : P.head platform_now ≤ P.head platform + needed_by session
   pub unread : P.tells → P.reads platform_now ≡ P.reads platform
+  pub changes : P.tells → MayRiseBy 2 (P.changes platform) (P.changes platform_now)
   pub keeps : KeepsOn P.tells (T.drawn tape) (T.drawn tape_now) (L.written ledger) (L.written ledger_now) (Some session) (P.history platform) (P.history platform_now) (IsOk result)
       (λ keys. IfOk result (λ done. IsListed (Some done.session) (P.history platform_now).present keys))
   pub blame : IsBlamed (counts (P.faults platform) (T.faults tape) 0 0 (L.faults ledger)) (counts (P.faults platform_now) (T.faults tape_now) 0 0 (L.faults ledger_now)) result

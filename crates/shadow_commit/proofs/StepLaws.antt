@@ -4,6 +4,7 @@ use Rattle.std.specs.Prelude.{Result, Ok, Err, IfOk, IsErr, IsErrOf, Contains}
 use Rattle.page_store.specs.declared.refusals.AppendFault.{AppendFault}
 use Rattle.page_store.specs.declared.refusals.AppendFault.TheVariants.{TapeFault, PlatformFault}
 use Rattle.platform.specs.History.{Steps}
+use Rattle.platform.specs.Counts.{CountsOnce, MayRiseBy}
 use Rattle.platform.specs.declared.platforms.Platform.{Ghosts as PlatformGhosts}
 use Rattle.sdbt_base.specs.declared.tapes.Tape.{Ghosts as TapeGhosts}
 use Rattle.platform.proofs.Moments.{During-start, During-step, During-now, During-then, During-weaker}
@@ -213,31 +214,42 @@ abbrev HasCell : Option (List ℕ) → Image → Type 0
 HasCell cell image = image.cell ≡ cell
 
 -- no call yet
-pub beside_start : {S R : Type 0} (P : PlatformGhosts S) (T : TapeGhosts R) (x : S) (y : R) → OnlyAdds P T x x y y
-beside_start P T x y = record {
+pub beside_start : {S R : Type 0} (P : PlatformGhosts S) (T : TapeGhosts R) (syncs : ℕ) (x : S) (y : R) → OnlyAdds P T syncs x x y y
+beside_start P T syncs x y = record {
   cell = λ told. During-start (P.history x) (HasCell (P.history x).present.cell) refl;
   head = omega arith;
   capacity = refl;
   reads = λ told. refl;
+  changes = λ told. record { rises = omega arith; at_most = omega arith };
   platform_faults = omega arith;
   tape_faults = omega arith;
 }
 
+-- a call that was made once counts once at most
+pub counted_once : {T E : Type 0} (result : Result T E) (old new : ℕ) → CountsOnce result old new → MayRiseBy 1 old new
+counted_once (Ok done) old new once = record { rises = omega (arith, once); at_most = omega (arith, once) }
+counted_once (Err fault) old new once = record { rises = once.rises; at_most = once.by_one }
+
+-- a call that doesn't count
+pub counted_not : (most old new : ℕ) → new ≡ old → MayRiseBy most old new
+counted_not most old new same = record { rises = omega (arith, same); at_most = omega (arith, same) }
+
 -- one call of the platform, after perhaps one of the tape
-pub beside_call : {S R : Type 0} (P : PlatformGhosts S) (T : TapeGhosts R) (x x' : S) (y y' : R) → (P.tells → Steps (P.history x) (P.history x')) → (P.tells → (P.history x').present.cell ≡ (P.history x).present.cell) →
-    P.head x ≤ P.head x' → P.capacity x' ≡ P.capacity x → (P.tells → P.reads x' ≡ P.reads x) → P.faults x ≤ P.faults x' → T.faults y ≤ T.faults y' → OnlyAdds P T x x' y y'
-beside_call P T x x' y y' steps cell head capacity reads faults tape = record {
+pub beside_call : {S R : Type 0} (P : PlatformGhosts S) (T : TapeGhosts R) (syncs : ℕ) (x x' : S) (y y' : R) → (P.tells → Steps (P.history x) (P.history x')) → (P.tells → (P.history x').present.cell ≡ (P.history x).present.cell) →
+    P.head x ≤ P.head x' → P.capacity x' ≡ P.capacity x → (P.tells → P.reads x' ≡ P.reads x) → (P.tells → MayRiseBy syncs (P.changes x) (P.changes x')) → P.faults x ≤ P.faults x' → T.faults y ≤ T.faults y' → OnlyAdds P T syncs x x' y y'
+beside_call P T syncs x x' y y' steps cell head capacity reads changes faults tape = record {
   cell = λ told. During-step (P.history x) (P.history x') (HasCell (P.history x).present.cell) (steps told) refl (cell told);
   head = head;
   capacity = capacity;
   reads = reads;
+  changes = changes;
   platform_faults = faults;
   tape_faults = tape;
 }
 
 -- one call after another
-pub beside_then : {S R : Type 0} (P : PlatformGhosts S) (T : TapeGhosts R) (x x' x'' : S) (y y' y'' : R) → OnlyAdds P T x x' y y' → OnlyAdds P T x' x'' y' y'' → OnlyAdds P T x x'' y y''
-beside_then P T x x' x'' y y' y'' one two = record {
+pub beside_then : {S R : Type 0} (P : PlatformGhosts S) (T : TapeGhosts R) (syncs : ℕ) (x x' x'' : S) (y y' y'' : R) → OnlyAdds P T 0 x x' y y' → OnlyAdds P T syncs x' x'' y' y'' → OnlyAdds P T syncs x x'' y y''
+beside_then P T syncs x x' x'' y y' y'' one two = record {
   cell = λ told.
       let cell = During-now (P.history x) (P.history x') (HasCell (P.history x).present.cell) (one.cell told) in
       During-then (P.history x) (P.history x') (P.history x'') (HasCell (P.history x).present.cell) (one.cell told)
@@ -245,9 +257,14 @@ beside_then P T x x' x'' y y' y'' one two = record {
   head = let a = one.head in let b = two.head in omega (arith, a, b);
   capacity = two.capacity ∙ one.capacity;
   reads = λ told. two.reads told ∙ one.reads told;
+  changes = λ told. let a = one.changes told in let b = two.changes told in record { rises = omega (arith, a, b); at_most = omega (arith, a, b) };
   platform_faults = let a = one.platform_faults in let b = two.platform_faults in omega (arith, a, b);
   tape_faults = let a = one.tape_faults in let b = two.tape_faults in omega (arith, a, b);
 }
+
+-- the same, where a sync may come behind it
+pub beside_unsynced : {S R : Type 0} (P : PlatformGhosts S) (T : TapeGhosts R) (syncs : ℕ) (x x' : S) (y y' : R) → OnlyAdds P T 0 x x' y y' → OnlyAdds P T syncs x x' y y'
+beside_unsynced P T syncs x x' y y' one = beside_then P T syncs x x' x' y y' y' one (beside_start P T syncs x' y')
 
 pub if_ok : {A E : Type 0} (Q : A → Type 0) (r : Result A E) → ((x : A) → r ≡ Ok x → Q x) → IfOk r Q
 if_ok Q (Ok x) f = f x refl

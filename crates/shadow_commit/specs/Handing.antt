@@ -6,6 +6,7 @@ use Rattle.sdbt_base.specs.Keys.{bare}
 use Rattle.sdbt_base.specs.declared.tapes.Tape.{Ghosts as TapeGhosts}
 use Rattle.platform.specs.Image.{Image, IsEither, MayHavePage, all_synced}
 use Rattle.platform.specs.History.{CellStays}
+use Rattle.platform.specs.Counts.{MayRiseBy}
 use Rattle.platform.specs.declared.platforms.Platform.{Ghosts as PlatformGhosts}
 use Rattle.page_store.specs.Keeping.{DrewAll}
 use Rattle.page_store.specs.Stands.{Stands}
@@ -40,12 +41,14 @@ pub record StopsFrom (version head : ℕ) (places : List Stub) (tells : Type 0) 
   pub stops : Stops (AreNodesOver version head places) tells old written drawn drawn_now
   pub synced : tells → IsEither written (all_synced written) new
 
--- beside its purpose a call only adds pages: at each moment the cell is the one from before, no page is read, and counts of faults don't fall
-pub record OnlyAdds {S R : Type 0} (P : PlatformGhosts S) (T : TapeGhosts R) (platform platform_now : S) (tape tape_now : R) : Type 0 where
+-- beside its purpose a call only adds pages, and syncs so often at most: at each moment the cell is the one from before, no page is read, and counts of
+-- faults don't fall
+pub record OnlyAdds {S R : Type 0} (P : PlatformGhosts S) (T : TapeGhosts R) (syncs : ℕ) (platform platform_now : S) (tape tape_now : R) : Type 0 where
   pub cell : P.tells → CellStays (P.history platform) (P.history platform_now)
   pub head : P.head platform ≤ P.head platform_now
   pub capacity : P.capacity platform_now ≡ P.capacity platform
   pub reads : P.tells → P.reads platform_now ≡ P.reads platform
+  pub changes : P.tells → MayRiseBy syncs (P.changes platform) (P.changes platform_now)
   pub platform_faults : P.faults platform ≤ P.faults platform_now
   pub tape_faults : T.faults tape ≤ T.faults tape_now
 

@@ -47,7 +47,7 @@ pub fn prepare<P: Platform, T: Tape>(
     ensures keeps { KeepsKeys P.tells (T.drawn tape.old) (T.drawn tape.new) (P.history platform.old) (P.history platform.new)
         (KnowsPlaces (P.history platform.old).present (places_of grove.now)) (λ keys. IfOk result (λ prepared.
         ListsNewTree (P.history platform.old).present (P.history platform.new).present root.now.order (places_of grove.now) mapped prepared.root keys)) }
-    ensures beside { OnlyAdds P.Platform T.Tape platform.old platform.new tape.old tape.new }
+    ensures beside { OnlyAdds P.Platform T.Tape 1 platform.old platform.new tape.old tape.new }
 {
     let needed = grove.grown();
     let head = platform.head();
@@ -95,7 +95,7 @@ fn seal_all<P: Platform, T: Tape>(
     ensures within { (at : CanSealTop (P.head platform.old) (P.capacity platform.old) root.now mapped top.now) → P.head platform.new ≤ P.head platform.old + nodes (suc at.level) top.now }
     ensures stops { (at : CanSealTop (P.head platform.old) (P.capacity platform.old) root.now mapped top.now) → IsErr result →
         StopsFrom root.now.version (P.head platform.old) (stubs (suc at.level) root.now.blocks top.now) P.tells (P.history platform.old).present (P.history platform.new).present (T.drawn tape.old) (T.drawn tape.new) }
-    ensures beside { OnlyAdds P.Platform T.Tape platform.old platform.new tape.old tape.new }
+    ensures beside { OnlyAdds P.Platform T.Tape 1 platform.old platform.new tape.old tape.new }
     ensures platform_cause { TellsOf AppendFault.PlatformFault result (P.faults platform.old) (P.faults platform.new) }
     ensures tape_cause { TellsOf AppendFault.TapeFault result (T.faults tape.old) (T.faults tape.new) }
 {

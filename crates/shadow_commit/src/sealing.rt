@@ -40,7 +40,7 @@ pub(crate) fn seal_twig<P: Platform, T: Tape>(
     ensures within { (at : CanSeal version (P.head platform.old) (P.capacity platform.old) twig.now) → P.head platform.new ≤ P.head platform.old + suc (nodes_below at.level twig.now) }
     ensures stops { (at : CanSeal version (P.head platform.old) (P.capacity platform.old) twig.now) → IsErr result →
         Stops (AreNodesOver version (P.head platform.old) (stubs_below at.level at.high twig.now)) P.tells (P.history platform.old).present (P.history platform.new).present (T.drawn tape.old) (T.drawn tape.new) }
-    ensures beside { OnlyAdds P.Platform T.Tape platform.old platform.new tape.old tape.new }
+    ensures beside { OnlyAdds P.Platform T.Tape 0 platform.old platform.new tape.old tape.new }
     ensures platform_cause { TellsOf AppendFault.PlatformFault result (P.faults platform.old) (P.faults platform.new) }
     ensures tape_cause { TellsOf AppendFault.TapeFault result (T.faults tape.old) (T.faults tape.new) }
     ensures entries { IfOk result (λ _. entries.new.items ≡ entries.old.items) }
@@ -81,7 +81,7 @@ fn seal_child<P: Platform, T: Tape>(
     ensures within { (at : CanSealChild version (P.head platform.old) (P.capacity platform.old) child.now) → P.head platform.new ≤ P.head platform.old + nodes at.level child.now }
     ensures stops { (at : CanSealChild version (P.head platform.old) (P.capacity platform.old) child.now) → IsErr result →
         Stops (AreNodesOver version (P.head platform.old) (stubs at.level at.high child.now)) P.tells (P.history platform.old).present (P.history platform.new).present (T.drawn tape.old) (T.drawn tape.new) }
-    ensures beside { OnlyAdds P.Platform T.Tape platform.old platform.new tape.old tape.new }
+    ensures beside { OnlyAdds P.Platform T.Tape 0 platform.old platform.new tape.old tape.new }
     ensures platform_cause { TellsOf AppendFault.PlatformFault result (P.faults platform.old) (P.faults platform.new) }
     ensures tape_cause { TellsOf AppendFault.TapeFault result (T.faults tape.old) (T.faults tape.new) }
     ensures entries { IfOk result (λ _. entries.new.items ≡ entries.old.items) }

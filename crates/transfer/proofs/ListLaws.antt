@@ -41,6 +41,7 @@ looks_of P platform platform_now only = record {
   time = λ told. one_look (P.history platform) (P.history platform_now) (only.time told) (only.image told);
   head = only.head;
   capacity = only.capacity;
+  changes = only.changes;
   faults = only.faults;
 }
 
@@ -51,6 +52,7 @@ looks_not P platform = record {
   time = λ told. still (P.history platform);
   head = refl;
   capacity = refl;
+  changes = λ told. refl;
   faults = omega arith;
 }
 

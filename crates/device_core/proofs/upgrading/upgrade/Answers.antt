@@ -238,7 +238,7 @@ prepare-requires-clause-room g c =
 pub returns-in_err-root-clause-spends : goal.returns-in_err-root-clause-spends
 returns-in_err-root-clause-spends g c =
     let p = err_from_is_err_and c.from_residual.result c.from_residual.ensures.1 in
-    inl (refl, never_ok c.from_residual.result p.0 p.1, inl (λ told. (c.begin.ensures.reads_cell.reads told, c.begin.ensures.reads_cell.page_reads told)))
+    inl (refl, never_ok c.from_residual.result p.0 p.1, c.begin.ensures.reads_cell.changes, inl (λ told. (c.begin.ensures.reads_cell.reads told, c.begin.ensures.reads_cell.page_reads told)))
 
 pub returns-in_err-prepared-clause-spends : goal.returns-in_err-prepared-clause-spends
 returns-in_err-prepared-clause-spends g c =
@@ -249,6 +249,7 @@ returns-in_err-prepared-clause-spends g c =
     inl (
       refl,
       never_ok c.from_residual-in_err-prepared.result p.0 p.1,
+      λ told. c.prepare.ensures.looks.changes told ∙ cell.changes told,
       inr (
         root,
         c.in_ok-root.ensures.cause.0,
@@ -270,6 +271,9 @@ spent g c = record {
       let twice = c.in_ok-prepared.ensures.reads told in
       let are = subst (λ (i : Image). NodesOf i.readable root twice.nodes) (cell.image told) twice.are in
       (twice.nodes, are, omega (arith, c.in_ok-root.ensures.once told, twice.read, c.rewrite.ensures.beside.reads_most told));
+  changes = λ told.
+      let none = c.rewrite.ensures.beside.changes told ∙ c.prepare.ensures.looks.changes told ∙ c.begin.ensures.reads_cell.changes told in
+      record { rises = omega (arith, none); at_most = omega (arith, none) };
 }
 
 pub returns-in_err-next-clause-spends : goal.returns-in_err-next-clause-spends
@@ -286,7 +290,11 @@ spent_all g c = record {
       let cell = c.begin.ensures.reads_cell in
       let twice = c.in_ok-prepared.ensures.reads told in
       let are = subst (λ (i : Image). NodesOf i.readable root twice.nodes) (cell.image told) twice.are in
-      (twice.nodes, are, omega (arith, c.in_ok-root.ensures.once told, twice.read, c.rewrite.ensures.beside.reads_most told, (c.publish.ensures.reads told).0));
+      (twice.nodes, are, omega (arith, c.in_ok-root.ensures.once told, twice.read, c.rewrite.ensures.beside.reads_most told, (c.publish.ensures.reads told).0.0));
+  changes = λ told.
+      let none = c.rewrite.ensures.beside.changes told ∙ c.prepare.ensures.looks.changes told ∙ c.begin.ensures.reads_cell.changes told in
+      let published = (c.publish.ensures.reads told).1 in
+      record { rises = omega (arith, none, published.rises); at_most = omega (arith, none, published.at_most) };
 }
 
 pub returns-in_err-publish-clause-spends : goal.returns-in_err-publish-clause-spends

@@ -30,6 +30,7 @@ returns-in-Ok-clause-goes g c =
       rises = commits.grows.rises;
       adds = commits.grows.at_most;
       unread = commits.unread;
+      changes = commits.changes;
       keeps = on_commit {X = CommitReply} {Y = CommitFault} _ _ _ _ _ (Some c.args.session) c.args.session _ _ _ (Ok c.in-Ok.reply) _ _ _ refl c.requires.open (λ told. (c.requires.mounted told).cell) commits.discloses commits.certifies
           (commit_behind g.P.Platform g.L.Sink.written _ _ _ _ c.args.session g.met.P.Platform.counts_pages c.requires.open (λ e. (c.in-Ok.ensures.idle e).3) commits.synced) (λ going. going) (λ keys done. done);
       blame = record {
@@ -54,6 +55,7 @@ returns-in-Err-clause-goes g c =
       rises = commits.grows.rises;
       adds = commits.grows.at_most;
       unread = commits.unread;
+      changes = commits.changes;
       keeps = on_commit {X = CommitReply} {Y = CommitFault} _ _ _ _ _ (Some c.args.session) c.args.session _ _ _ (Err c.in-Err.fault) _ _ _ refl c.requires.open (λ told. (c.requires.mounted told).cell) commits.discloses commits.certifies
           (commit_behind g.P.Platform g.L.Sink.written _ _ _ _ c.args.session g.met.P.Platform.counts_pages c.requires.open (λ e. (c.in-Err.ensures.idle e).3) commits.synced) (λ going. going) (λ keys done. done);
       blame = record {

@@ -12,7 +12,7 @@ use Rattle.shadow_commit.proofs.SealLaws.{child_count}
 use Rattle.shadow_commit.specs.Ready.{IsNextRoot}
 use Rattle.shadow_commit.proofs.KeyLaws.{node_keys}
 use Rattle.shadow_commit.proofs.OrderLaws.{node_in_order}
-use Rattle.shadow_commit.proofs.StepLaws.{grown_level, seals_grown, beside_call, beside_then, adds_stops, stops_none, stops_as}
+use Rattle.shadow_commit.proofs.StepLaws.{grown_level, seals_grown, beside_call, beside_then, beside_unsynced, counted_once, adds_stops, stops_none, stops_as}
 use Rattle.shadow_commit.proofs.ReadyLaws.{root_twig, can_root, top_low, stands_with, next_fits, one_more}
 use Rattle.shadow_commit.proofs.preparing.seal_all.Goals as goal
 
@@ -45,6 +45,10 @@ returns-in_err-placed-clause-stops g c at = λ err.
       synced = λ told. inl refl;
     }
 
+pub returns-in_err-placed-clause-beside : goal.returns-in_err-placed-clause-beside
+returns-in_err-placed-clause-beside g c =
+    beside_unsynced g.P.Platform g.T.Tape 1 c.args.platform.now c.seal_twig.new.platform c.args.tape.now c.seal_twig.new.tape c.seal_twig.ensures.beside
+
 pub returns-in_default-sync-clause-within : goal.returns-in_default-sync-clause-within
 returns-in_default-sync-clause-within g c at =
     let head = g.P.Platform.head c.args.platform.now in
@@ -55,8 +59,8 @@ returns-in_default-sync-clause-within g c at =
 pub returns-in_default-sync-clause-beside : goal.returns-in_default-sync-clause-beside
 returns-in_default-sync-clause-beside g c =
     let E = c.sync.ensures in
-    beside_then g.P.Platform g.T.Tape c.args.platform.now c.seal_twig.new.platform c.sync.new.self c.args.tape.now c.seal_twig.new.tape c.seal_twig.new.tape c.seal_twig.ensures.beside
-    (beside_call g.P.Platform g.T.Tape c.seal_twig.new.platform c.sync.new.self c.seal_twig.new.tape c.seal_twig.new.tape E.time E.cell (omega (arith, E.head)) E.capacity (λ told. (E.reads told).0) E.faults (omega arith))
+    beside_then g.P.Platform g.T.Tape 1 c.args.platform.now c.seal_twig.new.platform c.sync.new.self c.args.tape.now c.seal_twig.new.tape c.seal_twig.new.tape c.seal_twig.ensures.beside
+    (beside_call g.P.Platform g.T.Tape 1 c.seal_twig.new.platform c.sync.new.self c.seal_twig.new.tape c.seal_twig.new.tape E.time E.cell (omega (arith, E.head)) E.capacity (λ told. (E.reads told).0) (λ told. counted_once _ _ _ (E.changes told)) E.faults (omega arith))
 
 pub overflow_add-result-2 : goal.overflow_add-result-2
 overflow_add-result-2 g c =
@@ -79,8 +83,8 @@ returns-clause-within g c at =
 pub returns-clause-beside : goal.returns-clause-beside
 returns-clause-beside g c =
     let E = c.sync.ensures in
-    beside_then g.P.Platform g.T.Tape c.args.platform.now c.seal_twig.new.platform c.sync.new.self c.args.tape.now c.seal_twig.new.tape c.seal_twig.new.tape c.seal_twig.ensures.beside
-    (beside_call g.P.Platform g.T.Tape c.seal_twig.new.platform c.sync.new.self c.seal_twig.new.tape c.seal_twig.new.tape E.time E.cell (omega (arith, E.head)) E.capacity (λ told. (E.reads told).0) E.faults (omega arith))
+    beside_then g.P.Platform g.T.Tape 1 c.args.platform.now c.seal_twig.new.platform c.sync.new.self c.args.tape.now c.seal_twig.new.tape c.seal_twig.new.tape c.seal_twig.ensures.beside
+    (beside_call g.P.Platform g.T.Tape 1 c.seal_twig.new.platform c.sync.new.self c.seal_twig.new.tape c.seal_twig.new.tape E.time E.cell (omega (arith, E.head)) E.capacity (λ told. (E.reads told).0) (λ told. counted_once _ _ _ (E.changes told)) E.faults (omega arith))
 
 pub returns-clause-sealed : goal.returns-clause-sealed
 returns-clause-sealed g c at =

@@ -30,7 +30,7 @@ use Rattle.shadow_commit.specs.Handing.{Adds, Stops}
 use Rattle.btree_update.specs.Held.{bound, AreBelow}
 use Rattle.shadow_commit.proofs.SealLaws.{grows_by, keeps_front, entries_are, children_count, each_snoc, node_fits, fits_by, version_is}
 use Rattle.shadow_commit.proofs.CachingLaws.{sealed_then}
-use Rattle.shadow_commit.proofs.StepLaws.{adds_none, adds_as, adds_then, adds_page, grown_at, kept_size, can_below, seals_grown, seals_kept, loop_child, can_child, end_at, beside_start, beside_call, beside_then, fits_as, body_as, adds_stops, stops_as, stops_none, stops_one, named_key, fault_cases, grown_level, level_within}
+use Rattle.shadow_commit.proofs.StepLaws.{adds_none, adds_as, adds_then, adds_page, grown_at, kept_size, can_below, seals_grown, seals_kept, loop_child, can_child, end_at, beside_start, beside_call, beside_then, fits_as, body_as, adds_stops, stops_as, stops_none, stops_one, named_key, fault_cases, grown_level, level_within, counted_not}
 use Rattle.shadow_commit.proofs.sealing.+seal.Goals as goal
 
 pub seal_child-kept_entry-requires-clause-version : goal.seal_child-kept_entry-requires-clause-version
@@ -146,7 +146,7 @@ seal_twig-loop-child-preserved g t c =
       front = keeps_front c.args.entries.now.items c.loop-child.entries.items c.seal_child.new.entries.items c.add.new.entries.items c.in_ok-entry.entry (omega (arith, inv.count)) inv.front c.in_ok-entry.ensures.entries c.add.ensures.items;
       count = omega (arith, inv.count, ap length c.in_ok-entry.ensures.entries, ap length c.add.ensures.items, length-append c.seal_child.new.entries.items (c.in_ok-entry.entry ∷ []));
       room = omega (arith, inv.room, c.seal_child.ensures.room, c.add.ensures.capacity);
-      beside = beside_then g.P.Platform g.T.Tape c.args.platform.now c.loop-child.platform c.seal_child.new.platform c.args.tape.now c.loop-child.tape c.seal_child.new.tape inv.beside c.seal_child.ensures.beside;
+      beside = beside_then g.P.Platform g.T.Tape 0 c.args.platform.now c.loop-child.platform c.seal_child.new.platform c.args.tape.now c.loop-child.tape c.seal_child.new.tape inv.beside c.seal_child.ensures.beside;
       quiet = (c.in_ok-entry.ensures.platform_cause.done ∙ inv.quiet.0, c.in_ok-entry.ensures.tape_cause.done ∙ inv.quiet.1);
     }
 
@@ -250,7 +250,7 @@ seal_twig-returns-clause-within g t c at =
     omega (arith, c.append.ensures.adds.grows.by_one, so_far.head, count, ap (sum_by (nodes at.level)) all)
 
 pub seal_child-returns-in-Kept-clause-beside : goal.seal_child-returns-in-Kept-clause-beside
-seal_child-returns-in-Kept-clause-beside g t c = beside_start g.P.Platform g.T.Tape c.args.platform.now c.args.tape.now
+seal_child-returns-in-Kept-clause-beside g t c = beside_start g.P.Platform g.T.Tape 0 c.args.platform.now c.args.tape.now
 
 pub seal_child-returns-in_err-placed-in-Grown-clause-stops : goal.seal_child-returns-in_err-placed-in-Grown-clause-stops
 seal_child-returns-in_err-placed-in-Grown-clause-stops g t c at = λ err.
@@ -262,19 +262,19 @@ seal_child-returns-in_err-placed-in-Grown-clause-stops g t c at = λ err.
 
 pub seal_twig-returns-in_err-entry-clause-beside : goal.seal_twig-returns-in_err-entry-clause-beside
 seal_twig-returns-in_err-entry-clause-beside g t c =
-    beside_then g.P.Platform g.T.Tape c.args.platform.now c.loop-child.platform c.seal_child.new.platform c.args.tape.now c.loop-child.tape c.seal_child.new.tape c.loop-child.invariant.beside c.seal_child.ensures.beside
+    beside_then g.P.Platform g.T.Tape 0 c.args.platform.now c.loop-child.platform c.seal_child.new.platform c.args.tape.now c.loop-child.tape c.seal_child.new.tape c.loop-child.invariant.beside c.seal_child.ensures.beside
 
 pub seal_twig-returns-in_err-placed-clause-beside : goal.seal_twig-returns-in_err-placed-clause-beside
 seal_twig-returns-in_err-placed-clause-beside g t c =
     let E = c.append.ensures.adds in
-    let last = beside_call g.P.Platform g.T.Tape c.loop-child.platform c.append.new.platform c.loop-child.tape c.append.new.tape E.time E.cell E.grows.rises E.grows.capacity E.reads E.grows.faults E.tape_faults in
-    beside_then g.P.Platform g.T.Tape c.args.platform.now c.loop-child.platform c.append.new.platform c.args.tape.now c.loop-child.tape c.append.new.tape c.loop-child.invariant.beside last
+    let last = beside_call g.P.Platform g.T.Tape 0 c.loop-child.platform c.append.new.platform c.loop-child.tape c.append.new.tape E.time E.cell E.grows.rises E.grows.capacity E.reads (λ told. counted_not 0 _ _ (E.changes told)) E.grows.faults E.tape_faults in
+    beside_then g.P.Platform g.T.Tape 0 c.args.platform.now c.loop-child.platform c.append.new.platform c.args.tape.now c.loop-child.tape c.append.new.tape c.loop-child.invariant.beside last
 
 pub seal_twig-returns-clause-beside : goal.seal_twig-returns-clause-beside
 seal_twig-returns-clause-beside g t c =
     let E = c.append.ensures.adds in
-    let last = beside_call g.P.Platform g.T.Tape c.loop-child.platform c.append.new.platform c.loop-child.tape c.append.new.tape E.time E.cell E.grows.rises E.grows.capacity E.reads E.grows.faults E.tape_faults in
-    beside_then g.P.Platform g.T.Tape c.args.platform.now c.loop-child.platform c.append.new.platform c.args.tape.now c.loop-child.tape c.append.new.tape c.loop-child.invariant.beside last
+    let last = beside_call g.P.Platform g.T.Tape 0 c.loop-child.platform c.append.new.platform c.loop-child.tape c.append.new.tape E.time E.cell E.grows.rises E.grows.capacity E.reads (λ told. counted_not 0 _ _ (E.changes told)) E.grows.faults E.tape_faults in
+    beside_then g.P.Platform g.T.Tape 0 c.args.platform.now c.loop-child.platform c.append.new.platform c.args.tape.now c.loop-child.tape c.append.new.tape c.loop-child.invariant.beside last
 
 pub seal_twig-returns-in_err-entry-clause-stops : goal.seal_twig-returns-in_err-entry-clause-stops
 seal_twig-returns-in_err-entry-clause-stops g t c at = λ err.

@@ -18,7 +18,7 @@ invariant-seal_twig-loop-child g l = record {
   front : take (length l.fn.entries.items) l.entries.items ≡ l.fn.entries.items;
   count : length l.entries.items ≡ length l.fn.entries.items + l.child-index;
   room : vec_capacity l.fn.entries ≤ vec_capacity l.entries;
-  beside : OnlyAdds g.P.Platform g.T.Tape l.fn.platform l.platform l.fn.tape l.tape;
+  beside : OnlyAdds g.P.Platform g.T.Tape 0 l.fn.platform l.platform l.fn.tape l.tape;
   quiet : (g.P.Platform.faults l.platform ≡ g.P.Platform.faults l.fn.platform) × (g.T.Tape.faults l.tape ≡ g.T.Tape.faults l.fn.tape);
 }
 
