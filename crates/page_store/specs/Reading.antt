@@ -4,6 +4,10 @@ use Rattle.platform.specs.Counts.{MayRiseByOne, MayRiseBy}
 use Rattle.platform.specs.History.{Steps}
 use Rattle.platform.specs.declared.platforms.Platform.{Ghosts}
 
+-- only pages were read: the reads of pages rose as all reads did
+abbrev pub ReadsOnlyPages : {S : Type 0} → Ghosts S → S → S → Type 0
+ReadsOnlyPages P old new = P.page_reads new + P.reads old ≡ P.page_reads old + P.reads new
+
 -- a call that reads one page at most: the image stays, and no page is added
 pub record ReadsPage {S : Type 0} (P : Ghosts S) (old new : S) : Type 0 where
   pub image : P.tells → (P.history new).present ≡ (P.history old).present
@@ -13,6 +17,7 @@ pub record ReadsPage {S : Type 0} (P : Ghosts S) (old new : S) : Type 0 where
   pub reads_rise : P.tells → P.reads old ≤ P.reads new
   pub reads_by_one : P.tells → P.reads new ≤ P.reads old + 1
   pub changes : P.tells → P.changes new ≡ P.changes old
+  pub pages : P.tells → ReadsOnlyPages P old new
   pub faults : P.faults old ≤ P.faults new
 
 -- neither a page was read nor the cell looked at
