@@ -26,6 +26,7 @@ looks_still P x = record {
   reads_rise = λ tells. omega arith;
   reads_most = λ tells. omega arith;
   changes = λ tells. refl;
+  pages = λ tells. refl;
   faults = omega arith;
 }
 

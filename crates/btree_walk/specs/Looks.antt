@@ -2,8 +2,9 @@
 use Rattle.std.specs.Prelude.{◌≡◌, ◌≤◌, ◌+◌, ℕ}
 use Rattle.platform.specs.History.{Steps}
 use Rattle.platform.specs.declared.platforms.Platform.{Ghosts}
+use Rattle.page_store.specs.Reading.{ReadsOnlyPages}
 
--- the image stays; so many reads were made, at most
+-- the image stays; so many reads were made, at most, and of pages alone
 pub record Looks {S : Type 0} (P : Ghosts S) (most : ℕ) (old new : S) : Type 0 where
   pub image : P.tells → (P.history new).present ≡ (P.history old).present
   pub time : P.tells → Steps (P.history old) (P.history new)
@@ -12,9 +13,10 @@ pub record Looks {S : Type 0} (P : Ghosts S) (most : ℕ) (old new : S) : Type 0
   pub reads_rise : P.tells → P.reads old ≤ P.reads new
   pub reads_most : P.tells → P.reads new ≤ P.reads old + most
   pub changes : P.tells → P.changes new ≡ P.changes old
+  pub pages : P.tells → ReadsOnlyPages P old new
   pub faults : P.faults old ≤ P.faults new
 
--- the image stays, and nothing is handed over
+-- the image stays, and nothing is handed over; only pages are read
 pub record OnlyLooks {S : Type 0} (P : Ghosts S) (old new : S) : Type 0 where
   pub image : P.tells → (P.history new).present ≡ (P.history old).present
   pub time : P.tells → Steps (P.history old) (P.history new)
@@ -22,4 +24,5 @@ pub record OnlyLooks {S : Type 0} (P : Ghosts S) (old new : S) : Type 0 where
   pub capacity : P.capacity new ≡ P.capacity old
   pub reads_rise : P.tells → P.reads old ≤ P.reads new
   pub changes : P.tells → P.changes new ≡ P.changes old
+  pub pages : P.tells → ReadsOnlyPages P old new
   pub faults : P.faults old ≤ P.faults new
