@@ -113,6 +113,7 @@ grows_start P T most platform tape = record {
   time = (looks_start P platform).time;
   by_one = record { rises = omega arith; by_one = omega arith; capacity = refl; faults = omega arith };
   reads = λ told. omega arith;
+  changes = λ told. refl;
   tape_faults = omega arith;
 }
 
@@ -126,6 +127,7 @@ grows_then P T most platform mid platform_now tape tape_now looks g =
       time = λ told. stays_then (P.history platform) (P.history mid) (P.history platform_now) ((walk_looks P most platform mid looks).time told) (g.time told);
       by_one = record { rises = omega (arith, by.rises, head); by_one = omega (arith, by.by_one, head); capacity = by.capacity ∙ looks.capacity; faults = omega (arith, by.faults, faults) };
       reads = λ told. omega (arith, looks.reads_most told, g.reads told);
+      changes = λ told. g.changes told ∙ looks.changes told;
       tape_faults = g.tape_faults;
     }
 

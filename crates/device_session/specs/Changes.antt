@@ -67,4 +67,5 @@ pub record WriteGrows {S R : Type 0} (P : PlatformGhosts S) (T : TapeGhosts R) (
   pub time : P.tells → CellStays (P.history platform) (P.history platform_now)
   pub by_one : Grows P platform platform_now
   pub reads : P.tells → P.reads platform_now ≤ P.reads platform + most
+  pub changes : P.tells → P.changes platform_now ≡ P.changes platform
   pub tape_faults : T.faults tape ≤ T.faults tape_now

@@ -25,6 +25,7 @@ along_start P platform drawn session there_open = record {
   adds = omega arith;
   needs = omega arith;
   reads = λ told. omega arith;
+  changes = λ told. refl;
   keeps = λ written. on_start P.tells drawn.keys written (Some session) (P.history platform) (Unit {0});
   through = λ told entry at. (entry, at);
   fell = record { platform = omega arith; tape = omega arith; input = omega arith; output = omega arith; ledger = omega arith };
@@ -44,6 +45,7 @@ along_then P some more few others first second third drawn mid drawn_now session
   adds = omega (arith, a.adds, b.adds);
   needs = omega (arith, a.needs, b.needs);
   reads = λ told. omega (arith, a.reads told, b.reads told);
+  changes = λ told. b.changes told ∙ a.changes told;
   keeps = λ written. on_then P.tells drawn.keys mid.keys drawn_now.keys written written written (Some session) (Some between) (P.history first) (P.history second) (P.history third) (Unit {0}) (Unit {0}) (IsListed (Some now) (P.history third).present) tt
       (a.keeps written) (b.keeps written) a.through;
   through = λ told entry at.

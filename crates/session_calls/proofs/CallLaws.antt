@@ -26,6 +26,7 @@ along_more P some more few most platform platform_now drawn drawn_now session no
   adds = omega (arith, a.adds, le);
   needs = omega (arith, a.needs, le);
   reads = λ told. omega (arith, a.reads told, below);
+  changes = a.changes;
   keeps = a.keeps;
   through = a.through;
   fell = a.fell;

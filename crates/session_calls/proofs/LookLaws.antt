@@ -51,6 +51,7 @@ look_along P updates most platform platform_now drawn session now goes_on needs 
   adds = omega (arith, looks.head);
   needs = needs;
   reads = reads;
+  changes = looks.changes;
   keeps = λ entries. on_look P.tells drawn.keys entries (Some session) (P.history platform) (P.history platform_now) (Unit {0}) _ looks.image looks.time (λ told keys kept h. listed told keys h);
   through = λ told entry at. with_array (P.history platform).present session entry at (λ state. (next : State) × IsAt (P.history platform_now).present (Some now) next)
       (λ device array there. leads told device array there);

@@ -130,6 +130,7 @@ write_along P T most platform platform_now tape tape_now session now block bytes
   adds = grows.by_one.by_one;
   needs = omega (arith, needs);
   reads = grows.reads;
+  changes = grows.changes;
   keeps = λ entries. on_update P.tells (T.drawn tape) (T.drawn tape_now) entries (Some session) session (P.history platform) (P.history platform_now) (Unit {0}) _ _ refl keeps grows.time (λ keys done. done);
   through = λ told entry at. with_array (P.history platform).present session entry at (λ state. (next : State) × IsAt (P.history platform_now).present (Some now) next)
       (λ device array there. write_leads (P.history platform_now).present now device array block bytes result (leads told device array there));

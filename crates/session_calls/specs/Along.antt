@@ -21,7 +21,7 @@ abbrev pub drawn_by : {R : Type 0} → TapeGhosts R → R → Drawn
 drawn_by T tape = record { keys = T.drawn tape; faults = T.faults tape }
 
 -- so many updates at most, and calls beside them that make none, which read so many pages at most: the session goes on, open and on the root record in the cell, and its cache has forgotten nothing;
--- the cell stays at each moment; a page is added for each update at most, and a commit needs 41 more at most; keys are kept, and nothing is put to the ledger, whatever it has got. From each state
+-- the cell stays at each moment, and nothing is synced; a page is added for each update at most, and a commit needs 41 more at most; keys are kept, and nothing is put to the ledger, whatever it has got. From each state
 -- that the session and the image stood for they come to one that they stand for now
 pub record Along {S : Type 0} (P : PlatformGhosts S) (updates most : ℕ) (platform platform_now : S) (drawn drawn_now : Drawn) (session now : Session) : Type 0 where
   pub is_open : IsOpen now (P.head platform_now)
@@ -34,6 +34,7 @@ pub record Along {S : Type 0} (P : PlatformGhosts S) (updates most : ℕ) (platf
   pub adds : P.head platform_now ≤ P.head platform + updates
   pub needs : needed_by now ≤ needed_by session + 41 * updates
   pub reads : P.tells → P.reads platform_now ≤ P.reads platform + most
+  pub changes : P.tells → P.changes platform_now ≡ P.changes platform
   pub keeps : (written : Option (List ℕ)) → KeepsOn P.tells drawn.keys drawn_now.keys written written (Some session) (P.history platform) (P.history platform_now) (Unit {0}) (IsListed (Some now) (P.history platform_now).present)
   pub through : P.tells → (entry : State) → IsAt (P.history platform).present (Some session) entry → (next : State) × IsAt (P.history platform_now).present (Some now) next
   pub fell : NoneFell (counts (P.faults platform) drawn.faults 0 0 0) (counts (P.faults platform_now) drawn_now.faults 0 0 0)

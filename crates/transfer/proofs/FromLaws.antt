@@ -51,6 +51,7 @@ look_along P platform platform_now drawn session there_open looks = record {
   adds = omega (arith, looks.head);
   needs = omega arith;
   reads = λ told. omega arith;
+  changes = looks.changes;
   keeps = λ written. on_look P.tells drawn.keys written (Some session) (P.history platform) (P.history platform_now) (Unit {0}) (IsListed (Some session) (P.history platform_now).present) looks.image looks.time
       (λ told keys kept h. listed_image (Some session) (P.history platform).present (P.history platform_now).present keys (looks.image told) h);
   through = λ told entry at. (entry, subst (λ (i : Image). IsAt i (Some session) entry) (sym (looks.image told)) at);

@@ -154,6 +154,7 @@ grows g c = record {
   time = λ told. During-step _ _ (λ image. image.cell ≡ (g.P.Platform.history c.args.platform.now).present.cell) (c.append.ensures.adds.time told) refl (c.append.ensures.adds.cell told);
   by_one = c.append.ensures.adds.grows;
   reads = λ told. omega (arith, c.append.ensures.adds.reads told);
+  changes = c.append.ensures.adds.changes;
   tape_faults = c.append.ensures.adds.tape_faults;
 }
 
