@@ -27,6 +27,7 @@ looks_more P few most old new le l = record {
   reads_rise = l.reads_rise;
   reads_most = λ tells. (let r = l.reads_most tells in omega (arith, le, r));
   changes = l.changes;
+  pages = l.pages;
   faults = l.faults;
 }
 

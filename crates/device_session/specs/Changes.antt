@@ -62,7 +62,7 @@ WriteAdds P T platform platform_now tape tape_now places block (Err (write.BadRe
 WriteAdds P T platform platform_now tape tape_now places block (Err write.Memory) = AddsNothing P T platform platform_now tape tape_now
 WriteAdds P T platform platform_now tape tape_now places block (Err write.TapeFault) = AddsNothing P T platform platform_now tape tape_now
 
--- beside its purpose a write adds a page at most and reads at most so many, the cell is as it was at each moment, and counts of faults don't fall
+-- beside its purpose a write adds a page at most and reads at most so many, the cell is as it was at each moment, nothing is synced, and counts of faults don't fall
 pub record WriteGrows {S R : Type 0} (P : PlatformGhosts S) (T : TapeGhosts R) (most : ℕ) (platform platform_now : S) (tape tape_now : R) : Type 0 where
   pub time : P.tells → CellStays (P.history platform) (P.history platform_now)
   pub by_one : Grows P platform platform_now

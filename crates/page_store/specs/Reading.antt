@@ -1,5 +1,5 @@
 -- What a look does to a platform beside its purpose.
-use Rattle.std.specs.Prelude.{◌≡◌, ◌≤◌, ◌+◌}
+use Rattle.std.specs.Prelude.{◌≡◌, ◌≤◌, ◌+◌, ℕ}
 use Rattle.platform.specs.Counts.{MayRiseByOne, MayRiseBy}
 use Rattle.platform.specs.History.{Steps}
 use Rattle.platform.specs.declared.platforms.Platform.{Ghosts}
@@ -8,7 +8,7 @@ use Rattle.platform.specs.declared.platforms.Platform.{Ghosts}
 abbrev pub ReadsOnlyPages : {S : Type 0} → Ghosts S → S → S → Type 0
 ReadsOnlyPages P old new = P.page_reads new + P.reads old ≡ P.page_reads old + P.reads new
 
--- a call that reads one page at most: the image stays, and no page is added
+-- a call that reads one page at most: the image stays, no page is added, and nothing is synced
 pub record ReadsPage {S : Type 0} (P : Ghosts S) (old new : S) : Type 0 where
   pub image : P.tells → (P.history new).present ≡ (P.history old).present
   pub time : P.tells → Steps (P.history old) (P.history new)
@@ -32,7 +32,7 @@ MayLook P old new = MayRiseByOne (P.reads old) (P.reads new) × (P.page_reads ne
 abbrev pub MayLookAndChange : {S : Type 0} → Ghosts S → ℕ → S → S → Type 0
 MayLookAndChange P most old new = MayRiseByOne (P.reads old) (P.reads new) × (P.page_reads new ≡ P.page_reads old) × MayRiseBy most (P.changes old) (P.changes new)
 
--- a call that looks at the cell alone, and once at most: the image stays, and no page is read or added
+-- a call that looks at the cell alone, and once at most: the image stays, no page is read or added, and nothing is synced
 pub record ReadsCell {S : Type 0} (P : Ghosts S) (old new : S) : Type 0 where
   pub image : P.tells → (P.history new).present ≡ (P.history old).present
   pub time : P.tells → Steps (P.history old) (P.history new)
