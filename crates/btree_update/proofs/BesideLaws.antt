@@ -24,6 +24,10 @@ pub IfOk_all : {T E : Type 0} (P : T → Type 0) (r : Result T E) → ((x : T) �
 IfOk_all P (Ok x) all = all x
 IfOk_all P (Err e) all = tt
 
+pub IfOk_both : {T E : Type 0} (P Q R : T → Type 0) (r : Result T E) → ((x : T) → P x → Q x → R x) → IfOk r P → IfOk r Q → IfOk r R
+IfOk_both P Q R (Ok x) both p q = both x p q
+IfOk_both P Q R (Err e) both p q = tt
+
 abbrev pub want_beside : ℕ → ℕ → ℕ → ℕ → ℕ → Want
 want_beside order level low high addr = record { addr = addr; level = level; low = low; high = high; least = order / 2; most = order }
 

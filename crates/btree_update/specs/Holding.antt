@@ -1,6 +1,6 @@
 -- What is read for an update.
-use Rattle.std.specs.Prelude.{◌≡◌, ℕ, ◌+◌, ◌-◌, ◌<◌, ◌≤◌, List, [], ◌++◌, Option, length, max, vec_capacity}
-use Rattle.std.specs.List.{AllByRecursion}
+use Rattle.std.specs.Prelude.{◌≡◌, ℕ, ◌+◌, ◌-◌, ◌<◌, ◌≤◌, List, [], ◌++◌, Option, is_some, length, max, vec_capacity}
+use Rattle.std.specs.List.{AllByRecursion, count_by}
 use Rattle.std.specs.declared.vec.Vec.{Vec}
 use Rattle.std.specs.declared.alloc.Global.{Global}
 use Rattle.sdbt_base.specs.Keys.{key_size, version_of}
@@ -68,11 +68,17 @@ pub record CanHoldRoot (order level block high head : ℕ) (top : Child) : Type 
   pub size : ℕ
   pub within : AreBelow (bound head size) (stubs level high top)
 
--- so many nodes on the way at most, and so many neighbours beside it, were added to those that were held; and no more pages were read than nodes were added
-pub record HoldsFew {S : Type 0} (P : Ghosts S) (way beside : ℕ) (platform after : S) (held held_now : List Twig) (helpers helpers_now : List (Option Twig)) : Type 0 where
+-- how many neighbours are held: at a place beside the way there may be none
+abbrev pub neighbours_in : List (Option Twig) → ℕ
+neighbours_in helpers = count_by is_some helpers
+
+-- so many nodes on the way at most, and so many places beside it, were added to those that were held; no more was read than nodes were added; and where the block
+-- isn't mapped, nothing is held beside the way for it
+pub record HoldsFew {S : Type 0} (P : Ghosts S) (way beside : ℕ) (platform after : S) (held held_now : List Twig) (helpers helpers_now : List (Option Twig)) (Unmapped : Type 0) : Type 0 where
   pub on_way : length held_now ≤ length held + way
   pub neighbours : length helpers_now ≤ length helpers + beside
-  pub reads : P.tells → P.reads after + (length held + length helpers) ≤ P.reads platform + (length held_now + length helpers_now)
+  pub reads : P.tells → P.reads after + (length held + neighbours_in helpers) ≤ P.reads platform + (length held_now + neighbours_in helpers_now)
+  pub unmapped : Unmapped → helpers_now ≡ helpers
 
 -- so many lists in all at most, or as many as there were: those that are new stand behind the others, each with room for 65 children
 pub record AddsSpares (count : ℕ) (old new : List (Vec Child Global)) : Type 0 where

@@ -1,5 +1,5 @@
 -- What getting ready for an update reads where a cache keeps the way to its block, and what the cache keeps then.
-use Rattle.std.specs.Prelude.{◌≡◌, ℕ, ◌+◌, ◌-◌, ◌/◌, ◌≤◌, List, Option, Result, OnOk, Contains, length, take}
+use Rattle.std.specs.Prelude.{◌≡◌, ℕ, ◌+◌, ◌-◌, ◌/◌, ◌≤◌, List, Option, Result, OnOk, Contains, take}
 use Rattle.platform.specs.declared.platforms.Platform.{Ghosts}
 use Rattle.node_codec.specs.declared.body.Entry.{Entry}
 use Rattle.node_codec.specs.Record.{Record}
@@ -13,6 +13,7 @@ use Rattle.btree_twigs.specs.declared.twigs.Child.{Child}
 use Rattle.btree_twigs.specs.declared.twigs.Twig.{Twig}
 use Rattle.btree_twigs.specs.Stubs.{stubs_below}
 use Rattle.btree_update.specs.Held.{OnWay}
+use Rattle.btree_update.specs.Holding.{neighbours_in}
 use Rattle.btree_update.specs.Finding.{FindsAmong, ChildFinds}
 
 -- the cache keeps each node on the way to the block, from a child over children of this level on, that isn't in memory; the child's own node has so many
@@ -51,14 +52,14 @@ OnceDone P Such platform old told Is =
     P.tells → StandsOver (P.history platform).present.readable old → (places : List Place) → Such (P.history platform).present.readable places → HaveOneKey places → OnOk told (Is (P.history platform).present.readable places)
 
 -- the cache has room for as many nodes as before, and forgets none; where each that it kept is what its page is, so is each that it keeps now, and what is new
--- are nodes of such places over the pages. Where it kept the way, no more pages are read than neighbours are held beside it, behind those that were held; and so many at most, also
+-- are nodes of such places over the pages. Where it kept the way, no more is read than neighbours are held beside it, behind those that were held; and so many at most, also
 -- before a refusal. Once the call is done, what came first in the cache comes behind so many nodes at most, and where there is room for these, the cache keeps the
 -- way: if no page of such places has two keys, since a node gives way to one that is read for its address under another key
 pub record CachesWay {S T E : Type 0} (P : Ghosts S) (Such : List (List ℕ) → List Place → Type 0) (Keeps : List CachedNode → Type 0) (Fills : List Place → List CachedNode → Type 0) (most room : ℕ) (platform after : S) (old new : Cached) (helpers helpers_now : List (Option Twig)) (told : Result T E) : Type 0 where
   pub forgets : ForgetsNone old new
   pub stands : P.tells → StandsOver (P.history platform).present.readable old → StandsOver (P.history platform).present.readable new
   pub among : P.tells → StandsOver (P.history platform).present.readable old → StaysAmong (Such (P.history platform).present.readable) old new
-  pub warm : P.tells → Keeps old.nodes → OnOk told (P.reads after + length helpers ≤ P.reads platform + length helpers_now)
+  pub warm : P.tells → Keeps old.nodes → OnOk told (P.reads after + neighbours_in helpers ≤ P.reads platform + neighbours_in helpers_now)
   pub few : P.tells → Keeps old.nodes → P.reads after ≤ P.reads platform + most
   pub early : OnceDone P Such platform old told (λ pages places. StayEarly pages places room old new)
   pub fills : OnceDone P Such platform old told (λ pages places. room ≤ old.capacity → Fills places new.nodes)

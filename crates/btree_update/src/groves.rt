@@ -1,4 +1,4 @@
-ghost use Rattle.std.specs.Prelude.{◌≡◌, ◌↔◌, ◌⊎◌, ◌<◌, ◌≤◌, ◌+◌, ◌-◌, ◌*◌, ◌^◌, ℕ, List, [], None, suc, vec_len, vec_capacity, IfOk, IfSome, IsErrOf, IsTrue, Bool, Contains, length};
+ghost use Rattle.std.specs.Prelude.{◌≡◌, ◌↔◌, ◌⊎◌, ◌<◌, ◌≤◌, ◌+◌, ◌-◌, ◌*◌, ◌^◌, ℕ, List, [], None, suc, vec_len, vec_capacity, IfOk, IfSome, IsErrOf, IsTrue, IsFalse, Bool, Contains, length};
 ghost use Rattle.root_codec.specs.RootRecord.{FitsRoot};
 ghost use Rattle.node_codec.specs.declared.body.Entry.{Entry};
 ghost use Rattle.node_codec.specs.Record.{DataRecord};
@@ -195,10 +195,10 @@ impl Grove {
         requires sound { IsSound self.old }
         requires to { block < self.old.blocks }
         requires within { (size : ℕ) × AreBelow (bound (P.head platform.old) size) (places_of self.old) }
-        // What was held before is not held any more. A node is read for each that is held now, at most; and no more lists for new nodes are taken than the
-        // update may need.
+        // What was held before is not held any more. A node is read for each that is held now, at most, and none beside the way is held for a block that isn't
+        // mapped; and no more lists for new nodes are taken than the update may need.
         ensures can { IfOk result (λ mapped. CanInsert block self.new × (IsTrue mapped → CanRemove block self.new)
-            × HoldsFew P.Platform self.old.level (self.old.level - 1) platform.old platform.new [] self.new.held.items [] self.new.beside.items
+            × HoldsFew P.Platform self.old.level (self.old.level - 1) platform.old platform.new [] self.new.held.items [] self.new.beside.items (IsFalse mapped)
             × AddsSpares (self.old.level + 1) self.old.spares.items self.new.spares.items) }
         ensures reads { P.tells → StandsOver (P.history platform.old).present.readable reader.old.cache →
             IfOk result (λ mapped. IsReadFrom (P.history platform.old).present.readable block self.new × (IsTrue mapped → IsReadBeside (P.history platform.old).present.readable block self.new)) }
@@ -253,7 +253,9 @@ impl Grove {
         requires small { self.old.level < 255 }
         ensures sound { IsSound self.new }
         ensures top { IsTop self.new.order (self.new.level - 1) self.new.blocks self.new.top }
-        ensures size { (self.new.order ≡ self.old.order) × (self.new.blocks ≡ self.old.blocks) × (self.new.head ≡ self.old.head) }
+        // No memory is taken for what is let go.
+        ensures size { (self.new.order ≡ self.old.order) × (self.new.blocks ≡ self.old.blocks) × (self.new.head ≡ self.old.head)
+            × (vec_capacity self.new.gone ≡ vec_capacity self.old.gone) × (vec_capacity self.new.never ≡ vec_capacity self.old.never) }
         ensures level { MayRise block self.old self.new }
         ensures has { Contains (places_of self.new) (datum block addr key) }
         ensures maps { (pages : List (List ℕ)) (mapped : List Mapped) (content : List ℕ) → IsReadFrom pages block self.old → GroveMaps pages self.old mapped
@@ -293,7 +295,9 @@ impl Grove {
         requires can { CanRemove block self.old }
         ensures sound { IsSound self.new }
         ensures top { IsTop self.new.order (self.new.level - 1) self.new.blocks self.new.top }
-        ensures size { (self.new.order ≡ self.old.order) × (self.new.blocks ≡ self.old.blocks) × (self.new.head ≡ self.old.head) }
+        // No memory is taken for what is let go.
+        ensures size { (self.new.order ≡ self.old.order) × (self.new.blocks ≡ self.old.blocks) × (self.new.head ≡ self.old.head)
+            × (vec_capacity self.new.gone ≡ vec_capacity self.old.gone) × (vec_capacity self.new.never ≡ vec_capacity self.old.never) }
         ensures level { (self.new.level ≡ self.old.level) ⊎ (self.new.level + 1 ≡ self.old.level) }
         ensures maps { (pages : List (List ℕ)) (mapped : List Mapped) → IsReadFrom pages block self.old → IsReadBeside pages block self.old → GroveMaps pages self.old mapped
             → (after : List Mapped) × GroveMaps pages self.new after × MapTakes block mapped after }
@@ -421,7 +425,8 @@ fn address_of(top: &Child, block: u64, high: u64) -> Option<u64>
 fn let_go(head: u64, block: u64, old: Option<u64>, gone: &mut Vec<u64>, never: &mut Vec<Unkept>)
     requires gone_room { vec_len gone.old < vec_capacity gone.old }
     requires never_room { vec_len never.old < vec_capacity never.old }
-    ensures { LetsGo head block old gone.old.items gone.new.items never.old.items never.new.items }
+    ensures lets_go { LetsGo head block old gone.old.items gone.new.items never.old.items never.new.items }
+    ensures capacity { (vec_capacity gone.new ≡ vec_capacity gone.old) × (vec_capacity never.new ≡ vec_capacity never.old) }
 {
     match old {
         None => {}
@@ -429,7 +434,7 @@ fn let_go(head: u64, block: u64, old: Option<u64>, gone: &mut Vec<u64>, never: &
             if addr < head {
                 note(gone, addr);
             } else {
-                let _room = never.push(Unkept { block, addr });
+                never.push_reserved(Unkept { block, addr });
             }
         }
     }

@@ -23,7 +23,8 @@ pub(crate) fn help_below(
     ensures helped { (at : CanHelp level block beside.old.items twig.old)
         → HelpedOut at.order level at.least at.low at.high block at.loses twig.old twig.new beside.old.items gone.old.items gone.new.items }
     ensures room { vec_len gone.new + vec_len beside.new ≤ vec_capacity gone.new }
-    ensures spare { vec_len gone.new + vec_len beside.new + vec_capacity gone.old ≤ vec_len gone.old + vec_len beside.old + vec_capacity gone.new }
+    ensures spare { vec_len gone.new + vec_len beside.new ≤ vec_len gone.old + vec_len beside.old }
+    ensures capacity { vec_capacity gone.new ≡ vec_capacity gone.old }
 {
     if level == 0 {
         return;
@@ -50,7 +51,8 @@ pub(crate) fn help_way(
     ensures helped { (at : CanHelpWay level block beside.old.items child.old)
         → HelpedWay at.order at.below at.high block at.loses child.old child.new beside.old.items gone.old.items gone.new.items }
     ensures room { vec_len gone.new + vec_len beside.new ≤ vec_capacity gone.new }
-    ensures spare { vec_len gone.new + vec_len beside.new + vec_capacity gone.old ≤ vec_len gone.old + vec_len beside.old + vec_capacity gone.new }
+    ensures spare { vec_len gone.new + vec_len beside.new ≤ vec_len gone.old + vec_len beside.old }
+    ensures capacity { vec_capacity gone.new ≡ vec_capacity gone.old }
 {
     match child {
         Child::Kept { .. } => {}
@@ -70,7 +72,8 @@ pub(crate) fn help_root(
     requires room { vec_len gone.old + vec_len beside.old ≤ vec_capacity gone.old }
     ensures helped { (at : CanHelpRoot level block beside.old.items top.old)
         → HelpedRoot at.order at.below at.high block at.loses top.old top.new beside.old.items gone.old.items gone.new.items }
-    ensures spare { vec_len gone.new + vec_len beside.new + vec_capacity gone.old ≤ vec_len gone.old + vec_len beside.old + vec_capacity gone.new }
+    ensures spare { vec_len gone.new + vec_len beside.new ≤ vec_len gone.old + vec_len beside.old }
+    ensures capacity { vec_capacity gone.new ≡ vec_capacity gone.old }
 {
     match top {
         Child::Kept { .. } => {}
@@ -86,7 +89,8 @@ fn take_help(twig: &mut Twig, at: usize, beside: &mut Vec<Option<Twig>>, gone: &
         → (beside.new.items ≡ rest) × IsHelpTaken at one twig.old twig.new gone.old.items gone.new.items }
     ensures wide { length (children_of twig.new) ≡ length (children_of twig.old) }
     ensures room { vec_len gone.new + vec_len beside.new ≤ vec_capacity gone.new }
-    ensures spare { vec_len gone.new + vec_len beside.new + vec_capacity gone.old ≤ vec_len gone.old + vec_len beside.old + vec_capacity gone.new }
+    ensures spare { vec_len gone.new + vec_len beside.new ≤ vec_len gone.old + vec_len beside.old }
+    ensures capacity { vec_capacity gone.new ≡ vec_capacity gone.old }
 {
     match beside.pop() {
         None => {}
@@ -103,7 +107,7 @@ fn put_help(child: &mut Child, node: Twig, gone: &mut Vec<u64>)
     requires { vec_len gone.old < vec_capacity gone.old }
     ensures put { IsPutBy (out-Child child.old) child.new node gone.old.items gone.new.items }
     ensures room { vec_len gone.new ≤ vec_len gone.old + 1 }
-    ensures capacity { vec_capacity gone.old ≤ vec_capacity gone.new }
+    ensures capacity { vec_capacity gone.new ≡ vec_capacity gone.old }
 {
     let low = low_of(child);
     if let Some(addr) = addr_of(child) {

@@ -1,5 +1,6 @@
 ghost use Rattle.std.specs.Prelude.{◌≡◌, ◌<◌, ◌≤◌, ◌+◌, ◌-◌, ◌*◌, length, ℕ, List, [], ◌∷◌, ◌++◌, IfOk, IsErrOf, take};
 ghost use Rattle.btree_update.specs.declared.refusals.ReadyRefusal.{ReadyRefusal};
+ghost use Rattle.btree_update.specs.declared.siblings.Left.TheVariants.{Unmapped};
 ghost use Rattle.sdbt_base.specs.Faults.{TellsOf};
 ghost use Rattle.btree_walk.specs.Looks.{Looks};
 ghost use Rattle.btree_walk.specs.Sights.{StandsOver};
@@ -44,8 +45,8 @@ pub(crate) fn hold_way<P: Platform>(
     beside: &mut Vec<Option<Twig>>,
 ) -> Result<Left, ReadyRefusal>
     requires can { CanHold order least level block high (P.head platform.old) child.now }
-    ensures at_hand { IfOk result (λ _. HeldFrom AnyRead order least block (level - 1) high child.now held.new.items
-        × HoldsFew P.Platform level (level - 1) platform.old platform.new held.old.items held.new.items beside.old.items beside.new.items) }
+    ensures at_hand { IfOk result (λ left. HeldFrom AnyRead order least block (level - 1) high child.now held.new.items
+        × HoldsFew P.Platform level (level - 1) platform.old platform.new held.old.items held.new.items beside.old.items beside.new.items (left ≡ Unmapped)) }
     ensures reads { P.tells → StandsOver (P.history platform.old).present.readable reader.old.cache →
         IfOk result (λ _. HeldFrom (IsReadAs (P.history platform.old).present.readable order) order least block (level - 1) high child.now held.new.items) }
     ensures helps { IfOk result (LeftOf AnyRead order block (level - 1) high child.now held.new.items beside.new.items) }
@@ -121,8 +122,8 @@ pub(crate) fn hold_below<P: Platform>(
     beside: &mut Vec<Option<Twig>>,
 ) -> Result<Left, ReadyRefusal>
     requires can { CanHoldBelow order level block high (P.head platform.old) twig.now }
-    ensures at_hand { IfOk result (λ _. OnWay block (λ end c. HeldFor AnyRead order block level end c held.new.items) high twig.now
-        × HoldsFew P.Platform level level platform.old platform.new held.old.items held.new.items beside.old.items beside.new.items) }
+    ensures at_hand { IfOk result (λ left. OnWay block (λ end c. HeldFor AnyRead order block level end c held.new.items) high twig.now
+        × HoldsFew P.Platform level level platform.old platform.new held.old.items held.new.items beside.old.items beside.new.items (left ≡ Unmapped)) }
     ensures reads { P.tells → StandsOver (P.history platform.old).present.readable reader.old.cache →
         IfOk result (λ _. OnWay block (λ end c. HeldFor (IsReadAs (P.history platform.old).present.readable order) order block level end c held.new.items) high twig.now) }
     ensures helps { IfOk result (IsLeft (λ loses. HelpsBelow AnyRead order block level high twig.now held.new.items beside.new.items loses) order (length (children_of twig.now))) }

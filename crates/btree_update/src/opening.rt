@@ -23,7 +23,8 @@ pub fn open_way(child: &mut Child, level: u8, block: u64, held: &mut Vec<Twig>, 
         → HeldFor (IsReadAs pages at.order) at.order block level at.high child.old held.old.items
         → GivesChild pages at.order (Fitting pages (want_of at.order) (HasWay block)) level at.high child.old child.new gone.old.items gone.new.items }
     ensures room { vec_len gone.new + vec_len held.new ≤ vec_capacity gone.new }
-    ensures spare { vec_len gone.new + vec_len held.new + vec_capacity gone.old ≤ vec_len gone.old + vec_len held.old + vec_capacity gone.new }
+    ensures spare { vec_len gone.new + vec_len held.new ≤ vec_len gone.old + vec_len held.old }
+    ensures capacity { vec_capacity gone.new ≡ vec_capacity gone.old }
     ensures below { (most : Bound) (at : CanOpen level block held.old.items child.old) → AreBelow most (stubs level at.high child.old) → AreBelow most (stubs level at.high child.new) }
     ensures helps { (at : CanOpen level block held.old.items child.old) (source : Source) (width : ℕ) (beside : List (Option Twig)) (loses : ℕ) → HelpsWide (ReadOver source at.order) at.order block (level - 1) at.high width child.old held.old.items beside loses
         → HelpsWide (ReadOver source at.order) at.order block (level - 1) at.high width child.new held.new.items beside loses }
@@ -55,7 +56,8 @@ pub(crate) fn open_below(
         → OnWay block (λ high c. HeldFor (IsReadAs pages at.order) at.order block level high c held.old.items) at.high twig.old
         → GivesBelow pages at.order (Fitting pages (want_of at.order) (HasWay block)) level at.high twig.old twig.new gone.old.items gone.new.items }
     ensures room { vec_len gone.new + vec_len held.new ≤ vec_capacity gone.new }
-    ensures spare { vec_len gone.new + vec_len held.new + vec_capacity gone.old ≤ vec_len gone.old + vec_len held.old + vec_capacity gone.new }
+    ensures spare { vec_len gone.new + vec_len held.new ≤ vec_len gone.old + vec_len held.old }
+    ensures capacity { vec_capacity gone.new ≡ vec_capacity gone.old }
     ensures below { (most : Bound) (at : CanOpenBelow level block held.old.items twig.old) → AreBelow most (stubs_below level at.high twig.old) → AreBelow most (stubs_below level at.high twig.new) }
     ensures helps { (at : CanOpenBelow level block held.old.items twig.old) (source : Source) (beside : List (Option Twig)) (loses : ℕ) → HelpsBelow (ReadOver source at.order) at.order block level at.high twig.old held.old.items beside loses
         → HelpsBelow (ReadOver source at.order) at.order block level at.high twig.new held.new.items beside loses }
@@ -87,7 +89,8 @@ pub(crate) fn open_root(
         → HeldRoot (IsReadAs pages at.order) at.order block at.below at.high top.old held.old.items
         → (mapped : List Mapped) → RootMaps pages at.order at.below at.high top.old mapped → Maps pages at.order (stubs level at.high top.new) mapped }
     ensures room { vec_len gone.new + vec_len held.new ≤ vec_capacity gone.new }
-    ensures spare { vec_len gone.new + vec_len held.new + vec_capacity gone.old ≤ vec_len gone.old + vec_len held.old + vec_capacity gone.new }
+    ensures spare { vec_len gone.new + vec_len held.new ≤ vec_len gone.old + vec_len held.old }
+    ensures capacity { vec_capacity gone.new ≡ vec_capacity gone.old }
     ensures below { (most : Bound) (at : CanOpenRoot level block held.old.items top.old) → AreBelow most (stubs level at.high top.old) → AreBelow most (stubs level at.high top.new) }
     ensures helps { (at : CanOpenRoot level block held.old.items top.old) (source : Source) (beside : List (Option Twig)) (loses : ℕ) → HelpsFrom (ReadOver source at.order) at.order block at.below at.high top.old held.old.items beside loses
         → HelpsFrom (ReadOver source at.order) at.order block at.below at.high top.new held.new.items beside loses }
@@ -107,7 +110,8 @@ pub(crate) fn take_held(child: &mut Child, held: &mut Vec<Twig>, gone: &mut Vec<
     ensures taken { IsTakenUp (out-Child child.old) child.new held.old.items held.new.items }
     ensures noted { IsNoted (out-Child child.old) gone.old.items gone.new.items }
     ensures room { vec_len gone.new + vec_len held.new ≤ vec_capacity gone.new }
-    ensures spare { vec_len gone.new + vec_len held.new + vec_capacity gone.old ≤ vec_len gone.old + vec_len held.old + vec_capacity gone.new }
+    ensures spare { vec_len gone.new + vec_len held.new ≤ vec_len gone.old + vec_len held.old }
+    ensures capacity { vec_capacity gone.new ≡ vec_capacity gone.old }
 {
     let low = low_of(child);
     if let Some(addr) = addr_of(child) {
@@ -132,7 +136,7 @@ fn take_up(child: &mut Child, low: u64, held: &mut Vec<Twig>)
 pub(crate) fn note(gone: &mut Vec<u64>, addr: u64)
     requires { vec_len gone.old < vec_capacity gone.old }
     ensures items { gone.new.items ≡ gone.old.items ++ addr ∷ [] }
-    ensures capacity { vec_capacity gone.old ≤ vec_capacity gone.new }
+    ensures capacity { vec_capacity gone.new ≡ vec_capacity gone.old }
 {
-    let _room = gone.push(addr);
+    gone.push_reserved(addr);
 }

@@ -11,7 +11,7 @@ ghost use Rattle.btree_walk.specs.Sights.{StandsOver};
 ghost use Rattle.btree_update.specs.Among.{HaveNodes, CachesAmong};
 ghost use Rattle.btree_update.specs.Warm.{StayEarly, OnceDone};
 ghost use Rattle.btree_update.specs.Held.{AnyRead, IsReadAs};
-ghost use Rattle.btree_update.specs.Holding.{CanHoldBelow, HoldsFew};
+ghost use Rattle.btree_update.specs.Holding.{CanHoldBelow, HoldsFew, neighbours_in};
 ghost use Rattle.btree_update.specs.Wrong.{IsWrongBeside, IsWrongChild};
 ghost use Rattle.btree_update.specs.Beside.{CanRead, LendsFrom, HoldsBeside, IsAfter, loses_for};
 
@@ -69,7 +69,7 @@ pub(crate) fn hold_beside<P: Platform>(
     ensures bad { P.tells → StandsOver (P.history platform.old).present.readable reader.old.cache →
         (front : List Child) (c : Child) (back : List Child) → children_of twig.now ≡ front ++ c ∷ back → length front + 1 ≡ at → (addr : ℕ) → IsErrOf result (ReadyRefusal.BadRecord addr)
         → IsWrongBeside low_in (IsWrongChild (P.history platform.old).present.readable order addr level) high front c back }
-    ensures few { IfOk result (λ _. HoldsFew P.Platform 0 1 platform.old platform.new [] [] beside.old.items beside.new.items) }
+    ensures few { IfOk result (λ _. HoldsFew P.Platform 0 1 platform.old platform.new [] [] beside.old.items beside.new.items (left ≡ Unmapped)) }
     ensures caches { CachesAmong P.Platform (λ pages. HaveNodes pages (stubs_below level high twig.now)) platform.old reader.old.cache reader.new.cache }
     ensures early { OnceDone P.Platform (λ pages. HaveNodes pages (stubs_below level high twig.now)) platform.old reader.old.cache result (λ pages places. StayEarly pages places 1 reader.old.cache reader.new.cache) }
     ensures looks { Looks P.Platform 1 platform.old platform.new }
@@ -167,6 +167,8 @@ fn read_help<P: Platform>(
         IfOk result (λ h. LendsFrom (IsReadAs (P.history platform.old).present.readable order) order (level - 1) (loses_for h.lends) high (out-Child child.now) h.node) }
     ensures bad { P.tells → StandsOver (P.history platform.old).present.readable reader.old.cache → (addr : ℕ) → IsErrOf result (ReadyRefusal.BadRecord addr) →
         IsWrongChild (P.history platform.old).present.readable order addr level high child.now }
+    // Only for a node that is held something is read.
+    ensures few { IfOk result (λ h. P.tells → P.reads platform.new ≤ P.reads platform.old + neighbours_in (h.node ∷ [])) }
     ensures caches { CachesAmong P.Platform (λ pages. HaveNodes pages (stubs level high child.now)) platform.old reader.old.cache reader.new.cache }
     ensures early { OnceDone P.Platform (λ pages. HaveNodes pages (stubs level high child.now)) platform.old reader.old.cache result (λ pages places. StayEarly pages places 1 reader.old.cache reader.new.cache) }
     ensures looks { Looks P.Platform 1 platform.old platform.new }

@@ -1,6 +1,6 @@
 use Rattle.std.proofs.Common.{length, ◌+◌, ◌≡◌, ℕ, suc, ◌<◌, ◌-◌, ◌/◌, ◌^◌, List, take, drop, sym, ap, subst, ◌∙◌, rules, arith}
 use Rattle.btree_walk.proofs.OnLaws.{IfOk_map}
-use Rattle.btree_update.proofs.BesideLaws.{IfOk_all, has_record, leaf_left, left_at, left_grown, left_kept}
+use Rattle.btree_update.proofs.BesideLaws.{IfOk_all, IfOk_both, has_record, leaf_left, left_at, left_grown, left_kept}
 use Rattle.btree_update.specs.Beside.{LeftOf, IsLeft, HelpsBelow, HoldsBeside}
 use Rattle.std.proofs.lemmas.List.{length-take-le}
 use Rattle.btree_twigs.specs.declared.twigs.Child.{Child}
@@ -15,7 +15,8 @@ use Rattle.btree_update.specs.Holding.{CanHold, CanHoldBelow, IsNodeFor, IsNodeO
 use Rattle.btree_update.specs.Held.{bound, AreBelow}
 use Rattle.btree_update.proofs.OpenLaws.{IsOnWay, on_way, child_is, has_least}
 use Rattle.btree_update.proofs.GroveLaws.{above_it}
-use Rattle.btree_update.proofs.FewLaws.{few_none, few_more, few_read, few_beside}
+use Rattle.btree_update.proofs.FewLaws.{few_none, few_more, few_read, few_beside, unmapped_below}
+use Rattle.btree_update.specs.declared.siblings.Left.TheVariants.{Unmapped}
 use Rattle.btree_update.proofs.HoldLaws.{no_way, leaf_way, one_way, below_child, read_as, way_grown, held_grown, way_lt, way_read, way_held, held_for}
 use Rattle.btree_update.specs.Wrong.{ComesToWrong, Here, WrongOnWay, WrongUnder, WrongFrom}
 use Rattle.btree_update.specs.declared.refusals.ReadyRefusal.TheVariants.{BadRecord}
@@ -66,7 +67,7 @@ hold_below-returns-then-at-eq0-clause-at_hand g t c =
     let at = c.requires.can in (
       no_way (λ end d. HeldFor AnyRead c.args.order c.args.block c.args.level end d c.args.held.now.items) c.args.order c.args.level at.least at.low c.args.high c.args.block c.args.twig.now at.shaped
           (nothing_before c.args.block c.args.high c.place-at.result _ (children_of c.args.twig.now) c.deref.ensures.value c.if-at-eq0.true c.place-at.ensures.after at.to),
-      few_none g.P.Platform c.args.level c.args.level c.args.platform.now c.args.held.now.items c.args.beside.now.items,
+      few_none g.P.Platform c.args.level c.args.level c.args.platform.now c.args.held.now.items c.args.beside.now.items _,
     )
 
 pub hold_below-returns-then-at-eq0-clause-reads : goal.hold_below-returns-then-at-eq0-clause-reads
@@ -78,7 +79,7 @@ hold_below-returns-then-at-eq0-clause-reads g t c = λ tells stands.
 pub hold_below-returns-then-level-eq0-clause-at_hand : goal.hold_below-returns-then-level-eq0-clause-at_hand
 hold_below-returns-then-level-eq0-clause-at_hand g t c = (
   leaf_way AnyRead c.args.order c.args.block c.args.level c.args.high c.args.twig.now c.args.held.now.items c.if-level-eq0.true,
-  few_none g.P.Platform c.args.level c.args.level c.args.platform.now c.args.held.now.items c.args.beside.now.items,
+  few_none g.P.Platform c.args.level c.args.level c.args.platform.now c.args.held.now.items c.args.beside.now.items _,
 )
 
 pub hold_below-returns-then-level-eq0-clause-reads : goal.hold_below-returns-then-level-eq0-clause-reads
@@ -119,6 +120,9 @@ hold_below-hold_way-requires g t c κs within =
       ),
     )
 
+before_is : (i n : ℕ) (cs : List Child) → i < length cs → suc i ≡ n → length (take i cs) + 1 ≡ n
+before_is i n cs lt is = omega (arith, length-take-le i cs (omega (arith, lt)), is)
+
 pub hold_below-returns-clause-at_hand : goal.hold_below-returns-clause-at_hand
 hold_below-returns-clause-at_hand g t c =
     let at = c.requires.can in
@@ -127,15 +131,18 @@ hold_below-returns-clause-at_hand g t c =
     let e = end_is c.args.high c.place-at.result w.at c.end_of-end.result c.deref-2.result.now (children_of c.args.twig.now) c.deref-2.ensures.value w.at_is c.end_of-end.ensures in
     let held = c.in_ok-left.ensures.at_hand in
     let deep : c.args.level ≡ suc (c.args.level - 1) = above c.args.level c.if-level-eq0.false in
-    IfOk_map _ _ c.hold_beside.result
-    (λ b few. (
+    let cs = children_of c.args.twig.now in
+    IfOk_both _ _ _ c.hold_beside.result
+    (λ b few helps. (
       one_way (λ end d. HeldFor AnyRead c.args.order c.args.block c.args.level end d c.hold_way.new.held.items) c.args.order c.args.level at.least at.low c.args.high c.args.block c.place-at.result 0 c.args.twig.now c.index-child.result.now at.shaped w
           (subst (λ m. HeldFor AnyRead c.args.order c.args.block c.args.level m c.index-child.result.now c.hold_way.new.held.items) e
           (held_for AnyRead c.args.order c.args.block c.args.level (c.args.level - 1) c.end_of-end.result c.index-child.result.now c.hold_way.new.held.items deep held.0)),
       few_beside g.P.Platform c.args.level (c.args.level - 1) c.args.level c.args.platform.now c.hold_way.new.platform c.hold_beside.new.platform c.args.held.now.items c.hold_way.new.held.items c.args.beside.now.items c.hold_way.new.beside.items
-          c.hold_beside.new.beside.items held.1 few (omega (arith, deep)),
+          c.hold_beside.new.beside.items (c.in_ok-left.left ≡ Unmapped) (b ≡ Unmapped)
+          (unmapped_below AnyRead c.args.order (c.args.level - 1) (length cs) c.args.high (take w.at cs) c.index-child.result.now (drop (suc w.at) cs) c.hold_way.new.beside.items c.hold_beside.new.beside.items c.in_ok-left.left b helps)
+          held.1 few (omega (arith, deep)),
     ))
-    c.hold_beside.ensures.few
+    c.hold_beside.ensures.few (c.hold_beside.ensures.helps (take w.at cs) c.index-child.result.now (drop (suc w.at) cs) w.split (before_is w.at c.place-at.result cs w.within w.at_is))
 
 pub hold_below-returns-clause-reads : goal.hold_below-returns-clause-reads
 hold_below-returns-clause-reads g t c = λ tells stands.
@@ -148,9 +155,6 @@ hold_below-returns-clause-reads g t c = λ tells stands.
     (λ b. one_way (λ end d. HeldFor (IsReadAs pages c.args.order) c.args.order c.args.block c.args.level end d c.hold_way.new.held.items) c.args.order c.args.level at.least at.low c.args.high c.args.block c.place-at.result 0 c.args.twig.now c.index-child.result.now at.shaped w
     (subst (λ m. HeldFor (IsReadAs pages c.args.order) c.args.order c.args.block c.args.level m c.index-child.result.now c.hold_way.new.held.items) e
     (held_for (IsReadAs pages c.args.order) c.args.order c.args.block c.args.level (c.args.level - 1) c.end_of-end.result c.index-child.result.now c.hold_way.new.held.items (above c.args.level c.if-level-eq0.false) (c.in_ok-left.ensures.reads tells stands)))))
-
-before_is : (i n : ℕ) (cs : List Child) → i < length cs → suc i ≡ n → length (take i cs) + 1 ≡ n
-before_is i n cs lt is = omega (arith, length-take-le i cs (omega (arith, lt)), is)
 
 pub hold_below-returns-in_err-left-clause-bad : goal.hold_below-returns-in_err-left-clause-bad
 hold_below-returns-in_err-left-clause-bad g t c =
@@ -288,7 +292,7 @@ hold_way-returns-in-Grown-clause-at_hand g t c =
     (λ b h. (
       subst (λ x. HeldFrom AnyRead c.args.order c.args.least c.args.block (c.args.level - 1) c.args.high x c.hold_below.new.held.items) (sym c.in-Grown.is)
           (held_grown AnyRead c.args.order c.args.least c.args.block (c.args.level - 1) c.args.high c.in-Grown.low c.in-Grown.twig c.hold_below.new.held.items h.0),
-      few_more g.P.Platform (c.args.level - 1) c.args.level (c.args.level - 1) c.args.platform.now c.hold_below.new.platform c.args.held.now.items c.hold_below.new.held.items c.args.beside.now.items c.hold_below.new.beside.items (omega arith) h.1,
+      few_more g.P.Platform (c.args.level - 1) c.args.level (c.args.level - 1) c.args.platform.now c.hold_below.new.platform c.args.held.now.items c.hold_below.new.held.items c.args.beside.now.items c.hold_below.new.beside.items _ (omega arith) h.1,
     ))
     c.hold_below.ensures.at_hand
 
@@ -307,7 +311,7 @@ hold_way-returns-in_ok-hold-in-Kept-clause-at_hand g t c =
     AnyRead c.hold_below-in-Kept.new.held.items c.hold.new.held.items c.in_ok-hold-in-Kept.ensures.held tt c.in_ok-left-in-Kept.ensures.at_hand.0 in (
       subst (λ x. HeldFrom AnyRead c.args.order c.args.least c.args.block (c.args.level - 1) c.args.high x c.hold.new.held.items) (sym c.in-Kept.is) h,
       few_read g.P.Platform (c.args.level - 1) c.args.level (c.args.level - 1) c.args.platform.now c.read_node.new.platform c.hold_below-in-Kept.new.platform c.args.held.now.items c.hold_below-in-Kept.new.held.items c.hold.new.held.items c.args.beside.now.items
-          c.hold_below-in-Kept.new.beside.items c.in_ok-twig-in-Kept.twig c.in_ok-left-in-Kept.ensures.at_hand.1 c.in_ok-twig-in-Kept.ensures.looks.reads_most c.in_ok-hold-in-Kept.ensures.held (omega (arith, c.requires.can.one)),
+          c.hold_below-in-Kept.new.beside.items c.in_ok-twig-in-Kept.twig _ c.in_ok-left-in-Kept.ensures.at_hand.1 c.in_ok-twig-in-Kept.ensures.looks.reads_most c.in_ok-hold-in-Kept.ensures.held (omega (arith, c.requires.can.one)),
     )
 
 pub hold_way-returns-in_ok-hold-in-Kept-clause-reads : goal.hold_way-returns-in_ok-hold-in-Kept-clause-reads

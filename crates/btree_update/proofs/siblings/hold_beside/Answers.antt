@@ -138,14 +138,14 @@ returns-in_ok-keep-in-Short-clause-caches g c =
 -- ---- how many
 
 pub returns-in-Unmapped-clause-few : goal.returns-in-Unmapped-clause-few
-returns-in-Unmapped-clause-few g c = few_none g.P.Platform 0 1 c.args.platform.now [] c.args.beside.now.items
+returns-in-Unmapped-clause-few g c = few_none g.P.Platform 0 1 c.args.platform.now [] c.args.beside.now.items _
 
 pub returns-in_ok-keep-in-Enough-clause-few : goal.returns-in_ok-keep-in-Enough-clause-few
-returns-in_ok-keep-in-Enough-clause-few g c = few_one g.P.Platform c.args.platform.now c.args.platform.now c.args.beside.now.items c.keep.new.beside.items None c.in_ok-keep-in-Enough.ensures.kept (λ told. omega arith)
+returns-in_ok-keep-in-Enough-clause-few g c = few_one g.P.Platform c.args.platform.now c.args.platform.now c.args.beside.now.items c.keep.new.beside.items None _ c.in_ok-keep-in-Enough.ensures.kept (λ told. omega arith) (λ none. (let is = c.in-Enough.is in absurd cc))
 
 pub returns-in_ok-keep-in-Short-clause-few : goal.returns-in_ok-keep-in-Short-clause-few
 returns-in_ok-keep-in-Short-clause-few g c =
-    few_one g.P.Platform c.args.platform.now c.read_help.new.platform c.args.beside.now.items c.keep-in-Short.new.beside.items c.in_ok-help-in-Short.help.node c.in_ok-keep-in-Short.ensures.kept c.in_ok-help-in-Short.ensures.looks.reads_most
+    few_one g.P.Platform c.args.platform.now c.read_help.new.platform c.args.beside.now.items c.keep-in-Short.new.beside.items c.in_ok-help-in-Short.help.node _ c.in_ok-keep-in-Short.ensures.kept c.in_ok-help-in-Short.ensures.few (λ none. (let is = c.in-Short.is in absurd cc))
 
 -- ---- what stays cached
 

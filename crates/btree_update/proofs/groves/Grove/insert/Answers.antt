@@ -48,7 +48,7 @@ one_less : (a b : ℕ) → a ≡ suc b → a - 1 ≡ b
 one_less a b e = omega (arith, e)
 
 pub let_go-requires-clause-gone_room : goal.let_go-requires-clause-gone_room
-let_go-requires-clause-gone_room c = omega (arith, c.requires.can.gone_room, c.open_root.ensures.spare)
+let_go-requires-clause-gone_room c = omega (arith, c.requires.can.gone_room, c.open_root.ensures.spare, c.open_root.ensures.capacity)
 
 pub put_top-requires-clause-can : goal.put_top-requires-clause-can
 put_top-requires-clause-can c = can_put c.args.block c.args.self.now c.open_root.new.top c.requires.can c.requires.small (c.open_root.ensures.opened (can_open c.args.block c.args.self.now c.requires.can))
@@ -135,7 +135,7 @@ returns-clause-goes c pages held =
       replaced = c.address_of-old.result;
       was = subst (λ k. IsAddressOf c.args.block (stubs k c.args.self.now.blocks c.open_root.new.top) c.address_of-old.result) (sym can.level_is)
           (c.address_of-old.ensures c.args.self.now.order (c.args.self.now.level - 1) o.shaped c.requires.can.to o.is_open);
-      goes = subst (λ g'. LetsGo c.args.self.now.head c.args.block c.address_of-old.result g' c.let_go.new.gone.items c.args.self.now.never.items c.let_go.new.never.items) g.places.more_is c.let_go.ensures;
+      goes = subst (λ g'. LetsGo c.args.self.now.head c.args.block c.address_of-old.result g' c.let_go.new.gone.items c.args.self.now.never.items c.let_go.new.never.items) g.places.more_is c.let_go.ensures.lets_go;
     }
 
 pub returns-clause-levels : goal.returns-clause-levels

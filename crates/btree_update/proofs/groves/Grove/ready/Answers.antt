@@ -6,7 +6,9 @@ use Rattle.btree_twigs.specs.declared.twigs.Twig.{Twig}
 use Rattle.btree_twigs.specs.Stubs.{stubs}
 use Rattle.btree_twigs.specs.Top.{top_least}
 use Rattle.btree_update.specs.Held.{bound, AnyRead, IsReadAs, HeldFrom}
-use Rattle.btree_update.specs.Holding.{HoldsFew}
+use Rattle.btree_update.specs.Holding.{HoldsFew, neighbours_in}
+use Rattle.std.specs.Prelude.{IsFalse}
+use Rattle.btree_update.proofs.FewLaws.{few_as, unmapped_told}
 use Rattle.btree_update.specs.Wrong.{WrongFrom}
 use Rattle.btree_update.specs.Groves.{IsWrongOnWay}
 use Rattle.btree_update.proofs.RootHolds.{root_holds}
@@ -17,7 +19,7 @@ use Rattle.btree_update.proofs.MappedLaws.{told}
 use Rattle.page_store.specs.Places.{FitsAt}
 use Rattle.btree_update.specs.Finding.{ChildFinds, GroveFinds, IsFoundBy}
 use Rattle.btree_update.proofs.WayFinds.{found_as, told_found}
-use Rattle.std.proofs.Common.{length, take, ◌*◌}
+use Rattle.std.proofs.Common.{take, ◌*◌}
 use Rattle.node_cache.specs.declared.slots.CachedNode.{CachedNode}
 use Rattle.btree_walk.specs.Sights.{CachedFits}
 use Rattle.btree_twigs.specs.declared.twigs.Child.{Child}
@@ -62,10 +64,12 @@ returns-in_err-make_room-clause-sound g c =
 pub returns-clause-can : goal.returns-clause-can
 returns-clause-can g c =
     let spared = c.make_spares.ensures.kept c.args.self.now.order c.requires.sound.most c.requires.sound.spares in
-    let few : HoldsFew g.P.Platform c.args.self.now.level (c.args.self.now.level - 1) c.args.platform.now c.hold_way.new.platform [] c.hold_way.new.held.items [] c.hold_way.new.beside.items =
-    subst (λ (held : List Twig). HoldsFew g.P.Platform c.args.self.now.level (c.args.self.now.level - 1) c.args.platform.now c.hold_way.new.platform held c.hold_way.new.held.items [] c.hold_way.new.beside.items) c.let_go_held.ensures.0
-    (subst (λ (beside : List (Option Twig)). HoldsFew g.P.Platform c.args.self.now.level (c.args.self.now.level - 1) c.args.platform.now c.hold_way.new.platform c.let_go_held.new.held.items c.hold_way.new.held.items beside c.hold_way.new.beside.items) c.let_go_held.ensures.1
-    c.in_ok-left.ensures.at_hand.1) in
+    let Unmapped = IsFalse c.is_mapped.result in
+    let few : HoldsFew g.P.Platform c.args.self.now.level (c.args.self.now.level - 1) c.args.platform.now c.hold_way.new.platform [] c.hold_way.new.held.items [] c.hold_way.new.beside.items Unmapped =
+    subst (λ (held : List Twig). HoldsFew g.P.Platform c.args.self.now.level (c.args.self.now.level - 1) c.args.platform.now c.hold_way.new.platform held c.hold_way.new.held.items [] c.hold_way.new.beside.items Unmapped) c.let_go_held.ensures.0
+    (subst (λ (beside : List (Option Twig)). HoldsFew g.P.Platform c.args.self.now.level (c.args.self.now.level - 1) c.args.platform.now c.hold_way.new.platform c.let_go_held.new.held.items c.hold_way.new.held.items beside c.hold_way.new.beside.items Unmapped) c.let_go_held.ensures.1
+    (few_as g.P.Platform c.args.self.now.level (c.args.self.now.level - 1) c.args.platform.now c.hold_way.new.platform c.let_go_held.new.held.items c.hold_way.new.held.items c.let_go_held.new.beside.items c.hold_way.new.beside.items _ Unmapped
+    (unmapped_told c.in_ok-left.left c.is_mapped.result c.is_mapped.ensures) c.in_ok-left.ensures.at_hand.1)) in
     let at_hand = subst (λ l. HeldFrom AnyRead c.args.self.now.order l c.args.block (c.args.self.now.level - 1) c.args.self.now.blocks c.args.self.now.top c.hold_way.new.held.items) c.least_of_root-least.ensures c.in_ok-left.ensures.at_hand.0 in (
       record {
         sound = sound_as c.args.self.now _ c.requires.sound (refl, refl, refl, refl) spared;
@@ -156,7 +160,7 @@ returns-clause-caches g c =
       stands = way.stands;
       among = way.among;
       warm = λ tells keeps.
-          (let none : length c.let_go_held.new.beside.items ≡ 0 = ap length c.let_go_held.ensures.1 in
+          (let none : neighbours_in c.let_go_held.new.beside.items ≡ 0 = ap neighbours_in c.let_go_held.ensures.1 in
           omega (arith, way.warm tells (kept keeps), none));
       few = λ tells keeps. way.few tells (kept keeps);
       early = λ tells stands places such one. way.early tells stands places such one;

@@ -71,11 +71,11 @@ help_root-requires c =
     let can = can_open c.args.block c.args.self.now c.requires.can in
     record {
       can = can_help c.args.block c.args.self.now c.open_root.new.top c.open_root.new.held.items c.requires.can (c.open_root.ensures.opened can) (c.open_root.ensures.helps can Anywhere c.args.self.now.beside.items c.requires.can.loses c.requires.can.beside);
-      room = omega (arith, c.requires.can.gone_room, c.open_root.ensures.spare);
+      room = omega (arith, c.requires.can.gone_room, c.open_root.ensures.spare, c.open_root.ensures.capacity);
     }
 
 pub let_go-requires-clause-gone_room : goal.let_go-requires-clause-gone_room
-let_go-requires-clause-gone_room c = omega (arith, c.requires.can.gone_room, c.open_root.ensures.spare, c.help_root.ensures.spare)
+let_go-requires-clause-gone_room c = omega (arith, c.requires.can.gone_room, c.open_root.ensures.spare, c.open_root.ensures.capacity, c.help_root.ensures.spare, c.help_root.ensures.capacity)
 
 pub take_top-requires-clause-can : goal.take_top-requires-clause-can
 take_top-requires-clause-can c =
@@ -163,7 +163,7 @@ returns-clause-goes c pages may held beside =
       replaced = c.address_of-addr.result;
       was = subst (λ k. IsAddressOf c.args.block (stubs k c.args.self.now.blocks c.help_root.new.top) c.address_of-addr.result) (sym can.level_is)
           (c.address_of-addr.ensures c.args.self.now.order (c.args.self.now.level - 1) h.shaped c.requires.can.to h.is_open);
-      goes = subst (λ g'. LetsGo c.args.self.now.head c.args.block c.address_of-addr.result g' c.let_go.new.gone.items c.args.self.now.never.items c.let_go.new.never.items) g.more_is c.let_go.ensures;
+      goes = subst (λ g'. LetsGo c.args.self.now.head c.args.block c.address_of-addr.result g' c.let_go.new.gone.items c.args.self.now.never.items c.let_go.new.never.items) g.more_is c.let_go.ensures.lets_go;
     }
 
 pub returns-clause-levels : goal.returns-clause-levels
