@@ -11,6 +11,7 @@ pub mod OrderLaws
 pub mod UpgradedLaws
 pub mod UpgradeLaws
 pub mod SurveyLaws
+pub mod WiderLaws
 pub mod UpgradeCauseLaws
 pub mod RewriteLaws
 pub mod UpgradingLaws

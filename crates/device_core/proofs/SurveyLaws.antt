@@ -1,5 +1,5 @@
 -- What an upgrade says of the tree of a root record whose nodes were listed.
-use Rattle.std.proofs.Common.{◌≡◌, ◌∙◌, ap, sym, subst, refl, ◌+◌, ◌-◌, ◌<◌, inl, inr, ℕ, zero, suc, List, [], ◌∷◌, ◌++◌, Err, arith, length, map, get_or}
+use Rattle.std.proofs.Common.{◌≡◌, ◌∙◌, ap, sym, subst, refl, ◌+◌, ◌-◌, ◌<◌, ◌⊎◌, inl, inr, ℕ, zero, suc, List, [], ◌∷◌, ◌++◌, Err, arith, length, map, get_or}
 use Rattle.std.specs.Prelude.{All, Contains}
 use Rattle.std.specs.List.Sorted.{IsStrictlyIncreasing}
 use Rattle.std.proofs.lemmas.List.{length-map, get_or-map}
@@ -13,7 +13,7 @@ use Rattle.root_codec.specs.declared.root.Root.{Root}
 use Rattle.root_codec.specs.RootRecord.{FitsRoot}
 use Rattle.page_store.specs.declared.wants.Want.{Want}
 use Rattle.page_store.specs.Places.{NothingFits, root_want, child_want, block_want}
-use Rattle.page_store.specs.Tree.{bound_of, SomeChild, WrongBelow, Wrong}
+use Rattle.page_store.specs.Tree.{Parts, Tree, bound_of, SomeChild, WrongBelow, Wrong}
 use Rattle.page_store.proofs.WrongLaws.{wrong_here}
 use Rattle.btree_walk.specs.declared.refusals.WalkRefusal.{WalkRefusal}
 use Rattle.btree_walk.specs.declared.refusals.WalkRefusal.TheVariants as walks
@@ -23,8 +23,7 @@ use Rattle.btree_walk.proofs.ListLaws.{none_below}
 use Rattle.btree_walk.proofs.LevelLaws.{tree_entries, above_leaves}
 use Rattle.btree_walk.proofs.OrderLaws.{root_within, root_ordered}
 use Rattle.btree_walk.proofs.ShowsLaws.{listed-inner, listed-append, first_wrong_is_wrong}
-use Rattle.device_core.specs.Upgrading.{IsDamaged}
-use Rattle.device_core.specs.Copying.{StopsAt}
+use Rattle.device_core.specs.Upgrading.{IsDamaged, ListsAnother, StopsListing}
 use Rattle.device_core.specs.Surveying.{IsListing, IsSurveyCause, unlisted}
 
 -- ---- what is listed is in order
@@ -48,21 +47,23 @@ listing_of pages root nodes entries fits are is count =
       subst (All (λ (e : Entry). e.addr < root.addr)) back (All-weaker (IsListedWithin 0 root.blocks root.addr) (λ (e : Entry). e.addr < root.addr) (λ e w. w.under) (listed nodes) within),
     )
 
--- where it is no listing of the root record, that says that other blocks are mapped than its tree has
-pub miscounted : (pages : List (List ℕ)) (root : Root) (nodes : List Node) (entries : List Entry) → FitsRoot root → NodesOf pages root nodes → entries ≡ listed nodes → (IsListing root entries → ⊥) → IsDamaged pages root root.addr
-miscounted pages root nodes entries fits are is none = inr (
-  refl,
-  λ parts tree many.
-      let size : length entries ≡ length parts.mapped = ap length is ∙ (ap length (tree_entries pages root parts nodes fits tree are) ∙ length-map parts.mapped entry_of) in
-      none (listing_of pages root nodes entries fits are is (size ∙ many)),
-)
+-- where it is no listing of the root record, they are another number
+pub lists_another : (pages : List (List ℕ)) (root : Root) (nodes : List Node) (entries : List Entry) → FitsRoot root → NodesOf pages root nodes → entries ≡ listed nodes → (IsListing root entries → ⊥) → StopsListing pages root root.addr
+lists_another pages root nodes entries fits are is none =
+    inr (refl, record { nodes = nodes; are = are; another = λ many. none (listing_of pages root nodes entries fits are is (ap length is ∙ many)) })
+
+-- no tree of these pages has as many blocks then
+pub no_such_tree : (pages : List (List ℕ)) (root : Root) (parts : Parts) → FitsRoot root → ListsAnother pages root → Tree pages root parts → length parts.mapped ≡ root.mapped → ⊥
+no_such_tree pages root parts fits lists tree many =
+    let size : length (listed lists.nodes) ≡ length parts.mapped = ap length (tree_entries pages root parts lists.nodes fits tree lists.are) ∙ length-map parts.mapped entry_of in
+    lists.another (size ∙ many)
 
 -- ---- why there is no listing
 
 pub walk_cause : {S A : Type 0} (B : Type 0) (P : Ghosts S) (platform platform_now : S) (root : Root) (refusal : WalkRefusal) → TellsOf {T = A} walks.PlatformFault (Err refusal) (P.faults platform) (P.faults platform_now)
     → (P.tells → (addr : ℕ) → refusal ≡ walks.BadRecord addr → FirstWrongOf (P.history platform).present.readable root addr) → IsSurveyCause {A = B} P platform platform_now root (Err (unlisted refusal))
 walk_cause B P platform platform_now root (walks.BadRecord addr) told wrong =
-    (λ tells. inl (first_wrong_is_wrong (P.history platform).present.readable addr root.order root.level (root_want root) root.key (wrong tells addr refl)), told.refused (λ is. absurd cc))
+    (λ tells. inl (wrong tells addr refl), told.refused (λ is. absurd cc))
 walk_cause B P platform platform_now root walks.PlatformFault told wrong = told.failed refl
 walk_cause B P platform platform_now root walks.Memory told wrong = told.refused (λ is. absurd cc)
 
@@ -124,8 +125,12 @@ record_wrong pages root nodes e fits are has nothing =
     subst (λ (n : ℕ). WrongBelow pages e.addr root.order n (root_want root) root.key) up
     (leads_to pages root.order (root.level - 1) e nothing (root_want root) root.key nodes (subst (λ (n : ℕ). Nodes pages root.order n (root_want root) root.key nodes) (sym up) are) has)
 
-pub stopped_damaged : (pages : List (List ℕ)) (root : Root) (nodes : List Node) (entries : List Entry) (addr : ℕ) → FitsRoot root → NodesOf pages root nodes → entries ≡ listed nodes → StopsAt pages addr entries → IsDamaged pages root addr
-stopped_damaged pages root nodes entries addr fits are is stops =
+-- an upgrade stops at a wrong place, or at the root node where the nodes list another number of blocks
+pub damaged_wrong : (pages : List (List ℕ)) (root : Root) (addr : ℕ) → FitsRoot root → IsDamaged pages root addr → Wrong pages root addr ⊎ ((addr ≡ root.addr) × ListsAnother pages root)
+damaged_wrong pages root addr fits (inl (inl first)) = inl (first_wrong_is_wrong pages addr root.order root.level (root_want root) root.key first)
+damaged_wrong pages root addr fits (inl (inr another)) = inr another
+damaged_wrong pages root addr fits (inr copying) =
+    let stops = copying.stops in
     let there : Contains (stops.before ++ stops.entry ∷ stops.after) stops.entry = Contains-append_right stops.before (stops.entry ∷ stops.after) stops.entry (0, omega arith, refl) in
-    let has = subst (λ (es : List Entry). Contains es stops.entry) (sym stops.split ∙ is) there in
-    inl (subst (λ (n : ℕ). Wrong pages root n) (sym stops.here) (record_wrong pages root nodes stops.entry fits are has stops.nothing))
+    let has = subst (λ (es : List Entry). Contains es stops.entry) (sym stops.split) there in
+    inl (subst (λ (n : ℕ). Wrong pages root n) (sym stops.here) (record_wrong pages root copying.nodes stops.entry fits copying.are has stops.nothing))

@@ -1,5 +1,5 @@
 -- Why an upgrade is refused, by the call that was refused.
-use Rattle.std.proofs.Common.{◌≡◌, ◌∙◌, ap, subst, refl, ◌+◌, ◌≤◌, inl, inr, ℕ, List, Err, arith}
+use Rattle.std.proofs.Common.{◌≡◌, ◌∙◌, ap, subst, sym, refl, ◌+◌, ◌≤◌, inl, inr, ℕ, List, Err, arith, length}
 use Rattle.sdbt_base.specs.Counts.{Counts, counts}
 use Rattle.sdbt_base.specs.Faults.{Rose}
 use Rattle.sdbt_base.specs.declared.tapes.Tape.{Ghosts as TapeGhosts}
@@ -13,14 +13,13 @@ use Rattle.btree_walk.specs.Nodes.{Node, NodesOf, listed}
 use Rattle.device_terms.proofs.MomentLaws.{one_look}
 use Rattle.device_core.specs.Copying.{StopsAt}
 use Rattle.device_core.specs.Publishing.{IsUnmade, IsPublishCause}
-use Rattle.device_core.specs.Upgrading.{Begins, IsDamaged, IsPartly, IsUpgradeCause, needed_of_root}
+use Rattle.device_core.specs.Upgrading.{Begins, IsPartly, IsUpgradeCause, StopsListing, needed_of_root}
 use Rattle.device_core.specs.Surveying.{IsBeginCause, IsSurveyCause}
 use Rattle.device_core.specs.Rewriting.{IsRewriteCause, unpublished}
 use Rattle.device_core.specs.declared.publishing.PublishFault.{PublishFault}
 use Rattle.device_core.specs.declared.publishing.PublishFault.TheVariants as publish
 use Rattle.device_core.specs.declared.refusals.UpgradeRefusal.{UpgradeRefusal}
 use Rattle.device_core.specs.declared.refusals.UpgradeRefusal.TheVariants as upgrade
-use Rattle.device_core.proofs.SurveyLaws.{stopped_damaged}
 
 -- calls that only looked
 pub record Looked {S : Type 0} (P : PlatformGhosts S) (platform now : S) : Type 0 where
@@ -62,7 +61,7 @@ survey_refused A P T platform seen now tape ledger root upgrade.BadRoot begins s
 survey_refused A P T platform seen now tape ledger root upgrade.AlreadyUpgraded begins same before looked cause = absurd cause
 survey_refused A P T platform seen now tape ledger root (upgrade.Full needed free) begins same before looked cause = absurd cause
 survey_refused A P T platform seen now tape ledger root (upgrade.BadRecord addr) begins same before looked cause = (
-  (root, partly P platform now root begins (omega (arith, looked.head)) looked.still, λ told. subst (λ (i : Image). IsDamaged i.readable root addr) (before.image told) (cause.0 told)),
+  (root, partly P platform now root begins (omega (arith, looked.head)) looked.still, λ told. inl (subst (λ (i : Image). StopsListing i.readable root addr) (before.image told) (cause.0 told))),
   quiet (P.faults platform) (P.faults now) (T.faults tape) (T.faults tape) ledger (cause.1 ∙ same) refl,
 )
 survey_refused A P T platform seen now tape ledger root upgrade.Memory begins same before looked cause =
@@ -74,28 +73,32 @@ survey_refused A P T platform seen now tape ledger root upgrade.PlatformFault be
 
 -- where the tree was listed before
 pub rewrite_refused : {S R : Type 0} (A : Type 0) (P : PlatformGhosts S) (T : TapeGhosts R) (platform seen now : S) (tape tape_now : R) (ledger : ℕ) (root : Root) (entries : List Entry) (refusal : UpgradeRefusal)
-    → Begins P.tells (P.history platform).present (P.head platform) (P.capacity platform) root → (P.tells → (nodes : List Node) × NodesOf (P.history platform).present.readable root nodes × (entries ≡ listed nodes))
+    → Begins P.tells (P.history platform).present (P.head platform) (P.capacity platform) root → (P.tells → (nodes : List Node) × NodesOf (P.history platform).present.readable root nodes × (entries ≡ listed nodes)) → length entries ≡ root.mapped
     → P.faults seen ≡ P.faults platform → Looked P platform seen → P.head now ≤ P.head platform + needed_of_root root → (P.tells → CellStays (P.history platform) (P.history now))
     → IsRewriteCause {A = A} P T seen now tape tape_now entries (Err refusal)
     → IsUpgradeCause P T platform now tape tape_now (counts (P.faults platform) (T.faults tape) 0 0 ledger) (counts (P.faults now) (T.faults tape_now) 0 0 ledger) (Err refusal)
-rewrite_refused A P T platform seen now tape tape_now ledger root entries upgrade.NoDevice begins are same before most still cause = absurd cause
-rewrite_refused A P T platform seen now tape tape_now ledger root entries upgrade.BadRoot begins are same before most still cause = absurd cause
-rewrite_refused A P T platform seen now tape tape_now ledger root entries upgrade.AlreadyUpgraded begins are same before most still cause = absurd cause
-rewrite_refused A P T platform seen now tape tape_now ledger root entries (upgrade.Full needed free) begins are same before most still cause = absurd cause
-rewrite_refused A P T platform seen now tape tape_now ledger root entries upgrade.Memory begins are same before most still cause = absurd cause
-rewrite_refused A P T platform seen now tape tape_now ledger root entries upgrade.LedgerFault begins are same before most still cause = absurd cause
-rewrite_refused A P T platform seen now tape tape_now ledger root entries (upgrade.BadRecord addr) begins are same before most still cause = (
+rewrite_refused A P T platform seen now tape tape_now ledger root entries upgrade.NoDevice begins are many same before most still cause = absurd cause
+rewrite_refused A P T platform seen now tape tape_now ledger root entries upgrade.BadRoot begins are many same before most still cause = absurd cause
+rewrite_refused A P T platform seen now tape tape_now ledger root entries upgrade.AlreadyUpgraded begins are many same before most still cause = absurd cause
+rewrite_refused A P T platform seen now tape tape_now ledger root entries (upgrade.Full needed free) begins are many same before most still cause = absurd cause
+rewrite_refused A P T platform seen now tape tape_now ledger root entries upgrade.Memory begins are many same before most still cause = absurd cause
+rewrite_refused A P T platform seen now tape tape_now ledger root entries upgrade.LedgerFault begins are many same before most still cause = absurd cause
+rewrite_refused A P T platform seen now tape tape_now ledger root entries (upgrade.BadRecord addr) begins are many same before most still cause = (
   (
     root,
     partly P platform now root begins most still,
-    λ told. let of = are told in stopped_damaged (P.history platform).present.readable root of.0 entries addr begins.on.within.in_range of.1 of.2
-        (subst (λ (i : Image). StopsAt i.readable addr entries) (before.image told) (cause.0 told)),
+    λ told. let of = are told in inr record {
+      nodes = of.0;
+      are = of.1;
+      many = sym (ap length of.2) ∙ many;
+      stops = subst (λ (es : List Entry). StopsAt (P.history platform).present.readable addr es) of.2 (subst (λ (i : Image). StopsAt i.readable addr entries) (before.image told) (cause.0 told));
+    },
   ),
   quiet (P.faults platform) (P.faults now) (T.faults tape) (T.faults tape_now) ledger (cause.1 ∙ same) cause.2,
 )
-rewrite_refused A P T platform seen now tape tape_now ledger root entries upgrade.TapeFault begins are same before most still cause =
+rewrite_refused A P T platform seen now tape tape_now ledger root entries upgrade.TapeFault begins are many same before most still cause =
     ((cause.0, ap (λ (n : ℕ). counts n (T.faults tape_now) 0 0 ledger) (cause.1 ∙ same)), root, partly P platform now root begins most still)
-rewrite_refused A P T platform seen now tape tape_now ledger root entries upgrade.PlatformFault begins are same before most still cause =
+rewrite_refused A P T platform seen now tape tape_now ledger root entries upgrade.PlatformFault begins are many same before most still cause =
     ((subst (λ (n : ℕ). Rose n (P.faults now)) same cause.0, ap (λ (n : ℕ). counts (P.faults now) n 0 0 ledger) cause.1), inr (root, begins, most))
 
 -- where the new tree was made before

@@ -11,7 +11,7 @@ use Rattle.page_store.specs.declared.refusals.CurrentRefusal.TheVariants as curr
 use Rattle.btree_walk.specs.Nodes.{Node, NodesOf, listed}
 use Rattle.btree_walk.specs.declared.refusals.WalkRefusal.{WalkRefusal}
 use Rattle.btree_walk.specs.declared.refusals.WalkRefusal.TheVariants as walks
-use Rattle.device_core.specs.Upgrading.{IsOn, Begins, IsDamaged, needed_of_root}
+use Rattle.device_core.specs.Upgrading.{IsOn, Begins, StopsListing, needed_of_root}
 use Rattle.device_core.specs.declared.refusals.UpgradeRefusal.{UpgradeRefusal}
 use Rattle.device_core.specs.declared.refusals.UpgradeRefusal.TheVariants as upgrade
 use Rattle.device_core.specs.declared.surveying.Survey.{Survey}
@@ -59,10 +59,10 @@ pub record ReadsTwice (pages : List (List ℕ)) (root : Root) (reads reads_now :
   pub many : length (listed nodes) ≡ root.mapped
   pub read : reads_now ≡ reads + 2 * length nodes
 
--- what was to be read of the tree of a root record was read, or no memory was given, or a record is named that doesn't fit, or the platform failed
+-- what was to be read of the tree of a root record was read, or no memory was given, or a listing of its blocks stops at the address that is named, or the platform failed
 abbrev pub IsSurveyCause : {S A : Type 0} → Ghosts S → S → S → Root → Result A UpgradeRefusal → Type 0
 IsSurveyCause P platform platform_now root (Ok found) = P.faults platform_now ≡ P.faults platform
 IsSurveyCause P platform platform_now root (Err upgrade.Memory) = P.faults platform_now ≡ P.faults platform
-IsSurveyCause P platform platform_now root (Err (upgrade.BadRecord addr)) = (P.tells → IsDamaged (P.history platform).present.readable root addr) × (P.faults platform_now ≡ P.faults platform)
+IsSurveyCause P platform platform_now root (Err (upgrade.BadRecord addr)) = (P.tells → StopsListing (P.history platform).present.readable root addr) × (P.faults platform_now ≡ P.faults platform)
 IsSurveyCause P platform platform_now root (Err upgrade.PlatformFault) = Rose (P.faults platform) (P.faults platform_now)
 IsSurveyCause P platform platform_now root (Err other) = ⊥

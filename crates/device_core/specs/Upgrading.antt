@@ -15,12 +15,13 @@ use Rattle.page_store.specs.Places.{root_want}
 use Rattle.page_store.specs.Reading.{MayLook}
 use Rattle.page_store.specs.Roots.{IsRootWithin, IsBadCell}
 use Rattle.page_store.specs.Stands.{Stands, StandsBy}
-use Rattle.page_store.specs.Tree.{Parts, Tree, Wrong}
+use Rattle.page_store.specs.Tree.{Parts}
 use Rattle.cert_maker.specs.Cert.{Cert}
 use Rattle.device_terms.specs.Certifying.{AddsSynced, IsOfTrees, PutsEntry}
-use Rattle.btree_walk.specs.Nodes.{Node, NodesOf, CutShort, listed}
+use Rattle.btree_walk.specs.Nodes.{Node, NodesOf, FirstWrongOf, CutShort, listed}
 use Rattle.tree_build.specs.Building.{DrewFew}
 use Rattle.tree_build.specs.Shape.{built}
+use Rattle.device_core.specs.Copying.{StopsAt}
 use Rattle.device_core.specs.Publishing.{IsUnmade}
 use Rattle.device_core.specs.declared.refusals.UpgradeRefusal.{UpgradeRefusal}
 use Rattle.device_core.specs.declared.refusals.UpgradeRefusal.TheVariants as upgrade
@@ -68,9 +69,26 @@ abbrev pub StandsFrom : ℕ → Option Device → Image → Type 0
 StandsFrom first None image = Stands image None
 StandsFrom first (Some device) image = (root : Root) × (parts : Parts) × StandsBy image device root parts × All (λ p. first ≤ p.addr) parts.places
 
--- a place at this address of the tree of the root record doesn't fit, or it is the root node's, and the root record says that other blocks are mapped than the tree has
+-- the nodes of the tree of a root record all fit, and list another number of blocks than it says
+pub record ListsAnother (pages : List (List ℕ)) (root : Root) : Type 0 where
+  pub nodes : List Node
+  pub are : NodesOf pages root nodes
+  pub another : length (listed nodes) ≢ root.mapped
+
+-- a listing of its blocks stops at this address: at the first of its nodes, in their order, that doesn't fit; or, where all fit and list another number, at the root node
+abbrev pub StopsListing : List (List ℕ) → Root → ℕ → Type 0
+StopsListing pages root addr = FirstWrongOf pages root addr ⊎ ((addr ≡ root.addr) × ListsAnother pages root)
+
+-- its nodes list as many blocks as it says, and in the order of these the first data record that doesn't fit has this address
+pub record StopsCopying (pages : List (List ℕ)) (root : Root) (addr : ℕ) : Type 0 where
+  pub nodes : List Node
+  pub are : NodesOf pages root nodes
+  pub many : length (listed nodes) ≡ root.mapped
+  pub stops : StopsAt pages addr (listed nodes)
+
+-- an upgrade of the root record stops at this address: where the listing of its blocks does, or else the copying of their data records
 abbrev pub IsDamaged : List (List ℕ) → Root → ℕ → Type 0
-IsDamaged pages root addr = Wrong pages root addr ⊎ ((addr ≡ root.addr) × ((parts : Parts) → Tree pages root parts → length parts.mapped ≢ root.mapped))
+IsDamaged pages root addr = StopsListing pages root addr ⊎ StopsCopying pages root addr
 
 -- what was added so far is a part of what is needed, and at each moment the cell is as it was
 pub record IsPartly {S : Type 0} (P : PlatformGhosts S) (platform platform_now : S) (root : Root) : Type 0 where
@@ -114,7 +132,7 @@ PutsUpgrade P platform platform_now ledger ledger_now =
     (ledger_now ≡ ledger) ⊎ ((root : Root) × Begins P.tells (P.history platform).present (P.head platform) (P.capacity platform) root × AddsSynced P (needed_of_root root) platform platform_now)
 
 -- a device of version 1 is made one of version 2, with the next number, where as many pages are free as are needed, and these are added then. Else there is no device, or none that can be served, or it is of version 2, or too few pages are
--- free, exactly so, and nothing comes of it; memory is asked for behind that. Then a record is named that doesn't fit, in the tree or, with the root node, the number of blocks. But for the object that an answer names none failed
+-- free, exactly so, and nothing comes of it; memory is asked for behind that. Then a record is named that doesn't fit, the first one that is met, or the root node, where the nodes all fit and list another number of blocks. But for the object that an answer names none failed
 abbrev pub IsUpgradeCause : {S R : Type 0} → PlatformGhosts S → TapeGhosts R → S → S → R → R → Counts → Counts → Result ℕ UpgradeRefusal → Type 0
 IsUpgradeCause P T platform platform_now tape tape_now before now (Ok number) =
     (root : Root) × Begins P.tells (P.history platform).present (P.head platform) (P.capacity platform) root × (number ≡ root.commit + 1)

@@ -10,7 +10,7 @@ use Rattle.root_codec.specs.declared.root.Root.{Root}
 use Rattle.btree_walk.proofs.OneWalkLaws.{one_nodes}
 use Rattle.device_core.specs.Surveying.{IsListing}
 use Rattle.device_core.specs.declared.surveying.Survey.{Survey}
-use Rattle.device_core.proofs.SurveyLaws.{miscounted, walk_cause, walk_cause_then}
+use Rattle.device_core.proofs.SurveyLaws.{lists_another, walk_cause, walk_cause_then}
 use Rattle.device_core.proofs.surveying.list_records.Goals as goal
 
 pub returns-in_err-list-clause-cause : goal.returns-in_err-list-clause-cause
@@ -24,7 +24,7 @@ returns-then-not-is_listing-clause-cause g c = (
   λ told.
       let lists = c.in_ok-list.ensures.listed told in
       let root = c.args.root.now in
-      miscounted (g.P.Platform.history c.args.platform.now).present.readable root lists.nodes c.into_vec-items.result.items c.requires.within.in_range lists.are (c.into_vec-items.ensures ∙ lists.is)
+      lists_another (g.P.Platform.history c.args.platform.now).present.readable root lists.nodes c.into_vec-items.result.items c.requires.within.in_range lists.are (c.into_vec-items.ensures ∙ lists.is)
       (λ listing.
       let t : IsTrue c.is_listing.result = c.is_listing.ensures.1 (subst (λ (es : List Entry). IsListing root es) (sym c.deref.ensures.value) listing) in
       grind (arith, common_steps, t, c.if-not-is_listing.true)),

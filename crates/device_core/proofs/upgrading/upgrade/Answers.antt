@@ -104,6 +104,7 @@ returns-in_err-next-clause-cause g c =
     c.in_ok-prepared.prepared.items.items c.in_err-next.field-0.0 c.in_ok-root.ensures.cause.0
     (surveyed g.P.Platform g.met.P.Platform.counts_pages c.args.platform.now c.begin.new.platform c.prepare.new.platform c.in_ok-root.root c.in_ok-prepared.prepared c.in_ok-root.ensures.cause.0
     c.begin.ensures.reads_cell c.prepare.ensures.looks c.in_ok-prepared.ensures.prepared).listed_are
+    c.in_ok-prepared.ensures.prepared.of.listing.0
     (c.in_ok-prepared.ensures.cause ∙ c.in_ok-root.ensures.cause.1) looked (omega (arith, looked.head, c.rewrite.ensures.beside.at_most)) (still g at) c.in_err-next.ensures.cause)
 
 -- ---- where the new tree was made
