@@ -1,5 +1,5 @@
 -- What an update makes of a node in memory.
-use Rattle.std.specs.Prelude.{◌≡◌, ℕ, suc, ◌+◌, ◌/◌, List, [], ◌++◌, ◌⊎◌, Option, None, Some, ◌≤◌, ◌<◌, length, vec_capacity}
+use Rattle.std.specs.Prelude.{◌≡◌, ℕ, suc, ◌+◌, ◌/◌, List, [], ◌∷◌, ◌++◌, ◌⊎◌, Option, None, Some, ◌≤◌, ◌<◌, length, vec_capacity}
 use Rattle.std.specs.List.{AllByRecursion}
 use Rattle.std.specs.declared.vec.Vec.{Vec}
 use Rattle.std.specs.declared.alloc.Global.{Global}
@@ -94,9 +94,34 @@ width_in (Grown low twig) = length (children_of twig)
 abbrev pub width_of : Child → ℕ
 width_of child = width_in (out-Child child)
 
--- a node's list has room for one child more than may be
+-- the room of a node's list
+abbrev pub room_of : Twig → ℕ
+room_of twig = vec_capacity (out-Twig twig).children
+
+-- it has room for one child more than may be
 abbrev pub HasRoom : ℕ → Twig → Type 0
-HasRoom order twig = order < vec_capacity (out-Twig twig).children
+HasRoom order twig = order < room_of twig
+
+-- the room of the list of a child that is in memory
+abbrev pub room_in : Child-F Child Twig → ℕ
+room_in (Kept low addr key) = 0
+room_in (Grown low twig) = room_of twig
+
+abbrev pub child_room : Child → ℕ
+child_room child = room_in (out-Child child)
+
+-- lists were taken from the end of others, and these have as much room for lists as before
+pub record TakesLists (old new : Vec (Vec Child Global) Global) : Type 0 where
+  pub taken : List (Vec Child Global)
+  pub all : old.items ≡ new.items ++ taken
+  pub room : vec_capacity new ≡ vec_capacity old
+
+-- the last one was taken, and a child in memory has its room
+pub record TakesRoom (old new : Vec (Vec Child Global) Global) (child : Child) : Type 0 where
+  pub last : Vec Child Global
+  pub all : old.items ≡ new.items ++ last ∷ []
+  pub room : vec_capacity new ≡ vec_capacity old
+  pub has : child_room child ≡ vec_capacity last
 
 -- two neighbours in memory, over children of some level, of which one is short
 pub record CanMend (order : ℕ) (left right : Child) : Type 0 where

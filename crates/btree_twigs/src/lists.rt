@@ -19,9 +19,9 @@ pub(crate) fn insert(children: &mut Vec<Child>, at: usize, child: Child)
 pub(crate) fn push(children: &mut Vec<Child>, child: Child)
     requires { vec_len children.old < vec_capacity children.old }
     ensures items { children.new.items ≡ children.old.items ++ child ∷ [] }
-    ensures capacity { vec_capacity children.old ≤ vec_capacity children.new }
+    ensures capacity { vec_capacity children.new ≡ vec_capacity children.old }
 {
-    let _room = children.push(child);
+    children.push_reserved(child);
 }
 
 /// Moves all children to the end of the left, where there is room.
@@ -29,9 +29,12 @@ pub(crate) fn append(left: &mut Vec<Child>, right: &mut Vec<Child>)
     requires { vec_len left.old + vec_len right.old ≤ vec_capacity left.old }
     ensures all { left.new.items ≡ left.old.items ++ right.old.items }
     ensures none { right.new.items ≡ [] }
-    ensures capacity { (vec_capacity left.old ≤ vec_capacity left.new) × (vec_capacity right.new ≡ vec_capacity right.old) }
+    ensures capacity { (vec_capacity left.new ≡ vec_capacity left.old) × (vec_capacity right.new ≡ vec_capacity right.old) }
 {
-    let _room = left.append(right);
+    right.reverse();
+    while let Some(child) = right.pop() {
+        push(left, child);
+    }
 }
 
 /// Moves the last child of the left to the front of the right.
@@ -56,7 +59,7 @@ pub(crate) fn move_tail(from: &mut Vec<Child>, at: usize, to: &mut Vec<Child>)
     requires within { at ≤ vec_len from.old }
     ensures kept { from.new.items ≡ take at from.old.items }
     ensures moved { to.new.items ≡ drop at from.old.items }
-    ensures capacity { (vec_capacity from.new ≡ vec_capacity from.old) × (vec_capacity to.old ≤ vec_capacity to.new) }
+    ensures capacity { (vec_capacity from.new ≡ vec_capacity from.old) × (vec_capacity to.new ≡ vec_capacity to.old) }
 {
     while from.len() > at {
         if let Some(child) = from.pop() {
@@ -70,8 +73,10 @@ pub(crate) fn move_tail(from: &mut Vec<Child>, at: usize, to: &mut Vec<Child>)
 /// Takes an empty list.
 pub(crate) fn take_spare(spares: &mut Vec<Vec<Child>>) -> Vec<Child>
     requires { 0 < vec_len spares.old }
-    ensures { (order count : ℕ) → HasSpares order (count + 1) spares.old.items
+    ensures spare { (order count : ℕ) → HasSpares order (count + 1) spares.old.items
         → HasSpares order count spares.new.items × (result.items ≡ []) × (order < vec_capacity result) }
+    ensures last { spares.old.items ≡ spares.new.items ++ result ∷ [] }
+    ensures room { vec_capacity spares.new ≡ vec_capacity spares.old }
 {
     match spares.pop() {
         Some(spare) => spare,

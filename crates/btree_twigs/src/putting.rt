@@ -3,7 +3,7 @@ ghost use Rattle.btree_twigs.specs.Stubs.{Stub, Puts, datum, children_of, low_of
 ghost use Rattle.btree_twigs.specs.Search.{HasDatum};
 ghost use Rattle.btree_twigs.specs.Levels.{Node, IsMedium, TakesLow, IsCut, IsRowPut, IsRowPutBelow, rows_at, Reshape};
 ghost use Rattle.btree_twigs.specs.Shape.{IsTwig};
-ghost use Rattle.btree_twigs.specs.Updates.{IsNode, IsPut, stubs_under, HasSpares, IsSplit, IsTwigPut, IsChildPut, CanPut, CanPutBelow};
+ghost use Rattle.btree_twigs.specs.Updates.{IsNode, IsPut, stubs_under, HasSpares, IsSplit, IsTwigPut, IsChildPut, CanPut, CanPutBelow, room_of, child_room, TakesLists, TakesRoom};
 ghost use Rattle.std.specs.Option.{option_to_list};
 ghost use Rattle.btree_twigs.specs.Top.{child_level, CanPutTop, IsTopPut, CanRaise, IsRaised};
 
@@ -50,6 +50,8 @@ fn split(twig: &mut Twig, order: usize, spares: &mut Vec<Vec<Child>>) -> Child
     ensures exact { length (children_of twig.new) ≡ order / 2 }
     ensures cut { IsCut order twig.old twig.new result }
     ensures nodes { (level : ℕ) → nodes_below level twig.new + nodes (suc level) result ≡ nodes_below level twig.old + 1 }
+    ensures room { room_of twig.new ≡ room_of twig.old }
+    ensures part { TakesRoom spares.old spares.new result }
 {
     let mut right = take_spare(spares);
     move_tail(&mut twig.children, order / 2, &mut right);
@@ -84,6 +86,8 @@ pub fn put(
         → IsRowPut medium order block at.level at.high twig.old twig.new }
     ensures stays { (at : CanPut order block spares.old.items twig.old) → HasDatum block (stubs_below at.level at.high twig.old)
         → length (children_of twig.new) ≡ length (children_of twig.old) }
+    ensures room { room_of twig.new ≡ room_of twig.old }
+    ensures lists { TakesLists spares.old spares.new }
 {
     if twig.level == 1 {
         put_datum(&mut twig.children, block, addr, key);
@@ -118,6 +122,8 @@ fn put_below(
     ensures levels { (medium : Stub → ℕ → List Node) → IsMedium medium → (at : CanPutBelow order block spares.old.items child.old)
         → IsRowPutBelow medium order block (suc at.level) at.high child.old child.new result }
     ensures stays { (at : CanPutBelow order block spares.old.items child.old) → HasDatum block (stubs (suc at.level) at.high child.old) → result ≡ None }
+    ensures room { child_room child.new ≡ child_room child.old }
+    ensures lists { TakesLists spares.old spares.new }
 {
     match child {
         Child::Kept { .. } => unreachable!(),
@@ -150,6 +156,8 @@ pub fn put_top(
         → Reshape order block (suc at.level) (child_level top.new) (rows_at medium (suc at.level) at.high top.old) (rows_at medium (child_level top.new) at.high top.new) }
     // In the place of the record that the block has there is always room.
     ensures stays { (at : CanPutTop order block spares.old.items top.old) → HasDatum block (stubs (suc at.level) at.high top.old) → child_level top.new ≡ child_level top.old }
+    ensures room { child_level top.new ≡ child_level top.old → child_room top.new ≡ child_room top.old }
+    ensures lists { TakesLists spares.old spares.new }
 {
     if let Child::Grown { twig, .. } = top {
         put(twig, order, block, addr, key, spares);
@@ -166,6 +174,7 @@ fn raise(top: &mut Child, part: Child, spares: &mut Vec<Vec<Child>>)
     ensures raised { (at : CanRaise top.old part spares.old.items) (order : ℕ) → HasSpares order 1 spares.old.items
         → IsRaised order at.level top.old part top.new }
     ensures spares { (order count : ℕ) → HasSpares order (count + 1) spares.old.items → HasSpares order count spares.new.items }
+    ensures room { TakesRoom spares.old spares.new top.new }
 {
     let mut children = take_spare(spares);
     let blank = Child::Kept {

@@ -1,7 +1,7 @@
-ghost use Rattle.std.specs.Prelude.{List, map, ◌⊎◌, IsTrue, IsSome, ◌↔◌, ◌-◌, suc, ◌∷◌, [], ◌++◌, ◌≡◌, ℕ, ◌<◌, ◌≤◌, ◌+◌, ◌/◌, length, take, vec_capacity, vec_len};
+ghost use Rattle.std.specs.Prelude.{List, map, ◌⊎◌, IsTrue, IsSome, IfSome, ◌↔◌, ◌-◌, suc, ◌∷◌, [], ◌++◌, ◌≡◌, ℕ, ◌<◌, ◌≤◌, ◌+◌, ◌/◌, length, take, vec_capacity, vec_len};
 ghost use Rattle.btree_twigs.specs.Stubs.{Stub, children_of, low_of as low_in, nodes, level_of as level_in};
 ghost use Rattle.btree_twigs.specs.Levels.{Node, IsMedium, Drops, Changes, IsEvenedBy, IsRowTaken, IsRowTakenBy, rows_at, ReshapeDown};
-ghost use Rattle.btree_twigs.specs.Updates.{IsNode, OneShort, HasRoom, width_of, CanMend, IsMended};
+ghost use Rattle.btree_twigs.specs.Updates.{IsNode, OneShort, HasRoom, room_of, child_room, width_of, CanMend, IsMended};
 ghost use Rattle.std.specs.Option.{option_to_list};
 ghost use Rattle.btree_twigs.specs.Removal.{below_in, IsTaken, MendsAt, AreMended, CanTake, CanTakeBelow, IsTwigTaken, IsChildTaken, CanMendBeside};
 ghost use Rattle.btree_twigs.specs.Top.{child_level, CanTakeTop, IsTopTaken, HasOnly};
@@ -42,7 +42,7 @@ fn even_out(left: &mut Vec<Child>, right: &mut Vec<Child>, order: usize) -> bool
     ensures all { left.new.items ++ right.new.items ≡ left.old.items ++ right.old.items }
     ensures two { OnTrue result ((order / 2 ≤ length left.new.items) × (length left.new.items ≤ order) × (order / 2 ≤ length right.new.items) × (length right.new.items ≤ order)) }
     ensures one { OnFalse result ((length right.new.items ≡ 0) × (order / 2 ≤ length left.new.items) × (length left.new.items ≤ order) × (length left.old.items ≤ order / 2) × (length right.old.items ≤ order / 2)) }
-    ensures room { (order < vec_capacity left.new) × (order < vec_capacity right.new) }
+    ensures room { (vec_capacity left.new ≡ vec_capacity left.old) × (vec_capacity right.new ≡ vec_capacity right.old) }
     ensures lent { OnTrue result ((order / 2 < length right.old.items → length left.new.items ≡ length left.old.items + 1)
         × (length right.old.items ≤ order / 2 → length right.new.items ≡ length right.old.items + 1)) }
     ensures lends { IsTrue result ↔ ((order / 2 < length right.old.items) ⊎ (order / 2 < length left.old.items)) }
@@ -69,7 +69,7 @@ fn even_twigs(left: &mut Twig, right: &mut Twig, order: usize) -> bool
     ensures all { children_of left.new ++ children_of right.new ≡ children_of left.old ++ children_of right.old }
     ensures two { OnTrue result ((order / 2 ≤ length (children_of left.new)) × (length (children_of left.new) ≤ order) × (order / 2 ≤ length (children_of right.new)) × (length (children_of right.new) ≤ order)) }
     ensures one { OnFalse result ((length (children_of right.new) ≡ 0) × (order / 2 ≤ length (children_of left.new)) × (length (children_of left.new) ≤ order) × (length (children_of left.old) ≤ order / 2) × (length (children_of right.old) ≤ order / 2)) }
-    ensures room { HasRoom order left.new × HasRoom order right.new }
+    ensures room { (room_of left.new ≡ room_of left.old) × (room_of right.new ≡ room_of right.old) }
     ensures levels { (level_in left.new ≡ level_in left.old) × (level_in right.new ≡ level_in right.old) }
     ensures lends { ((order / 2 < length (children_of left.old)) ⊎ (order / 2 < length (children_of right.old))) → IsTrue result }
     ensures lent { OnTrue result ((order / 2 < length (children_of right.old) → length (children_of left.new) ≡ length (children_of left.old) + 1)
@@ -86,6 +86,7 @@ fn mend_pair(left: &mut Child, right: Child, order: usize) -> Option<Child>
     ensures mended { (at : CanMend order left.old right) → IsMended order (suc at.level) at.high left.old right (left.new ∷ option_to_list result) }
     ensures lends { ((order / 2 < width_of left.old) ⊎ (order / 2 < width_of right)) → IsSome result }
     ensures evened { IsEvenedBy order (out-Child left.old) (out-Child right) (left.new ∷ option_to_list result) }
+    ensures room { (child_room left.new ≡ child_room left.old) × IfSome result (λ part. child_room part ≡ child_room right) }
 {
     let Child::Grown {
         twig: mut right,
@@ -146,6 +147,7 @@ pub fn take(twig: &mut Twig, order: usize, block: u64)
     requires can { CanTake order block twig.old }
     ensures taken { (at : CanTake order block twig.old) → IsTwigTaken order at.level at.least at.low at.high block at.loses twig.old twig.new }
     ensures levels { (medium : Stub → ℕ → List Node) → IsMedium medium → (at : CanTake order block twig.old) → IsRowTaken medium order block at.level at.high twig.old twig.new }
+    ensures room { room_of twig.new ≡ room_of twig.old }
 {
     if twig.level == 1 {
         take_datum(&mut twig.children, block);
@@ -167,6 +169,7 @@ fn take_below(child: &mut Child, order: usize, block: u64) -> bool
     ensures short { IsTrue result ↔ (width_of child.new < order / 2) }
     ensures levels { (medium : Stub → ℕ → List Node) → IsMedium medium → (at : CanTakeBelow order block child.old)
         → IsRowTakenBy medium order block at.level at.high (out-Child child.old) (out-Child child.new) }
+    ensures room { child_room child.new ≡ child_room child.old }
 {
     match child {
         Child::Kept { .. } => unreachable!(),
@@ -185,6 +188,7 @@ pub fn take_top(top: &mut Child, order: usize, block: u64)
     ensures taken { (at : CanTakeTop order block top.old) → IsTopTaken order at.level at.high block top.old top.new }
     ensures levels { (medium : Stub → ℕ → List Node) → IsMedium medium → (at : CanTakeTop order block top.old)
         → ReshapeDown order block (suc at.level) (child_level top.new) (rows_at medium (suc at.level) at.high top.old) (rows_at medium (child_level top.new) at.high top.new) }
+    ensures room { child_level top.new ≡ child_level top.old → child_room top.new ≡ child_room top.old }
 {
     if let Child::Grown { twig, .. } = top {
         take(twig, order, block);
@@ -214,7 +218,7 @@ fn give_way(top: &mut Child)
 fn only(twig: &mut Twig) -> Child
     requires { length (children_of twig.old) ≡ 1 }
     ensures only { children_of twig.old ≡ result ∷ [] }
-    ensures wiped { IsBlankRoom (vec_capacity (out-Twig twig.old).children) (children_of twig.new) }
+    ensures wiped { IsBlankRoom (room_of twig.old) (out-Twig twig.new).children }
 {
     let child = match twig.children.pop() {
         Some(child) => child,

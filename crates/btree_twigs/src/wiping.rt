@@ -1,6 +1,7 @@
 //! Nodes in memory that go: nothing of their keys is left in the rooms that they had.
-ghost use Rattle.std.specs.Prelude.{◌≡◌, vec_capacity};
+ghost use Rattle.std.specs.Prelude.{◌≡◌, length, vec_capacity};
 ghost use Rattle.btree_twigs.specs.Stubs.{children_of};
+ghost use Rattle.btree_twigs.specs.Updates.{room_of};
 ghost use Rattle.btree_twigs.specs.Wiped.{AreBlank, IsBlankRoom, blank as zeros};
 
 use crate::lists::{insert, push};
@@ -9,7 +10,9 @@ use sdbt_base::Key;
 
 /// Writes zeros over the children of a node, and over those of the nodes in memory below it, which go with it.
 pub fn wipe(twig: &mut Twig)
-    ensures { AreBlank (children_of twig.new) }
+    ensures blank { AreBlank (children_of twig.new) }
+    ensures many { length (children_of twig.new) ≡ length (children_of twig.old) }
+    ensures room { room_of twig.new ≡ room_of twig.old }
 {
     let level = twig.level;
     wipe_all(&mut twig.children, level);
@@ -48,7 +51,7 @@ fn wipe_child(child: &mut Child, level: u8)
 
 /// Writes zeros over a room from which all children were moved away.
 pub(crate) fn wipe_room(children: &mut Vec<Child>)
-    ensures { IsBlankRoom (vec_capacity children.old) children.new.items }
+    ensures { IsBlankRoom (vec_capacity children.old) children.new }
 {
     children.clear();
     let room = children.capacity();

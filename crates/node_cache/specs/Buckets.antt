@@ -1,5 +1,7 @@
 -- The buckets of a cache: which slots may have a node of an address.
-use Rattle.std.specs.Prelude.{◌≡◌, ◌≢◌, ◌%◌, ◌*◌, ℕ, List, Option, None, Some, length, max, slice_get}
+use Rattle.std.specs.Prelude.{◌≡◌, ◌≢◌, ◌%◌, ◌*◌, ℕ, List, Option, None, Some, length, max, slice_get, vec_capacity}
+use Rattle.std.specs.declared.vec.Vec.{Vec}
+use Rattle.std.specs.declared.alloc.Global.{Global}
 use Rattle.node_cache.specs.declared.slots.CachedNode.{CachedNode}
 use Rattle.node_cache.specs.Slots.{IsTied}
 use Rattle.node_cache.specs.declared.buckets.Bucket.{Bucket}
@@ -25,9 +27,11 @@ abbrev pub IsShared : List (Option ℕ) → ℕ → ℕ → ℕ → Type 0
 IsShared addrs number count place = (other : ℕ) × (other ≢ number) × IsIn addrs other count place
 
 -- numbered slots in the order of their use, of which there is room for so many, the addresses of the nodes in them, and buckets that rule out none of these.
--- No more room was taken than these need: for each slot, for one at least, and for four buckets a slot
-pub record IsCachedBy (slots : List (ℕ × Option CachedNode)) (room : ℕ) (addrs : List (Option ℕ)) (buckets : List Bucket) : Type 0 where
-  pub tied : IsTied slots addrs
-  pub covers : Covers buckets addrs
-  pub room_is : room ≡ max 1 (length addrs)
-  pub four_each : length buckets ≡ 4 * length addrs
+-- No more room was taken than these need: for each slot, for one at least, and for four buckets a slot; and both lists fill theirs
+pub record IsCachedBy (slots : List (ℕ × Option CachedNode)) (room : ℕ) (addrs : Vec (Option ℕ) Global) (buckets : Vec Bucket Global) : Type 0 where
+  pub tied : IsTied slots addrs.items
+  pub covers : Covers buckets.items addrs.items
+  pub room_is : room ≡ max 1 (length addrs.items)
+  pub four_each : length buckets.items ≡ 4 * length addrs.items
+  pub no_address_more : vec_capacity addrs ≡ length addrs.items
+  pub no_bucket_more : vec_capacity buckets ≡ length buckets.items

@@ -1,8 +1,11 @@
 //! Which slots may have a node of an address: each address belongs into one bucket.
-ghost use Rattle.std.specs.Prelude.{◌≡◌, ◌≢◌, ◌%◌, ◌<◌, ℕ, Some, IfSome, IfNone, IsTrue, IsFalse, length, slice_get};
+ghost use Rattle.std.specs.Prelude.{◌≡◌, ◌≢◌, ◌%◌, ◌<◌, ℕ, Some, IfSome, IfNone, IsTrue, IsFalse, IfOk, length, slice_get, vec_capacity, vec_len};
 ghost use Rattle.std.proofs.Math.ListN.{set};
 ghost use Rattle.node_cache.specs.Slots.{IsUnlisted};
 ghost use Rattle.node_cache.specs.Buckets.{Covers, IsIn, IsShared, MayHave};
+
+use sdbt_base::Memory;
+use std::alloc::Global;
 
 /// The slots with addresses of one bucket.
 #[derive(Clone, Copy, Debug, PartialEq, Eq)]
@@ -13,6 +16,18 @@ pub enum Bucket {
     One(u16),
     /// There may be any.
     Many,
+}
+
+/// So many buckets without slots, in a room for no more than these.
+pub(crate) fn empty_buckets(alloc: Global, count: usize) -> Result<Vec<Bucket>, Memory>
+    ensures count { IfOk result (λ buckets. vec_len buckets ≡ count) }
+    ensures room { IfOk result (λ buckets. vec_capacity buckets ≡ count) }
+{
+    let mut buckets = Vec::with_capacity(alloc, count)?;
+    'buckets: while buckets.len() < count {
+        buckets.push_reserved(Bucket::Empty);
+    }
+    Ok(buckets)
 }
 
 /// The number of the slot in which the node of an address stands.

@@ -11,7 +11,7 @@ ghost use Rattle.node_cache.specs.Cached.{cached_node, node_of};
 ghost use Rattle.node_cache.specs.Slots.{IsLeastUsed, IsSlotFor};
 ghost use Rattle.node_cache.specs.Buckets.{Covers};
 
-use crate::buckets::{Bucket, note, slot_of};
+use crate::buckets::{Bucket, empty_buckets, note, slot_of};
 use crate::slots::Slot;
 use lru::LruCache;
 use node_codec::{Entry, NodeBody};
@@ -50,7 +50,7 @@ impl Model for NodeCache {
 
     ghost view = { λ c. record { capacity = length c.addrs.items; nodes = nodes_in c.slots.entries } };
 
-    ghost invariant = { λ c. IsCachedBy c.slots.entries c.slots.cap c.addrs.items c.buckets.items };
+    ghost invariant = { λ c. IsCachedBy c.slots.entries c.slots.cap c.addrs c.buckets };
 }
 
 impl NodeCache {
@@ -68,9 +68,9 @@ impl NodeCache {
         let mut addrs = Vec::with_capacity(alloc, capacity)?;
         for number in 0..capacity {
             slots.put(number, Slot::new(alloc)?)?;
-            addrs.push(None)?;
+            addrs.push_reserved(None);
         }
-        let buckets = vec![in alloc; Bucket::Empty; BUCKETS * capacity]?;
+        let buckets = empty_buckets(alloc, BUCKETS * capacity)?;
         Ok(NodeCache {
             slots,
             addrs,

@@ -10,5 +10,5 @@ invariant-loop-from l = record {
   long : l.at ≤ vec_len l.from;
   room : vec_len l.from + vec_len l.to ≤ vec_capacity l.to;
   kept : vec_capacity l.from ≡ vec_capacity l.fn.from;
-  same : vec_capacity l.fn.to ≤ vec_capacity l.to;
+  same : vec_capacity l.to ≡ vec_capacity l.fn.to;
 }

@@ -7,7 +7,7 @@ use Rattle.btree_twigs.specs.declared.twigs.Twig.{Twig}
 use Rattle.btree_twigs.specs.Stubs.{Stub, children_of, datum, level_of, stubs, stubs_below}
 use Rattle.btree_twigs.specs.Shape.{IsTwig}
 use Rattle.btree_twigs.specs.Updates.{IsOpen, CanPut, HasSpares, IsTwigPut}
-use Rattle.btree_twigs.specs.Top.{CanRaise, IsTopBy, top_least, level_in, CanPutTop}
+use Rattle.btree_twigs.specs.Top.{child_level, CanRaise, IsRaised, IsTopBy, top_least, level_in, CanPutTop}
 use Rattle.btree_twigs.proofs.Ways.{fewer}
 use Rattle.btree_twigs.proofs.Nodes.{stubs_of_grown}
 use Rattle.btree_twigs.proofs.Tops.{top_kept, top_raised}
@@ -174,3 +174,29 @@ returns-else-len-order-clause-stays c at has =
     let p = e.put open_at in
     rw (c.in-Grown.is, made.outs-Grown c.in-Grown.low c.in-Grown.twig)
     (ap level_in (made.outs-Grown c.in-Grown.low c.put.new.twig) ∙ p.shaped.level_is ∙ sym open_at.shaped.level_is)
+
+-- a root one level up is at another level
+one_up : (order level : ℕ) (old top part new : Child) → child_level old ≡ suc level → IsRaised order level top part new → child_level new ≡ child_level old → ⊥
+one_up order level old top part new was raised same = omega (arith, was, same, ap level_in raised.is, raised.level_is)
+
+pub returns-then-len-order-clause-room : goal.returns-then-len-order-clause-room
+returns-then-len-order-clause-room c same =
+    let at = c.requires.can in
+    let e = rw (c.in-Grown.is, made.outs-Grown c.in-Grown.low c.in-Grown.twig) at c.put.ensures in
+    let grown = subst (CanPutTop c.args.order c.args.block c.args.spares.now.items) c.in-Grown.is at in
+    let open_at = open_top c.args.order c.args.block c.in-Grown.low _ c.in-Grown.twig grown in
+    let p = e.put open_at in
+    let spare = e.spares open_at 2 (fewer c.args.order (2 + at.level) (at.level + 2) _ (omega arith) at.enough) in
+    let left = c.split-part.ensures.spares 1 spare in
+    let was : child_level c.args.top.now ≡ suc at.level = ap child_level c.in-Grown.is ∙ ap level_in (made.outs-Grown c.in-Grown.low c.in-Grown.twig) ∙ open_at.shaped.level_is in
+    let r = rw (c.in-Grown.is, made.outs-Grown c.in-Grown.low c.in-Grown.twig) at c.raise.ensures.raised in
+    let long : length (children_of c.put.new.twig) ≡ c.args.order + 1 = omega (arith, p.shaped.node.within) in
+    let zero_is = (subst (IsTopBy c.args.order at.level at.high) (made.outs-Grown c.in-Grown.low c.in-Grown.twig) grown.shaped).0 in
+    let full : IsTwig c.args.order at.level (c.args.order / 2) (c.args.order + 1) 0 at.high c.put.new.twig = record {
+      level_is = p.shaped.level_is;
+      room = p.shaped.room;
+      node = record { enough = omega (arith, c.requires.four); within = p.shaped.node.within; begins = p.shaped.node.begins; each = p.shaped.node.each };
+    } in
+    let s = c.split-part.ensures.split at.level 0 at.high full in
+    let raised = r (record { level = at.level; level_is = ap level_in (made.outs-Grown c.in-Grown.low c.split-part.new.twig) ∙ s.left.level_is; small = at.small; order = c.args.order; four = c.requires.four; spare = left }) c.args.order left in
+    absurd (one_up c.args.order at.level c.args.top.now _ _ c.raise.new.top was raised same)

@@ -5,7 +5,7 @@ use Rattle.btree_twigs.specs.declared.twigs.Twig.{Twig, out-Twig}
 use Rattle.btree_twigs.specs.Stubs.{children_of, stubs_below}
 use Rattle.btree_twigs.specs.Updates.{IsOpen}
 use Rattle.btree_twigs.specs.Removal.{below_in, Helps, CanTake, IsTwigTaken}
-use Rattle.btree_twigs.specs.Top.{child_level, IsTopBy, top_least, CanTakeTop, IsTopTaken, HasOnlyBy}
+use Rattle.btree_twigs.specs.Top.{child_level, level_in, IsTopBy, top_least, CanTakeTop, IsTopTaken, HasOnlyBy}
 use Rattle.btree_twigs.proofs.Nodes.{stubs_of_grown}
 use Rattle.btree_twigs.proofs.Tops.{top_taken, top_gone, top_level, only_of}
 use Rattle.btree_twigs.proofs.SinkLaws.{sunk_rows, gone_rows}
@@ -123,3 +123,16 @@ returns-else-is_single-clause-levels c medium m at =
     let t = taken_of c.args.order c.args.block c.in-Grown.low c.args.top.now c.in-Grown.twig c.take.new.twig c.in-Grown.is at e.taken in
     rw (c.in-Grown.is, made.outs-Grown c.in-Grown.low c.in-Grown.twig)
     (sunk_rows medium c.args.order c.args.block at.level at.high c.in-Grown.low c.in-Grown.twig c.take.new.twig t.0 t.1.shaped.level_is (λ one. omega (arith, c.len-is_single.ensures, c.if-is_single.false)) (e.levels medium m can))
+
+pub returns-then-is_single-clause-room : goal.returns-then-is_single-clause-room
+returns-then-is_single-clause-room c same =
+    let at = c.requires.can in
+    let e = rw (c.in-Grown.is, made.outs-Grown c.in-Grown.low c.in-Grown.twig) at c.take.ensures.taken in
+    let t = taken_of c.args.order c.args.block c.in-Grown.low c.args.top.now c.in-Grown.twig c.take.new.twig c.in-Grown.is at e in
+    let can = open_top c.args.order c.args.block c.in-Grown.low c.in-Grown.twig (subst (CanTakeTop c.args.order c.args.block) c.in-Grown.is at) in
+    let one = above_leaf at.level (out-Twig c.take.new.twig).level t.1.shaped.level_is c.if-twig-eq1.false in
+    let g = rw (c.in-Grown.is, made.outs-Grown c.in-Grown.low c.in-Grown.twig) at c.give_way.ensures in
+    let only : children_of c.take.new.twig ≡ c.give_way.new.top ∷ [] = sym (ap below_in (made.outs-Grown c.in-Grown.low c.take.new.twig)) ∙ g in
+    let was : child_level c.args.top.now ≡ suc at.level = ap child_level c.in-Grown.is ∙ ap level_in (made.outs-Grown c.in-Grown.low c.in-Grown.twig) ∙ can.shaped.level_is in
+    let now = only_level c.args.order at.level at.high c.args.block at.loses c.in-Grown.twig c.take.new.twig c.give_way.new.top c.requires.four at.to t.2 t.1 one only in
+    absurd (omega (arith, same, was, now))

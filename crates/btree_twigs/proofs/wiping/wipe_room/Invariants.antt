@@ -8,5 +8,6 @@ decreases-places l = l.room - vec_len l.children
 abbrev pub invariant-places : goal.invariant-places
 invariant-places l = record {
   zeros : (k : ℕ) → get_or l.children.items k blank ≡ blank;
-  room : l.room ≤ vec_capacity l.children;
+  room : vec_capacity l.children ≡ l.room;
+  within : vec_len l.children ≤ l.room;
 }

@@ -21,6 +21,8 @@ invariant_of-self c =
       covers = covers_without c.self.inside.buckets.items addrs n (slice_get_within addrs n (Some c.args.addr) listed) c.self.invariant.covers;
       room_is = ap (λ m. m.cap) c.demote.ensures.entries ∙ ap (λ m. m.cap) c.empty.ensures.written ∙ c.self.invariant.room_is ∙ ap (max 1) (sym (length-set addrs n None));
       four_each = omega (arith, c.self.invariant.four_each, length-set addrs n None);
+      no_address_more = omega (arith, c.self.invariant.no_address_more, length-set addrs n None);
+      no_bucket_more = c.self.invariant.no_bucket_more;
     }
 
 pub returns-in-Some : goal.returns-in-Some

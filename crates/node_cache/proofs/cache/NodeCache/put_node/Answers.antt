@@ -20,6 +20,8 @@ invariant_of-self c =
       covers = subst (λ bs. Covers bs (set addrs n (Some c.args.addr))) (sym all) (subst (λ l. Covers c.note.new.buckets (set l n (Some c.args.addr))) c.deref-3.ensures.value c.note.ensures.covers);
       room_is = ap (λ m. m.cap) c.fill.ensures.written ∙ c.self.invariant.room_is ∙ ap (max 1) (sym (length-set addrs n (Some c.args.addr)));
       four_each = omega (arith, c.self.invariant.four_each, length-set addrs n (Some c.args.addr), ap length all, c.note.ensures.count, ap length c.deref_mut.ensures.value);
+      no_address_more = omega (arith, c.self.invariant.no_address_more, length-set addrs n (Some c.args.addr));
+      no_bucket_more = omega (arith, c.self.invariant.no_bucket_more, ap length all, c.note.ensures.count, ap length c.deref_mut.ensures.value);
     }
 
 pub returns-clause-cached : goal.returns-clause-cached

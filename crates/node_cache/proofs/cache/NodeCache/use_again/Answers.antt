@@ -18,6 +18,8 @@ invariant_of-self c =
       covers = c.self.invariant.covers;
       room_is = ap (λ m. m.cap) c.use_slot.ensures.used ∙ c.self.invariant.room_is;
       four_each = c.self.invariant.four_each;
+      no_address_more = c.self.invariant.no_address_more;
+      no_bucket_more = c.self.invariant.no_bucket_more;
     }
 
 pub returns-then-is_kept-clause-used : goal.returns-then-is_kept-clause-used
