@@ -1,6 +1,6 @@
 -- The search: each key is tried in turn, and at the end nothing is left out.
 use Rattle.std.proofs.Common.{◌≡◌, ◌⊎◌, ◌↔◌, ◌<◌, ◌≤◌, ◌+◌, inl, inr, ℕ, List, [], ◌∷◌, ◌++◌, map, length, get_or, refl, sym, ap, subst, ◌∙◌, arith}
-use Rattle.std.specs.Prelude.{All, Contains, Option, None, Some, MatchOption, IfSome, slice_get}
+use Rattle.std.specs.Prelude.{◌≢◌, All, Contains, Option, None, Some, Result, Ok, Err, MatchOption, IfSome, IfNone, IsOk, IsErrOf, slice_get}
 use Rattle.std.proofs.Math.ListN.{get_or-append}
 use Rattle.std.proofs.lemmas.Bool.{cases_lt}
 use Rattle.std.proofs.lemmas.List.{get_or_default}
@@ -16,7 +16,8 @@ use Rattle.seizure.specs.declared.opened.Opened.{Opened}
 use Rattle.seizure.specs.Opened.{told_of, IsOrderOf}
 use Rattle.root_codec.specs.declared.root.Root.{Root}
 use Rattle.root_codec.specs.RootRecord.{root_bytes}
-use Rattle.seizure.specs.Report.{Seized, IsSeizure, roots_of}
+use Rattle.page_store.specs.Roots.{IsRootWithin}
+use Rattle.seizure.specs.Report.{Seized, IsSeizure, Holds, roots_of}
 use Rattle.seizure.specs.Work.{Gains, HasKey, body_at, HasOneBelow, IsAllReached}
 use Rattle.seizure.proofs.WorkLaws.{still_has, gains_then}
 
@@ -172,3 +173,30 @@ nothing_wanted wanted roots gains none = gains.gained ∙ no_more gains.more (su
 pub root_none : (cell : Option (List ℕ)) (root : Option Root) → cell ≡ None → IfSome root (λ r. cell ≡ Some (root_bytes r)) → root ≡ None
 root_none cell None empty is = refl
 root_none cell (Some root) empty is = absurd (some_none (root_bytes root) (sym is ∙ empty))
+
+-- the cell holds what a look at it found
+pub holds_found : (head : ℕ) (cell : Option (List ℕ)) (root : Option Root) → IfSome root (λ r. cell ≡ Some (root_bytes r)) → IfSome root (IsRootWithin head) → IfNone root (cell ≡ None) → Holds head cell root
+holds_found head cell None found within none = none
+holds_found head cell (Some root) found within none = (within, found)
+
+pushed_some : (keys : List (List ℕ)) (key : List ℕ) → keys ++ key ∷ [] ≢ []
+pushed_some [] key none = cc
+pushed_some (first ∷ keys) key none = cc
+
+-- chains begin with the keys that are given
+pub given_some : (keys : List (List ℕ)) (root : Option Root) → keys ≢ [] → roots_of keys root ≢ []
+given_some [] root some none = some refl
+given_some (key ∷ keys) None some none = cc
+given_some (key ∷ keys) (Some root) some none = cc
+
+-- and with that of a root record
+pub root_some : (keys : List (List ℕ)) (root : Root) → roots_of keys (Some root) ≢ []
+root_some keys root = pushed_some (map bare keys) (bare root.key)
+
+err_not_ok : (T : Type 0) {E : Type 0} (e : E) → (let result : Result T E = Err e in IsOk result) → ⊥
+err_not_ok T e is = cc
+
+-- where none is wanted the call is done, and so lacks no memory
+pub some_wanted : {T E : Type 0} (result : Result T E) (refusal : E) (wanted roots : List (List ℕ)) → Gains [] wanted (Contains roots) → (wanted ≡ [] → IsOk result) → IsErrOf result refusal → roots ≢ []
+some_wanted (Ok done) refusal wanted roots gains is_done err none = cc
+some_wanted {T = T} (Err e) refusal wanted roots gains is_done err none = err_not_ok T e (is_done (nothing_wanted wanted roots gains none))

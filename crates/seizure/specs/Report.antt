@@ -1,5 +1,5 @@
 -- What a seizure reports.
-use Rattle.std.specs.Prelude.{◌≡◌, ◌↔◌, ◌∷◌, ◌++◌, [], ℕ, List, Option, None, Some, AllPairs, Contains, length, map}
+use Rattle.std.specs.Prelude.{◌≡◌, ◌≢◌, ◌↔◌, ◌∷◌, ◌++◌, [], ℕ, List, Option, None, Some, AllPairs, Contains, length, map}
 use Rattle.sdbt_base.specs.Keys.{bare}
 use Rattle.root_codec.specs.declared.root.Root.{Root}
 use Rattle.root_codec.specs.RootRecord.{root_bytes}
@@ -32,3 +32,7 @@ Holds head cell (Some root) = IsRootWithin head root × (cell ≡ Some (root_byt
 -- these are the keys that chains begin with: those that were given, and that of the root record which the cell holds
 abbrev pub Begins : ℕ → Option (List ℕ) → List (List ℕ) → List (List ℕ) → Type 0
 Begins head cell keys roots = (root : Option Root) × Holds head cell root × (roots ≡ roots_of keys root)
+
+-- there are such keys: the cell is good, and a key was given or stands in its root record
+abbrev pub BeginsSome : ℕ → Option (List ℕ) → List (List ℕ) → Type 0
+BeginsSome head cell keys = (roots : List (List ℕ)) × Begins head cell keys roots × (roots ≢ [])

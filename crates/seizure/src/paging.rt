@@ -1,5 +1,5 @@
 //! A seizure of pages in memory.
-ghost use Rattle.std.specs.Prelude.{◌≡◌, ◌<◌, ◌∷◌, [], ℕ, List, All, Contains, IfOk, OnOk, length, map};
+ghost use Rattle.std.specs.Prelude.{◌≡◌, ◌≢◌, ◌<◌, ◌∷◌, [], ℕ, List, All, Contains, IfOk, OnOk, OnErr, length, map};
 ghost use Rattle.sdbt_base.specs.Keys.{bare};
 ghost use Rattle.seizure.specs.Index.{AreMarks, AreBelow, AreRising};
 ghost use Rattle.seizure.specs.Report.{IsSeizure};
@@ -29,9 +29,11 @@ pub fn seize_pages(alloc: Global, pages: &Pages, key: &Key) -> Result<Report, Me
 ///
 /// The report has exactly the addresses, kinds and block fields of the bodies at which a chain ends: its first key is one of
 /// these, each key opens the page at its address, and each next one stands in an entry there. Every key that a chain
-/// yields is tried on every page. The pages may be any: nothing of them is believed. With no key no page is looked at.
+/// yields is tried on every page. The pages may be any: nothing of them is believed. With no key no page is looked at, and no
+/// memory lacks.
 pub fn seize_pages_all(alloc: Global, pages: &Pages, keys: &KeyList) -> Result<Report, Memory>
-    ensures { IfOk result (IsSeizure (map bare keys.now) pages.now) }
+    ensures report { IfOk result (IsSeizure (map bare keys.now) pages.now) }
+    ensures memory { OnErr result (keys.now ≢ []) }
 {
     let mut work = Work::new(alloc);
     work.want_all(keys)?;

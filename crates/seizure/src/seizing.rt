@@ -1,12 +1,12 @@
 //! A seizure of a platform.
-ghost use Rattle.std.specs.Prelude.{◌≡◌, ◌<◌, ◌≤◌, ◌⊎◌, ◌+◌, [], ℕ, List, None, All, Contains, IfOk, OnOk, IsErrOf, length};
+ghost use Rattle.std.specs.Prelude.{◌≡◌, ◌≢◌, ◌<◌, ◌≤◌, ◌⊎◌, ◌+◌, [], ℕ, List, None, All, Contains, IfOk, IsOk, OnOk, OnErr, IsErrOf, length};
 ghost use Rattle.sdbt_base.specs.Faults.{TellsOf};
 ghost use Rattle.platform.specs.Counts.{MayRiseByOne};
 ghost use Rattle.page_store.specs.Roots.{IsBadCell};
 ghost use Rattle.seizure.specs.Index.{AreMarks, AreBelow, AreApart, AreRising};
 ghost use Rattle.seizure.specs.Looks.{Looks, Stops};
 ghost use Rattle.seizure.specs.Reads.{ReadsEach, ReadsFew};
-ghost use Rattle.seizure.specs.Report.{IsSeizure, Begins, roots_of};
+ghost use Rattle.seizure.specs.Report.{IsSeizure, Begins, BeginsSome, roots_of};
 ghost use Rattle.seizure.specs.Work.{KnowsItsKeys, Gains, Tried, IsAllReached};
 
 use crate::index::Index;
@@ -31,6 +31,8 @@ pub fn seize<P: Platform>(alloc: Global, platform: &mut P) -> Result<Report, Sei
     ensures pages { IfOk result (λ report. report.pages ≡ P.head platform.old) }
     ensures bad { P.tells → IsErrOf result SeizeRefusal.BadRoot →
         IsBadCell (P.head platform.old) (P.history platform.old).present.cell }
+    ensures memory { P.tells → IsErrOf result SeizeRefusal.Memory →
+        BeginsSome (P.head platform.old) (P.history platform.old).present.cell [] }
     ensures looked { P.tells → (IsErrOf result SeizeRefusal.PlatformFault → ⊥) → P.reads platform.old + 1 ≤ P.reads platform.new }
     ensures unread { P.tells → IsErrOf result SeizeRefusal.BadRoot ⊎ ((P.history platform.old).present.cell ≡ None) →
         MayRiseByOne (P.reads platform.old) (P.reads platform.new) }
@@ -49,7 +51,8 @@ pub fn seize<P: Platform>(alloc: Global, platform: &mut P) -> Result<Report, Sei
 /// read gives of each page. Every key that a chain yields is tried on every page. Each page is read once, and once more
 /// for each key that opens it; where there is no key, no page is read. Before that the cell is looked at, once.
 ///
-/// `BadRoot` comes exactly where [`current`] answers it. A `PlatformFault` comes only where their count rose.
+/// `BadRoot` comes exactly where [`current`] answers it. A `PlatformFault` comes only where their count rose. Memory lacks only
+/// where there is a key to try, and never in place of `BadRoot`.
 pub fn seize_all<P: Platform>(
     alloc: Global,
     platform: &mut P,
@@ -61,6 +64,8 @@ pub fn seize_all<P: Platform>(
     ensures pages { IfOk result (λ report. report.pages ≡ P.head platform.old) }
     ensures bad { P.tells → IsErrOf result SeizeRefusal.BadRoot →
         IsBadCell (P.head platform.old) (P.history platform.old).present.cell }
+    ensures memory { P.tells → IsErrOf result SeizeRefusal.Memory →
+        BeginsSome (P.head platform.old) (P.history platform.old).present.cell keys.now }
     ensures looked { P.tells → (IsErrOf result SeizeRefusal.PlatformFault → ⊥) → P.reads platform.old + 1 ≤ P.reads platform.new }
     ensures unread { P.tells → IsErrOf result SeizeRefusal.BadRoot ⊎ ((keys.now ≡ []) × ((P.history platform.old).present.cell ≡ None)) →
         MayRiseByOne (P.reads platform.old) (P.reads platform.new) }
@@ -83,6 +88,7 @@ fn wanted(alloc: Global, keys: &KeyList, root: &Option<Root>) -> Result<Work, Me
     ensures known { IfOk result KnowsItsKeys }
     ensures fresh { IfOk result (λ work. work.opened ≡ []) }
     ensures keys { IfOk result (λ work. Gains [] work.keys (Contains (roots_of keys.now root.now))) }
+    ensures memory { OnErr result (roots_of keys.now root.now ≢ []) }
 {
     let mut work = Work::new(alloc);
     work.want_all(keys)?;
@@ -103,7 +109,7 @@ fn seize_from<P: Platform>(
     ensures report { P.tells → IfOk result (λ report. (roots : List (List ℕ)) → Gains [] work.keys (Contains roots) →
         IsSeizure roots (P.history platform.old).present.readable report) }
     ensures pages { IfOk result (λ report. report.pages ≡ P.head platform.old) }
-    ensures unread { work.keys ≡ [] → platform.new ≡ platform.old }
+    ensures unread { work.keys ≡ [] → IsOk result × (platform.new ≡ platform.old) }
     ensures reads { P.tells → (roots : List (List ℕ)) → Gains [] work.keys (Contains roots) →
         ReadsEach roots (P.history platform.old).present.readable (P.reads platform.old) (P.reads platform.new) }
     ensures looks { Looks P.Platform platform.old platform.new }

@@ -1,5 +1,5 @@
 //! What a search has found: keys to try, and bodies that were opened.
-ghost use Rattle.std.specs.Prelude.{◌≡◌, ◌≤◌, ◌+◌, ◌*◌, ◌++◌, ◌∷◌, ℕ, [], Contains, IfSome, IfNone, OnOk, length, map};
+ghost use Rattle.std.specs.Prelude.{◌≡◌, ◌≢◌, ◌≤◌, ◌+◌, ◌*◌, ◌++◌, ◌∷◌, ℕ, [], Contains, IfSome, IfNone, OnOk, OnErr, length, map};
 ghost use Rattle.sdbt_base.specs.Keys.{bare};
 ghost use Rattle.key_graph.specs.Opening.{kind_of, IsNodeKind, count_of, key_in};
 ghost use Rattle.seizure.specs.Opened.{told_of, IsOrderOf};
@@ -53,6 +53,7 @@ impl Work {
         requires { KnowsItsKeys self.old }
         ensures known { OnOk result (KnowsItsKeys self.new) }
         ensures keys { OnOk result (Gains self.old.keys self.new.keys (Contains (map bare keys.now))) }
+        ensures memory { OnErr result (keys.now ≢ []) }
         ensures opened { self.new.opened ≡ self.old.opened }
     {
         for i in 0..keys.len() {

@@ -1,11 +1,12 @@
 use Rattle.std.proofs.Common.{◌≡◌, ℕ, List, [], map, sym, subst, ap}
-use Rattle.std.specs.Prelude.{Contains, Option, None, Some}
+use Rattle.std.specs.Prelude.{◌≢◌, Contains, Option, None, Some}
+use Rattle.std.proofs.lemmas.Result.{err_from_is_err_and}
 use Rattle.sdbt_base.specs.Keys.{bare}
 use Rattle.root_codec.specs.declared.root.Root.{Root}
 use Rattle.seizure.specs.declared.work.Work.{Work}
 use Rattle.seizure.specs.Report.{roots_of}
 use Rattle.seizure.specs.Work.{Gains}
-use Rattle.seizure.proofs.SearchLaws.{gains_root}
+use Rattle.seizure.proofs.SearchLaws.{gains_root, given_some, root_some}
 use Rattle.seizure.proofs.seizing.wanted.Goals.{in-Some+in_ok-want, in_default}
 use Rattle.seizure.proofs.seizing.wanted.Goals as goal
 
@@ -20,3 +21,13 @@ returns-clause-keys c =
       | in_default w ↦ subst (λ (root : Option Root). Gains [] more.keys (Contains (roots_of keys root))) (sym w.in_default.is)
           (gains_root keys wanted.keys more.keys None gains (ap (λ (work : Work). work.keys) w.work-is))
     ]
+
+pub returns-in_err-want_all-clause-memory : goal.returns-in_err-want_all-clause-memory
+returns-in_err-want_all-clause-memory c =
+    let p = err_from_is_err_and c.from_residual.result c.from_residual.ensures.1 in
+    rw p.1 (given_some c.args.keys.now c.args.root.now c.in_err-want_all.ensures.memory)
+
+pub returns-in_err-want-clause-memory : goal.returns-in_err-want-clause-memory
+returns-in_err-want-clause-memory c =
+    let p = err_from_is_err_and c.from_residual-in_err-want.result c.from_residual-in_err-want.ensures.1 in
+    rw p.1 (subst (λ (root : Option Root). roots_of c.args.keys.now root ≢ []) (sym c.in-Some.is) (root_some c.args.keys.now c.in-Some.root))
