@@ -139,21 +139,24 @@ stops_alike bound pages others addr entries alike below stops =
 
 -- ---- of an image and a later one
 
+pub nodes_later : (image later : Image) (root : Root) (nodes : List Node) → IsEarlier image later → root.addr < length image.recorded → NodesOf image.readable root nodes → NodesOf later.readable root nodes
+nodes_later image later root nodes earlier less are =
+    nodes_alike (length image.recorded) image.readable later.readable root.order root.level (root_want root) root.key nodes (later_alike image later earlier) less are
+
 pub damaged_later : (image later : Image) (root : Root) (addr : ℕ) → FitsRoot root → IsEarlier image later → root.addr < length image.recorded → IsDamaged image.readable root addr → IsDamaged later.readable root addr
 damaged_later image later root addr fits earlier less damaged =
     let bound = length image.recorded in
     let pages = image.readable in
     let others = later.readable in
     let alike : ReadAlike bound pages others = later_alike image later earlier in
-    let nodes_there = λ (nodes : List Node) (are : NodesOf pages root nodes). nodes_alike bound pages others root.order root.level (root_want root) root.key nodes alike less are in
     elim damaged [
       | inl (inl first) ↦ inl (inl (first_alike bound pages others addr root.order root.level (root_want root) root.key alike less first))
-      | inl (inr node) ↦ inl (inr (node.0, record { nodes = node.1.nodes; are = nodes_there node.1.nodes node.1.are; another = node.1.another }))
+      | inl (inr node) ↦ inl (inr (node.0, record { nodes = node.1.nodes; are = nodes_later image later root node.1.nodes earlier less node.1.are; another = node.1.another }))
       | inr copying ↦
           let within = root_within pages root copying.nodes fits copying.are in
           inr (record {
             nodes = copying.nodes;
-            are = nodes_there copying.nodes copying.are;
+            are = nodes_later image later root copying.nodes earlier less copying.are;
             many = copying.many;
             stops = stops_alike bound pages others addr (listed copying.nodes) alike
                 (All-weaker (IsListedWithin 0 root.blocks root.addr) (λ (e : Entry). e.addr < bound) (λ e is. omega (arith, is.under, less)) (listed copying.nodes) within) copying.stops;

@@ -5,7 +5,6 @@ pub mod LookLaws
 pub mod AlongLaws
 pub mod CommitLaws
 pub mod MountLaws
-pub mod WiderLaws
 pub mod UpgradeGoesLaws
 pub mod UpgradeLaws
 pub mod CarryLaws

@@ -22,11 +22,13 @@ use Rattle.device_terms.specs.Served.{IsServedCell, IsServedImage}
 use Rattle.device_core.specs.Upgrading.{Begins, IsDamaged, IsPartly, IsUpgradeCause, StandsFrom, needed_of_device, needed_of_root, pages_over}
 use Rattle.device_core.specs.declared.refusals.UpgradeRefusal.{UpgradeRefusal}
 use Rattle.device_core.specs.declared.refusals.UpgradeRefusal.TheVariants as upgrade
+use Rattle.device_core.proofs.SurveyLaws.{damaged_wrong, no_such_tree}
+use Rattle.device_core.proofs.WiderLaws.{damaged_later}
 use Rattle.device_course.specs.Course.{Made}
 use Rattle.device_course.specs.Marks.{Leaves}
 use Rattle.device_course.specs.States.{IsAt}
 use Rattle.device_course.proofs.MadeLaws.{made_none, made_one, made_same, made_stopped, shut}
-use Rattle.session_calls.specs.Damage.{IsWrongPage}
+use Rattle.session_calls.specs.Damage.{IsDamagedAt}
 use Rattle.session_calls.specs.Upgrades.{AnswersUpgrade, LeadsNowhere, LeadsUpgraded, ReplyUpgrades, TurnsUpgraded, UpgradeLeads, answer_of_refusal}
 use Rattle.session_calls.specs.declared.stops.DeviceStop.{DeviceStop}
 use Rattle.session_calls.specs.declared.stops.DeviceStop.TheVariants as stops
@@ -34,14 +36,13 @@ use Rattle.session_calls.specs.declared.upgrading.UpgradeReply.{UpgradeReply}
 use Rattle.session_calls.specs.declared.upgrading.UpgradeReply.TheVariants as replies
 use Rattle.session_calls.proofs.MountLaws.{bad_served}
 use Rattle.session_calls.proofs.StateLaws.{served_still}
-use Rattle.session_calls.proofs.WiderLaws.{miscounted_later, wrong_later}
 
 -- ---- which answer it is
 
--- a page that is named is a wrong one, over more pages too
-wrong_pages : {S : Type 0} (P : PlatformGhosts S) (platform platform_now : S) (root : Root) (addr : ℕ) → P.tells → length (P.history platform).present.recorded ≡ P.head platform → IsPartly P platform platform_now root
-    → IsDamaged (P.history platform).present.readable root addr → IsWrongPage (P.history platform).present addr × IsWrongPage (P.history platform_now).present addr
-wrong_pages P platform platform_now root addr told pages partly damaged =
+-- an upgrade stops at the page that is named, over more pages too
+stops_there : {S : Type 0} (P : PlatformGhosts S) (platform platform_now : S) (root : Root) (addr : ℕ) → P.tells → length (P.history platform).present.recorded ≡ P.head platform → IsPartly P platform platform_now root
+    → IsDamaged (P.history platform).present.readable root addr → IsDamagedAt (P.history platform).present addr × IsDamagedAt (P.history platform_now).present addr
+stops_there P platform platform_now root addr told pages partly damaged =
     let old : History = P.history platform in
     let new : History = P.history platform_now in
     let on = partly.begins.on in
@@ -49,18 +50,10 @@ wrong_pages P platform platform_now root addr told pages partly damaged =
     let stays : CellStays old new = partly.still told in
     let here : old.present.cell ≡ Some (root_bytes root) = on.cell told in
     let there : new.present.cell ≡ Some (root_bytes root) = During-now old new (λ image. image.cell ≡ old.present.cell) stays ∙ here in
-    let earlier = Extends-earlier old new stays.extends in
-    let less : root.addr < length old.present.recorded = omega (arith, pages, fits.addr, on.within.within) in
-    elim damaged [
-      | inl wrong ↦ (
-        inl (record { root = root; in_range = fits; cell = here; wrong = wrong }),
-        inl (record { root = root; in_range = fits; cell = there; wrong = wrong_later old.present new.present root addr earlier less wrong }),
-      )
-      | inr node ↦ (
-        inr (record { root = root; in_range = fits; cell = here; is_node = node.0; miscounted = node.1 }),
-        inr (record { root = root; in_range = fits; cell = there; is_node = node.0; miscounted = miscounted_later old.present new.present root earlier less node.1 }),
-      )
-    ]
+    let less : root.addr < length old.present.recorded = omega (arith, pages, fits.addr, on.within.within) in (
+      record { root = root; in_range = fits; cell = here; damaged = damaged },
+      record { root = root; in_range = fits; cell = there; damaged = damaged_later old.present new.present root addr fits (Extends-earlier old new stays.extends) less damaged },
+    )
 
 pub refusal_answers : {S R : Type 0} (P : PlatformGhosts S) (T : TapeGhosts R) (platform platform_now : S) (tape tape_now : R) (before now : Counts) (refusal : UpgradeRefusal) → (P.tells → length (P.history platform).present.recorded ≡ P.head platform)
     → IsUpgradeCause P T platform platform_now tape tape_now before now (Err refusal) → AnswersUpgrade P T platform platform_now tape tape_now (answer_of_refusal refusal)
@@ -68,7 +61,7 @@ refusal_answers P T platform platform_now tape tape_now before now upgrade.NoDev
 refusal_answers P T platform platform_now tape tape_now before now upgrade.BadRoot pages cause = (cause.0, cause.1)
 refusal_answers P T platform platform_now tape tape_now before now upgrade.AlreadyUpgraded pages cause = (cause.0, cause.1)
 refusal_answers P T platform platform_now tape tape_now before now (upgrade.Full needed free) pages (((root, on, version, is_needed, is_free, less), unmade, same)) = ((root, on, version, omega (arith, is_needed, is_free, less)), unmade)
-refusal_answers P T platform platform_now tape tape_now before now (upgrade.BadRecord addr) pages ((root, partly, damaged), same) = ((root, partly), λ told. wrong_pages P platform platform_now root addr told (pages told) partly (damaged told))
+refusal_answers P T platform platform_now tape tape_now before now (upgrade.BadRecord addr) pages ((root, partly, damaged), same) = ((root, partly), λ told. stops_there P platform platform_now root addr told (pages told) partly (damaged told))
 refusal_answers P T platform platform_now tape tape_now before now upgrade.Memory pages cause = (cause.0, cause.1)
 refusal_answers P T platform platform_now tape tape_now before now upgrade.TapeFault pages (rose, root, partly) = (root, partly)
 refusal_answers P T platform platform_now tape tape_now before now upgrade.PlatformFault pages cause = tt
@@ -100,8 +93,10 @@ needed_is image device root parts stands =
     ap (λ (n : ℕ). pages_over n root.mapped) stands.order ∙ ap (λ (n : ℕ). pages_over device.order n) mapped
 
 none_damaged : (image : Image) (device : Device) (root : Root) (parts : Parts) (addr : ℕ) → StandsBy image device root parts → IsDamaged image.readable root addr → ⊥
-none_damaged image device root parts addr stands (inl wrong) = tree_not_wrong image.readable root parts addr stands.in_range stands.tree wrong
-none_damaged image device root parts addr stands (inr node) = node.1 parts stands.tree stands.count
+none_damaged image device root parts addr stands damaged = elim (damaged_wrong image.readable root addr stands.in_range damaged) [
+  | inl wrong ↦ tree_not_wrong image.readable root parts addr stands.in_range stands.tree wrong
+  | inr node ↦ no_such_tree image.readable root parts stands.in_range node.1 stands.tree stands.count
+]
 
 nowhere : {S : Type 0} (P : PlatformGhosts S) (platform platform_now : S) (device : Option Device) → IsAt (P.history platform).present None (closed device) → CellStays (P.history platform) (P.history platform_now)
     → LeadsNowhere P platform platform_now (closed device)

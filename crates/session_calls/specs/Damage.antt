@@ -6,6 +6,7 @@ use Rattle.root_codec.specs.RootRecord.{FitsRoot, root_bytes}
 use Rattle.page_store.specs.declared.wants.Want.{Want}
 use Rattle.page_store.specs.Places.{root_want}
 use Rattle.page_store.specs.Tree.{IsAbove, IsMisfit, Wrong}
+use Rattle.device_core.specs.Upgrading.{IsDamaged}
 use Rattle.device_session.specs.Damage.{Follows, IsMiscounted, IsFound, HasRoom, IsPastLimit, IsUncounted}
 use Rattle.device_session.specs.Open.{root_of}
 use Rattle.device_session.specs.Reading.{FindsContent}
@@ -49,6 +50,13 @@ pub record IsMiscountedAt (image : Image) (addr : ℕ) : Type 0 where
   pub cell : image.cell ≡ Some (root_bytes root)
   pub is_node : addr ≡ root.addr
   pub miscounted : IsMiscounted image.readable root
+
+-- an upgrade of the root record in the cell stops at this address
+pub record IsDamagedAt (image : Image) (addr : ℕ) : Type 0 where
+  pub root : Root
+  pub in_range : FitsRoot root
+  pub cell : image.cell ≡ Some (root_bytes root)
+  pub damaged : IsDamaged image.readable root addr
 
 -- where a change of a block stops: at a node's place that doesn't fit, or at the root node of a tree that is miscounted, and never at the page of a data record
 abbrev pub IsWrongStep : Image → ℕ → Type 0

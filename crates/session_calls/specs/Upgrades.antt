@@ -18,7 +18,7 @@ use Rattle.device_course.specs.Keys.{KeepsOn}
 use Rattle.device_course.specs.Marks.{Leaves}
 use Rattle.device_course.specs.States.{IsAt, IsListed}
 use Rattle.session_calls.specs.Blame.{IsBlamed}
-use Rattle.session_calls.specs.Damage.{IsWrongPage}
+use Rattle.session_calls.specs.Damage.{IsDamagedAt}
 use Rattle.session_calls.specs.declared.stops.DeviceStop.{DeviceStop}
 use Rattle.session_calls.specs.declared.stops.DeviceStop.TheVariants as stops
 use Rattle.session_calls.specs.declared.upgrading.UpgradeReply.{UpgradeReply}
@@ -86,13 +86,13 @@ AnswersReply P T platform platform_now tape tape_now replies.Full =
     ((root : Root) × IsOn P.tells (P.history platform).present (P.head platform) root × (root.version ≡ 1) × (P.capacity platform - P.head platform < needed_of_root root))
     × IsUnmade P T platform platform_now tape tape_now
 
--- the same of a stop. A page that is named is a wrong one of the image from before, and of the one behind the pages that were added
+-- the same of a stop. The page that is named is the one at which an upgrade stops, over the image from before, and over the one behind the pages that were added
 abbrev pub StopsUpgrade : {S R : Type 0} → PlatformGhosts S → TapeGhosts R → S → S → R → R → DeviceStop → Type 0
 StopsUpgrade P T platform platform_now tape tape_now stops.BadRoot =
     (P.tells → IsBadCell (P.head platform) (P.history platform).present.cell) × IsUnmade P T platform platform_now tape tape_now
 StopsUpgrade P T platform platform_now tape tape_now (stops.BadRecord addr) =
     ((root : Root) × IsPartly P platform platform_now root)
-    × (P.tells → IsWrongPage (P.history platform).present addr × IsWrongPage (P.history platform_now).present addr)
+    × (P.tells → IsDamagedAt (P.history platform).present addr × IsDamagedAt (P.history platform_now).present addr)
 StopsUpgrade P T platform platform_now tape tape_now stops.Memory =
     ((root : Root) × Begins P.tells (P.history platform).present (P.head platform) (P.capacity platform) root) × IsUnmade P T platform platform_now tape tape_now
 StopsUpgrade P T platform platform_now tape tape_now stops.Tape = (root : Root) × IsPartly P platform platform_now root
