@@ -157,7 +157,7 @@ module _ (files : Files) (old : List Event) (settled : Settled (replay files old
   changes_cleared ok new (inl made) = changes_unlinked ok new made
   changes_cleared ok new (inr is) = rw is (cleared_now ok)
 
-  module _ (bytes : List ℕ) (is_root : IsBytes ROOT bytes) where
+  module _ (bytes : List ℕ) (size : length bytes ≡ ROOT) where
     calm_new_made : (ok : Bool) → IsCalm files old (new_made ok bytes ∷ new_removed true ∷ old) told
     calm_new_made ok = calm-more files (new_made ok bytes) old (new_removed true ∷ old) told refl refl (record { readable = refl; recorded = refl; reads = refl }) (calm_new_removed true)
 
@@ -166,38 +166,39 @@ module _ (files : Files) (old : List Event) (settled : Settled (replay files old
     calm_new_synced false = calm-more files (new_synced false) old (new_made true bytes ∷ new_removed true ∷ old) told refl refl (record { readable = refl; recorded = refl; reads = refl }) (calm_new_made true)
 
     turned : now_of files (new_renamed true ∷ new_synced true ∷ new_made true bytes ∷ new_removed true ∷ old) ≡ with_cell (now_of files (new_synced true ∷ new_made true bytes ∷ new_removed true ∷ old)) (Some bytes)
-    turned = ap (λ held. with_cell (now_of files (new_synced true ∷ new_made true bytes ∷ new_removed true ∷ old)) held) (record_of_root bytes is_root.0)
+    turned = ap (λ held. with_cell (now_of files (new_synced true ∷ new_made true bytes ∷ new_removed true ∷ old)) held) (record_of_root bytes size)
 
-    is_held : (other : List ℕ) → Some bytes ≡ Some other → IsBytes ROOT other
-    is_held other same = let e : bytes ≡ other = cc in subst (IsBytes ROOT) e is_root
+    is_held : IsBytes ROOT bytes → (other : List ℕ) → Some bytes ≡ Some other → IsBytes ROOT other
+    is_held is_root other same = let e : bytes ≡ other = cc in subst (IsBytes ROOT) e is_root
 
-    changed : (ok : Bool) → now_of files (cell_synced ok ∷ new_renamed true ∷ new_synced true ∷ new_made true bytes ∷ new_removed true ∷ old) ≡ now_of files (new_renamed true ∷ new_synced true ∷ new_made true bytes ∷ new_removed true ∷ old)
+    changed : IsBytes ROOT bytes → (ok : Bool) → now_of files (cell_synced ok ∷ new_renamed true ∷ new_synced true ∷ new_made true bytes ∷ new_removed true ∷ old) ≡ now_of files (new_renamed true ∷ new_synced true ∷ new_made true bytes ∷ new_removed true ∷ old)
         → KeepsPages files (new_renamed true ∷ new_synced true ∷ new_made true bytes ∷ new_removed true ∷ old) (cell_synced ok ∷ new_renamed true ∷ new_synced true ∷ new_made true bytes ∷ new_removed true ∷ old)
         → (ok ≡ true → Settled (replay files (cell_synced ok ∷ new_renamed true ∷ new_synced true ∷ new_made true bytes ∷ new_removed true ∷ old)))
         → Changes files old (cell_synced ok ∷ new_renamed true ∷ new_synced true ∷ new_made true bytes ∷ new_removed true ∷ old) told (Some bytes) ok
-    changed ok same keeps rests =
-        changes-then files (new_renamed true) (cell_synced ok) old (new_synced true ∷ new_made true bytes ∷ new_removed true ∷ old) told (Some bytes) ok refl turned is_held (record { readable = refl; recorded = refl; reads = refl }) refl same keeps rests (calm_new_synced true)
+    changed is_root ok same keeps rests =
+        changes-then files (new_renamed true) (cell_synced ok) old (new_synced true ∷ new_made true bytes ∷ new_removed true ∷ old) told (Some bytes) ok refl turned (is_held is_root) (record { readable = refl; recorded = refl; reads = refl }) refl same keeps rests (calm_new_synced true)
 
-    changes_renamed : (ok : Bool) (new : List Event) → Renames bytes ok old new → Changes files old new told (Some bytes) ok
-    changes_renamed ok new (inr (failed, is)) = rw (failed, is) (changes-not files old (new_removed false ∷ old) told (Some bytes) (calm_new_removed false))
-    changes_renamed ok new (inl (inr (failed, is))) = rw (failed, is) (changes-not files old (new_made false bytes ∷ new_removed true ∷ old) told (Some bytes) (calm_new_made false))
-    changes_renamed ok new (inl (inl (inr (failed, is)))) =
+    -- where they came to the change, its bytes are bytes
+    changes_renamed : (ok : Bool) (new : List Event) → (now_of files new ≡ with_cell (now_of files old) (Some bytes) → IsBytes ROOT bytes) → Renames bytes ok old new → Changes files old new told (Some bytes) ok
+    changes_renamed ok new is_root (inr (failed, is)) = rw (failed, is) (changes-not files old (new_removed false ∷ old) told (Some bytes) (calm_new_removed false))
+    changes_renamed ok new is_root (inl (inr (failed, is))) = rw (failed, is) (changes-not files old (new_made false bytes ∷ new_removed true ∷ old) told (Some bytes) (calm_new_made false))
+    changes_renamed ok new is_root (inl (inl (inr (failed, is)))) =
         rw (failed, is) (changes-not files old (new_synced false ∷ new_made true bytes ∷ new_removed true ∷ old) told (Some bytes) (calm_new_synced false))
-    changes_renamed ok new (inl (inl (inl (inr (failed, is))))) =
-        rw (failed, is) (changes-turn files (new_renamed false) old (new_synced true ∷ new_made true bytes ∷ new_removed true ∷ old) told (Some bytes) false refl turned is_held (record { readable = refl; recorded = refl; reads = refl }) (λ no. cc) (calm_new_synced true))
-    changes_renamed ok new (inl (inl (inl (inl (inr (failed, is)))))) = rw (failed, is) (changed false refl (record { readable = refl; recorded = refl; reads = refl }) (λ no. cc))
-    changes_renamed ok new (inl (inl (inl (inl (inl (done, is)))))) = rw (done, is) (changed true refl (record { readable = refl; recorded = refl; reads = refl }) (λ yes. record { named = settled.named; alone = refl; synced = refl; no_new = refl }))
+    changes_renamed ok new is_root (inl (inl (inl (inr (failed, is))))) =
+        rw (failed, is) (changes-turn files (new_renamed false) old (new_synced true ∷ new_made true bytes ∷ new_removed true ∷ old) told (Some bytes) false refl turned (is_held (is_root (ap (λ (es : List Event). now_of files es) is ∙ turned))) (record { readable = refl; recorded = refl; reads = refl }) (λ no. cc) (calm_new_synced true))
+    changes_renamed ok new is_root (inl (inl (inl (inl (inr (failed, is)))))) = rw (failed, is) (changed (is_root (ap (λ (es : List Event). now_of files es) is ∙ turned)) false refl (record { readable = refl; recorded = refl; reads = refl }) (λ no. cc))
+    changes_renamed ok new is_root (inl (inl (inl (inl (inl (done, is)))))) = rw (done, is) (changed (is_root (ap (λ (es : List Event). now_of files es) is ∙ turned)) true refl (record { readable = refl; recorded = refl; reads = refl }) (λ yes. record { named = settled.named; alone = refl; synced = refl; no_new = refl }))
 
     put_now : (ok : Bool) → now_of files (replaced_in_place ok bytes ∷ old) ≡ with_cell (now_of files old) (Some bytes)
-    put_now ok = ap (λ held. with_cell (now_of files old) held) (record_of_root bytes is_root.0)
+    put_now ok = ap (λ held. with_cell (now_of files old) held) (record_of_root bytes size)
 
-    replaced_now : (ok : Bool) → Changes files old (replaced_in_place ok bytes ∷ old) told (Some bytes) ok
-    replaced_now true = in_place (replaced_in_place true bytes) (Some bytes) true refl (put_now true) is_held (record { readable = refl; recorded = refl; reads = refl }) (λ yes. record { named = settled.named; alone = refl; synced = refl; no_new = settled.no_new })
-    replaced_now false = in_place (replaced_in_place false bytes) (Some bytes) false refl (put_now false) is_held (record { readable = refl; recorded = refl; reads = refl }) (λ no. cc)
+    replaced_now : IsBytes ROOT bytes → (ok : Bool) → Changes files old (replaced_in_place ok bytes ∷ old) told (Some bytes) ok
+    replaced_now is_root true = in_place (replaced_in_place true bytes) (Some bytes) true refl (put_now true) (is_held is_root) (record { readable = refl; recorded = refl; reads = refl }) (λ yes. record { named = settled.named; alone = refl; synced = refl; no_new = settled.no_new })
+    replaced_now is_root false = in_place (replaced_in_place false bytes) (Some bytes) false refl (put_now false) (is_held is_root) (record { readable = refl; recorded = refl; reads = refl }) (λ no. cc)
 
-    pub changes_replaced : (ok : Bool) (new : List Event) → Replaces bytes ok old new → Changes files old new told (Some bytes) ok
-    changes_replaced ok new (inl made) = changes_renamed ok new made
-    changes_replaced ok new (inr is) = rw is (replaced_now ok)
+    pub changes_replaced : (ok : Bool) (new : List Event) → (now_of files new ≡ with_cell (now_of files old) (Some bytes) → IsBytes ROOT bytes) → Replaces bytes ok old new → Changes files old new told (Some bytes) ok
+    changes_replaced ok new is_root (inl made) = changes_renamed ok new is_root made
+    changes_replaced ok new is_root (inr is) = rw is (replaced_now (is_root (ap (λ (es : List Event). now_of files es) is ∙ put_now ok)) ok)
 
 -- all of the calls were done, where the last one was
 renamed_done : (bytes : List ℕ) (ok : Bool) (old new : List Event) → Renames bytes ok old new → ok ≡ true → all_done old ≡ true → all_done new ≡ true

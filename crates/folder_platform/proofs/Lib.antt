@@ -8,3 +8,4 @@ pub mod Safety
 pub mod Once
 pub mod MomentLaws
 pub mod Viewing
+pub mod Asking

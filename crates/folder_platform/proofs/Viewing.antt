@@ -2,10 +2,10 @@
 use Rattle.std.proofs.Common.{◌≡◌, ℕ, true, List, [], ◌∷◌, Option, Some, None, Result, Ok, Err, length, refl, sym, ◌∙◌, ap, subst}
 use Rattle.std.specs.Prelude.{Bool, MatchResult}
 use Rattle.folder_platform.specs.Files.{Files, AreFiles, fitted}
-use Rattle.folder_platform.specs.Events.{Event, all_done, pages_counted, page_read, root_read}
+use Rattle.folder_platform.specs.Events.{Event, all_done, pages_counted, page_read}
 use Rattle.folder_platform.specs.Model.{replay, found}
 use Rattle.folder_platform.specs.Honest.{IsHonest}
-use Rattle.folder_platform.specs.Told.{cell_of, cell_with, now_of, IsTold}
+use Rattle.folder_platform.specs.Told.{cell_of, now_of, IsTold}
 use Rattle.folder_platform.specs.Sequences.{NotesCell}
 use Rattle.folder_platform.specs.Looks.{are_looks, looked_at}
 use Rattle.folder_platform.proofs.Orderly.{orderly-first}

@@ -1,7 +1,7 @@
 -- Which calls on files a call of the platform consists of.
-use Rattle.std.specs.Prelude.{◌≡◌, ◌⊎◌, ◌↔◌, ◌+◌, if◌then◌else◌, ℕ, Bool, true, false, List, [], ◌∷◌, ◌++◌, Option, Some, None, Result, Ok, Err, take, IsTrue, IsSome}
+use Rattle.std.specs.Prelude.{◌≡◌, ◌⊎◌, ◌↔◌, ◌+◌, if◌then◌else◌, ℕ, Bool, true, false, List, [], ◌∷◌, ◌++◌, Option, Some, None, Result, Ok, Err, is_ok, take, IsTrue, IsSome}
 use Rattle.folder_platform.specs.Files.{Files}
-use Rattle.folder_platform.specs.Events.{Event, pages_counted, media_synced, folder_synced, root_read, root_synced, root_removed, new_removed, new_made, new_synced, new_renamed, cell_synced, replaced_in_place, cleared_in_place}
+use Rattle.folder_platform.specs.Events.{Event, all_done, pages_counted, media_synced, folder_synced, root_read, root_synced, root_removed, new_removed, new_made, new_synced, new_renamed, cell_synced, replaced_in_place, cleared_in_place}
 use Rattle.folder_platform.specs.Told.{cell_with}
 use Rattle.folder_platform.specs.declared.file_call.FileCall.{FileCall}
 use Rattle.folder_platform.specs.declared.file_call.FileCall.TheVariants.{CountPages}
@@ -26,6 +26,16 @@ Replaces bytes done old new = Renames bytes done old new ⊎ (new ≡ replaced_i
 -- the cell holds nothing: the same
 abbrev pub Clears : Bool → List Event → List Event → Type 0
 Clears done old new = Unlinks done old new ⊎ (new ≡ cleared_in_place done ∷ old)
+
+-- this call
+abbrev pub Makes : (Bool → Event) → Bool → List Event → List Event → Type 0
+Makes call done old new = new ≡ call done ∷ old
+
+-- A call of the platform that changes something makes these calls, and is done where they all are. It makes none, and fails, where one
+-- that changes something has failed before, and only there.
+pub record Asks {T E : Type 0} (Calls : Bool → List Event → List Event → Type 0) (result : Result T E) (old new : List Event) : Type 0 where
+  pub makes : all_done old ≡ true → Calls (is_ok result) old new
+  pub refuses : all_done old ≡ false → (is_ok result ≡ false) × (new ≡ old)
 
 -- an opening, the newest call first: `root.new` was removed, so many pages were counted, and `media`, its folder, `root` and its folder were synced
 abbrev pub opening : ℕ → List Event

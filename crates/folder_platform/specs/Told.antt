@@ -7,7 +7,7 @@ use Rattle.folder_platform.specs.Files.{Files}
 use Rattle.folder_platform.specs.Events.{Event}
 use Rattle.folder_platform.specs.Model.{NamedFile, Model, replay, durable}
 use Rattle.folder_platform.specs.declared.file_call.FileCall.{FileCall}
-use Rattle.folder_platform.specs.declared.file_call.FileCall.TheVariants.{CountPages, ReadPage, ReadRoot}
+use Rattle.folder_platform.specs.declared.file_call.FileCall.TheVariants.{CountPages, ReadPage, SyncMedia, ReadRoot, RemoveRoot, RenameNew, ReplaceInPlace, ClearInPlace}
 
 -- a root record's length of zeros, which are none
 unfoldable pub zero_root : List ℕ
@@ -80,3 +80,18 @@ page_reads_after other reads = reads
 abbrev pub page_reads_of : List Event → ℕ
 page_reads_of [] = 0
 page_reads_of (e ∷ earlier) = page_reads_after e.0 (page_reads_of earlier)
+
+-- one more where the pages were synced, or that was tried, or the cell was changed, or may have been
+abbrev changes_after : FileCall → ℕ → ℕ
+changes_after CountPages changes = 0
+changes_after SyncMedia changes = changes + 1
+changes_after RemoveRoot changes = changes + 1
+changes_after RenameNew changes = changes + 1
+changes_after ReplaceInPlace changes = changes + 1
+changes_after ClearInPlace changes = changes + 1
+changes_after other changes = changes
+
+-- so many times the pages were synced, or the cell was replaced or cleared, or that was tried
+abbrev pub changes_of : List Event → ℕ
+changes_of [] = 0
+changes_of (e ∷ earlier) = changes_after e.0 (changes_of earlier)

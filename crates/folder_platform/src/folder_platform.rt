@@ -2,17 +2,17 @@
 ghost use Rattle.std.specs.Prelude.{◌≡◌, ◌<◌, ◌≤◌, ◌+◌, ◌^◌, ◌∷◌, [], length, false, true, not, is_ok, IsTrue, IsErr, IfOk, IfErr, OnOk};
 ghost use Rattle.sdbt_base.specs.Faults.{Tells};
 ghost use Rattle.folder_platform.specs.Files.{Files};
-ghost use Rattle.folder_platform.specs.Events.{all_done};
+ghost use Rattle.folder_platform.specs.Events.{all_done, page_written, media_synced};
 ghost use Rattle.folder_platform.specs.Model.{replay};
 ghost use Rattle.folder_platform.specs.Loss.{Settled, MayHold, AreLeft, AllSafe, opened};
 ghost use Rattle.folder_platform.specs.Refusals.{ShowsCause, TellsLast};
-ghost use Rattle.folder_platform.specs.Sequences.{IsOpening, opening, counted};
+ghost use Rattle.folder_platform.specs.Sequences.{IsOpening, Makes, Replaces, Clears, Asks, opening, counted};
 ghost use Rattle.folder_platform.specs.Told.{IsTold, now_of};
 
 use crate::refusals::pages_told;
 use crate::{CellCalls, FolderFile, OpenRefusal, told};
 use platform::Platform;
-use sdbt_base::{MAX_PAGES, PlatformFault};
+use sdbt_base::{MAX_PAGES, PlatformFault, RECORD, ROOT};
 
 /// A medium in a folder and a root cell, by the calls on both.
 ///
@@ -82,7 +82,7 @@ impl<C: CellCalls + Drop> Platform for FolderPlatform<C> {
     ghost use Rattle.folder_platform.specs.Files.{Files};
     ghost use Rattle.folder_platform.specs.Events.{Event};
     ghost use Rattle.folder_platform.specs.Honest.{IsHonest};
-    ghost use Rattle.folder_platform.specs.Told.{told_by, reads_of, page_reads_of};
+    ghost use Rattle.folder_platform.specs.Told.{told_by, reads_of, page_reads_of, changes_of};
 
     ghost tells = { (files : Files) (events : List Event) → C.PageCalls.occurs files events → IsHonest files events };
 
@@ -95,6 +95,8 @@ impl<C: CellCalls + Drop> Platform for FolderPlatform<C> {
     ghost reads = { λ platform. reads_of (C.PageCalls.events platform.calls) };
 
     ghost page_reads = { λ platform. page_reads_of (C.PageCalls.events platform.calls) };
+
+    ghost changes = { λ platform. changes_of (C.PageCalls.events platform.calls) };
 
     ghost faults = { λ platform. platform.faults };
 
@@ -112,7 +114,15 @@ impl<C: CellCalls + Drop> Platform for FolderPlatform<C> {
         MAX_PAGES
     }
 
-    fn append(&mut self, page: &[u8]) -> Result<u64, PlatformFault> {
+    fn append(&mut self, page: &[u8]) -> Result<u64, PlatformFault>
+        requires size { length page.now ≡ RECORD }
+        requires room { self.old.head < 2 ^ 32 }
+        ensures files { C.PageCalls.start self.new.calls ≡ C.PageCalls.start self.old.calls }
+        ensures asks { Asks (Makes (λ done. page_written self.old.head done page.now)) result (C.PageCalls.events self.old.calls) (C.PageCalls.events self.new.calls) }
+        ensures address { IfOk result (λ address. address ≡ self.old.head) }
+        ensures faults { self.old.faults ≤ self.new.faults }
+        ensures cause { Tells result self.old.faults self.new.faults }
+    {
         if self.is_stuck {
             return fault(&mut self.faults);
         }
@@ -136,7 +146,12 @@ impl<C: CellCalls + Drop> Platform for FolderPlatform<C> {
         Ok(())
     }
 
-    fn sync(&mut self) -> Result<(), PlatformFault> {
+    fn sync(&mut self) -> Result<(), PlatformFault>
+        ensures files { C.PageCalls.start self.new.calls ≡ C.PageCalls.start self.old.calls }
+        ensures asks { Asks (Makes media_synced) result (C.PageCalls.events self.old.calls) (C.PageCalls.events self.new.calls) }
+        ensures faults { self.old.faults ≤ self.new.faults }
+        ensures cause { Tells result self.old.faults self.new.faults }
+    {
         if self.is_stuck {
             return fault(&mut self.faults);
         }
@@ -157,7 +172,13 @@ impl<C: CellCalls + Drop> Platform for FolderPlatform<C> {
         Ok(full)
     }
 
-    fn swap_root(&mut self, bytes: &[u8]) -> Result<(), PlatformFault> {
+    fn swap_root(&mut self, bytes: &[u8]) -> Result<(), PlatformFault>
+        requires size { length bytes.now ≡ ROOT }
+        ensures files { C.PageCalls.start self.new.calls ≡ C.PageCalls.start self.old.calls }
+        ensures asks { Asks (Replaces bytes.now) result (C.PageCalls.events self.old.calls) (C.PageCalls.events self.new.calls) }
+        ensures faults { self.old.faults ≤ self.new.faults }
+        ensures cause { Tells result self.old.faults self.new.faults }
+    {
         if self.is_stuck {
             return fault(&mut self.faults);
         }
@@ -168,7 +189,12 @@ impl<C: CellCalls + Drop> Platform for FolderPlatform<C> {
         Ok(())
     }
 
-    fn clear_root(&mut self) -> Result<(), PlatformFault> {
+    fn clear_root(&mut self) -> Result<(), PlatformFault>
+        ensures files { C.PageCalls.start self.new.calls ≡ C.PageCalls.start self.old.calls }
+        ensures asks { Asks Clears result (C.PageCalls.events self.old.calls) (C.PageCalls.events self.new.calls) }
+        ensures faults { self.old.faults ≤ self.new.faults }
+        ensures cause { Tells result self.old.faults self.new.faults }
+    {
         if self.is_stuck {
             return fault(&mut self.faults);
         }

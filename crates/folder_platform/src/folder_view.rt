@@ -79,6 +79,8 @@ impl<C: LookCalls + Drop> Platform for FolderView<C> {
 
     ghost page_reads = { λ view. page_reads_of (C.LookCalls.events view.calls) };
 
+    ghost changes = { λ view. 0 };
+
     ghost faults = { λ view. view.faults };
 
     ghost counts_pages = { λ told view. view.recorded };

@@ -1,11 +1,11 @@
-use Rattle.std.proofs.Common.{◌≡◌, true, is_ok, refl, sym, ◌∙◌, inr, arith}
+use Rattle.std.proofs.Common.{is_ok, refl, sym, ◌∙◌, arith}
 use Rattle.std.proofs.lemmas.Grind.{common_steps}
 use Rattle.sdbt_base.specs.Bytes.{IsBytes}
 use Rattle.sdbt_base.specs.declared.limits.TheConstants.{RECORD}
 use Rattle.folder_platform.specs.Events.{page_written}
 use Rattle.folder_platform.proofs.Once.{once_event}
 use Rattle.folder_platform.proofs.Safety.{safe_write}
-use Rattle.folder_platform.proofs.Telling.{grown, written_done, failed_event, steps_to}
+use Rattle.folder_platform.proofs.Telling.{grown, written_done, failed_event}
 use Rattle.folder_platform.proofs.folder_platform.FolderPlatformPlatform.append.Goals as goal
 
 pub invariant_of-self-then-is_err : goal.invariant_of-self-then-is_err
@@ -16,19 +16,6 @@ invariant_of-self-then-is_err g c =
     let all = grown _ _ _ _ old.head (is_ok c.write_page-outcome.result) c.args.page.now e.start e.noted old.told old.readable old.recorded bytes in
     record { told = all.told; readable = all.readable; recorded = all.recorded; room = omega arith; sound = λ no. cc; stuck = λ yes. failed_event _ _ _ e.noted (grind arith); settled = λ no. cc; safe = safe_write _ _ _ _ e.start (old.recorded ∙ sym old.readable) (old.settled c.if-self.false) old.safe old.head (is_ok c.write_page-outcome.result) c.args.page.now e.noted (all.recorded ∙ sym all.readable); once = once_event _ _ (page_written old.head (is_ok c.write_page-outcome.result) c.args.page.now) refl e.noted old.once }
 
-pub returns-then-is_err-clause-either : goal.returns-then-is_err-clause-either
-returns-then-is_err-clause-either g c told =
-    let old = c.args.self.now in
-    let e = c.write_page-outcome.ensures in
-    let bytes : IsBytes RECORD c.args.page.now = (c.requires.size, λ k d below. grind (arith, common_steps, c.type_inv.page k)) in
-    let all = grown _ _ _ _ old.head (is_ok c.write_page-outcome.result) c.args.page.now e.start e.noted old.told old.readable old.recorded bytes in
-    inr (_, all.image)
-
-pub returns-then-is_err-clause-time : goal.returns-then-is_err-clause-time
-returns-then-is_err-clause-time g c told =
-    let e = c.write_page-outcome.ensures in
-    steps_to _ _ (page_written c.args.self.now.head (is_ok c.write_page-outcome.result) c.args.page.now) _ _ c.args.self.now.told _ e.start e.noted refl
-
 pub invariant_of-self-else-is_err : goal.invariant_of-self-else-is_err
 invariant_of-self-else-is_err g c =
     let old = c.args.self.now in
@@ -36,25 +23,3 @@ invariant_of-self-else-is_err g c =
     let bytes : IsBytes RECORD c.args.page.now = (c.requires.size, λ k d below. grind (arith, common_steps, c.type_inv.page k)) in
     let all = grown _ _ _ _ old.head (is_ok c.write_page-outcome.result) c.args.page.now e.start e.noted old.told old.readable old.recorded bytes in
     record { told = all.told; readable = all.readable; recorded = all.recorded; room = omega arith; sound = λ calm. written_done _ _ old.head (is_ok c.write_page-outcome.result) c.args.page.now e.noted (grind arith) (old.sound calm); stuck = λ yes. cc; settled = λ calm. all.settled (old.settled calm); safe = safe_write _ _ _ _ e.start (old.recorded ∙ sym old.readable) (old.settled c.if-self.false) old.safe old.head (is_ok c.write_page-outcome.result) c.args.page.now e.noted (all.recorded ∙ sym all.readable); once = once_event _ _ (page_written old.head (is_ok c.write_page-outcome.result) c.args.page.now) refl e.noted old.once }
-
-pub returns-clause-appended : goal.returns-clause-appended
-returns-clause-appended g c told =
-    let old = c.args.self.now in
-    let e = c.write_page-outcome.ensures in
-    let bytes : IsBytes RECORD c.args.page.now = (c.requires.size, λ k d below. grind (arith, common_steps, c.type_inv.page k)) in
-    let ok : is_ok c.write_page-outcome.result ≡ true = grind arith in
-    let all = grown _ _ _ _ old.head (is_ok c.write_page-outcome.result) c.args.page.now e.start e.noted old.told old.readable old.recorded bytes in
-    rw ok at all.image
-
-pub returns-clause-either : goal.returns-clause-either
-returns-clause-either g c told =
-    let old = c.args.self.now in
-    let e = c.write_page-outcome.ensures in
-    let bytes : IsBytes RECORD c.args.page.now = (c.requires.size, λ k d below. grind (arith, common_steps, c.type_inv.page k)) in
-    let all = grown _ _ _ _ old.head (is_ok c.write_page-outcome.result) c.args.page.now e.start e.noted old.told old.readable old.recorded bytes in
-    inr (_, all.image)
-
-pub returns-clause-time : goal.returns-clause-time
-returns-clause-time g c told =
-    let e = c.write_page-outcome.ensures in
-    steps_to _ _ (page_written c.args.self.now.head (is_ok c.write_page-outcome.result) c.args.page.now) _ _ c.args.self.now.told _ e.start e.noted refl

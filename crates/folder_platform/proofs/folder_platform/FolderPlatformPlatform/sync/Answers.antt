@@ -1,8 +1,8 @@
-use Rattle.std.proofs.Common.{◌≡◌, is_ok, true, refl, sym, ◌∙◌, arith}
+use Rattle.std.proofs.Common.{is_ok, refl, sym, ◌∙◌, arith}
 use Rattle.folder_platform.specs.Events.{media_synced}
 use Rattle.folder_platform.proofs.Once.{once_event}
 use Rattle.folder_platform.proofs.Safety.{safe_sync}
-use Rattle.folder_platform.proofs.Telling.{kept_sync, synced_done, failed_event, believed_now, steps_to}
+use Rattle.folder_platform.proofs.Telling.{kept_sync, synced_done, failed_event, believed_now}
 use Rattle.folder_platform.proofs.folder_platform.FolderPlatformPlatform.sync.Goals as goal
 
 pub invariant_of-self-then-is_err : goal.invariant_of-self-then-is_err
@@ -18,16 +18,3 @@ invariant_of-self-else-is_err g c =
     let e = c.sync_pages.ensures in
     let all = kept_sync _ _ _ _ (is_ok c.sync_pages.result) e.start e.noted (believed_now (g.C.PageCalls.start old.calls) (g.C.PageCalls.events old.calls) (old.sound c.if-self.false)) (old.settled c.if-self.false).named old.told in
     record { told = all.told; readable = all.readable ∙ old.readable; recorded = all.recorded ∙ old.recorded; room = old.room; sound = λ calm. synced_done _ _ _ e.noted (grind arith) (old.sound calm); stuck = λ yes. cc; settled = λ calm. all.settled (old.settled calm); safe = safe_sync _ _ _ _ e.start (old.recorded ∙ sym old.readable) (old.settled c.if-self.false) old.safe (is_ok c.sync_pages.result) e.noted; once = once_event _ _ (media_synced (is_ok c.sync_pages.result)) refl e.noted old.once }
-
-pub returns-clause-time : goal.returns-clause-time
-returns-clause-time g c told =
-    let e = c.sync_pages.ensures in
-    steps_to _ _ (media_synced (is_ok c.sync_pages.result)) _ _ c.args.self.now.told _ e.start e.noted refl
-
-pub returns-clause-synced : goal.returns-clause-synced
-returns-clause-synced g c told =
-    let old = c.args.self.now in
-    let e = c.sync_pages.ensures in
-    let ok : is_ok c.sync_pages.result ≡ true = grind arith in
-    let all = kept_sync _ _ _ _ (is_ok c.sync_pages.result) e.start e.noted (believed_now (g.C.PageCalls.start old.calls) (g.C.PageCalls.events old.calls) (old.sound c.if-self.false)) (old.settled c.if-self.false).named old.told in
-    rw ok at all.shows
