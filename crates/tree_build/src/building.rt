@@ -38,6 +38,7 @@ pub fn build<P: Platform, T: Tape>(
     ensures beside { OnlyAdds P.Platform T.Tape (shapes.built order (length items.old.items)) 0 platform.old platform.new tape.old tape.new }
     ensures platform_cause { TellsOf AppendFault.PlatformFault result (P.faults platform.old) (P.faults platform.new) }
     ensures tape_cause { TellsOf AppendFault.TapeFault result (T.faults tape.old) (T.faults tape.new) }
+    ensures same_room { vec_capacity items.new ≡ vec_capacity items.old }
 {
     for i in 0..shape.len() {
         let span = shape.at(i);
@@ -92,7 +93,7 @@ fn low_of(items: &[Entry], first: usize) -> u64
 fn add(items: &mut Vec<Entry>, entry: Entry)
     requires { vec_len items.old < vec_capacity items.old }
     ensures items { items.new.items ≡ items.old.items ++ entry ∷ [] }
-    ensures capacity { vec_capacity items.old ≤ vec_capacity items.new }
+    ensures capacity { vec_capacity items.new ≡ vec_capacity items.old }
 {
-    let _room = items.push(entry);
+    items.push_reserved(entry);
 }

@@ -1,4 +1,4 @@
-use Rattle.std.proofs.Common.{◌+◌, List, [], ◌∷◌, ◌++◌, length, sym, ap, subst, ◌∙◌, arith}
+use Rattle.std.proofs.Common.{◌+◌, List, [], ◌∷◌, ◌++◌, length, refl, sym, ap, subst, ◌∙◌, arith}
 use Rattle.std.specs.Prelude.{slice_get}
 use Rattle.node_codec.specs.declared.body.Entry.{Entry}
 use Rattle.tree_build.specs.declared.shapes.Span.{Span}
@@ -11,7 +11,7 @@ use Rattle.tree_build.proofs.building.build.Goals as goal
 pub loop-i-init : goal.loop-i-init
 loop-i-init g c = record {
   made = made_none g.P.Platform g.T.Tape c.args.order c.requires.can.0 c.args.items.now.items c.args.platform.now c.args.tape.now c.requires.can.1;
-  capacity = omega arith;
+  capacity = refl;
 }
 
 pub build_node-requires-clause-fits : goal.build_node-requires-clause-fits
@@ -69,7 +69,7 @@ loop-i-preserved g c =
       made = subst (λ (es : List Entry). IsMade g.P.Platform g.T.Tape c.args.order (c.loop-i.i + 1) records es c.args.platform.now c.build_node.new.platform c.args.tape.now c.build_node.new.tape) items
           (made_next g.P.Platform g.T.Tape c.args.order c.requires.can.0 c.loop-i.i records c.deref.result.now c.args.platform.now c.loop-i.platform c.build_node.new.platform c.args.tape.now c.loop-i.tape c.build_node.new.tape
           c.at-span.result.now entry c.requires.can.1 made there c.in_ok-entry.ensures.built c.in_ok-entry.ensures.keeps c.in_ok-entry.ensures.adds c.in_ok-entry.ensures.platform_cause.done c.in_ok-entry.ensures.tape_cause.done);
-      capacity = omega (arith, c.loop-i.invariant.capacity, c.add.ensures.capacity);
+      capacity = c.add.ensures.capacity ∙ c.loop-i.invariant.capacity;
     }
 
 pub returns-clause-builds : goal.returns-clause-builds
