@@ -98,6 +98,7 @@ fn seal_all<P: Platform, T: Tape>(
     ensures beside { OnlyAdds P.Platform T.Tape 1 platform.old platform.new tape.old tape.new }
     ensures platform_cause { TellsOf AppendFault.PlatformFault result (P.faults platform.old) (P.faults platform.new) }
     ensures tape_cause { TellsOf AppendFault.TapeFault result (T.faults tape.old) (T.faults tape.new) }
+    ensures same_room { vec_capacity entries.new ≡ vec_capacity entries.old }
 {
     let Child::Grown { twig, .. } = top else {
         unreachable!()

@@ -1,5 +1,5 @@
 //! How the nodes in memory are sealed.
-ghost use Rattle.std.specs.Prelude.{◌≡◌, ◌<◌, ◌≤◌, ◌+◌, ◌*◌, ◌++◌, [], ◌∷◌, suc, vec_len, vec_capacity, IfOk, IsErr, drop, length, take};
+ghost use Rattle.std.specs.Prelude.{◌≡◌, ◌<◌, ◌≤◌, ◌+◌, ◌-◌, ◌*◌, ◌++◌, [], ◌∷◌, suc, vec_len, vec_capacity, IfOk, IsErr, drop, length, take};
 ghost use Rattle.sdbt_base.specs.Keys.{key_size, IsKeyOf};
 ghost use Rattle.sdbt_base.specs.Faults.{TellsOf};
 ghost use Rattle.record_versions.specs.Versions.{IsVersion};
@@ -44,7 +44,7 @@ pub(crate) fn seal_twig<P: Platform, T: Tape>(
     ensures platform_cause { TellsOf AppendFault.PlatformFault result (P.faults platform.old) (P.faults platform.new) }
     ensures tape_cause { TellsOf AppendFault.TapeFault result (T.faults tape.old) (T.faults tape.new) }
     ensures entries { IfOk result (λ _. entries.new.items ≡ entries.old.items) }
-    ensures room { vec_capacity entries.old ≤ vec_capacity entries.new }
+    ensures same_room { vec_capacity entries.new ≡ vec_capacity entries.old }
 {
     let begin = entries.len();
     for child in twig.children.iter() {
@@ -59,7 +59,7 @@ pub(crate) fn seal_twig<P: Platform, T: Tape>(
     reader
         .cache
         .put_node(placed.addr, &placed.key, twig.level, version, own);
-    let_go(entries, begin);
+    let_go(entries, twig.children.len());
     Ok(placed)
 }
 
@@ -85,7 +85,7 @@ fn seal_child<P: Platform, T: Tape>(
     ensures platform_cause { TellsOf AppendFault.PlatformFault result (P.faults platform.old) (P.faults platform.new) }
     ensures tape_cause { TellsOf AppendFault.TapeFault result (T.faults tape.old) (T.faults tape.new) }
     ensures entries { IfOk result (λ _. entries.new.items ≡ entries.old.items) }
-    ensures room { vec_capacity entries.old ≤ vec_capacity entries.new }
+    ensures same_room { vec_capacity entries.new ≡ vec_capacity entries.old }
 {
     match child {
         Child::Kept { low, addr, key } => Ok(kept_entry(*low, *addr, key, version)),
@@ -104,29 +104,31 @@ fn seal_child<P: Platform, T: Tape>(
 fn add(entries: &mut Vec<Entry>, entry: Entry)
     requires { vec_len entries.old < vec_capacity entries.old }
     ensures items { entries.new.items ≡ entries.old.items ++ entry ∷ [] }
-    ensures capacity { vec_capacity entries.old ≤ vec_capacity entries.new }
+    ensures capacity { vec_capacity entries.new ≡ vec_capacity entries.old }
 {
-    let _room = entries.push(entry);
+    entries.push_reserved(entry);
 }
 
-/// Lets the entries go from a place on, once zeros are written over their keys: none is left in the room.
-fn let_go(entries: &mut Vec<Entry>, begin: usize)
-    requires { begin ≤ vec_len entries.old }
-    ensures items { entries.new.items ≡ take begin entries.old.items }
-    ensures capacity { vec_capacity entries.old ≤ vec_capacity entries.new }
+/// Lets the last entries go, so many, once zeros are written over their keys: none is left in the room.
+fn let_go(entries: &mut Vec<Entry>, count: usize)
+    requires { count ≤ vec_len entries.old }
+    ensures items { entries.new.items ≡ take (vec_len entries.old - count) entries.old.items }
+    ensures capacity { vec_capacity entries.new ≡ vec_capacity entries.old }
 {
+    let begin = entries.len() - count;
     let (_, gone) = entries.split_at_mut(begin);
     wipe_keys(gone);
-    cut_off(entries, begin);
+    cut_off(entries, count);
 }
 
-/// Cuts off the entries from a place on, in which no key is left.
-fn cut_off(entries: &mut Vec<Entry>, begin: usize)
-    requires { HaveNoKey (drop begin entries.old.items) }
-    ensures items { entries.new.items ≡ take begin entries.old.items }
-    ensures capacity { vec_capacity entries.old ≤ vec_capacity entries.new }
+/// Cuts off the last entries, so many, in which no key is left.
+fn cut_off(entries: &mut Vec<Entry>, count: usize)
+    requires within { count ≤ vec_len entries.old }
+    requires wiped { HaveNoKey (drop (vec_len entries.old - count) entries.old.items) }
+    ensures items { entries.new.items ≡ take (vec_len entries.old - count) entries.old.items }
+    ensures capacity { vec_capacity entries.new ≡ vec_capacity entries.old }
 {
-    entries.truncate(begin);
+    entries.truncate(entries.len() - count);
 }
 
 /// Writes zeros over the key of each entry.

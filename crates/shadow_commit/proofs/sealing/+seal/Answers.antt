@@ -145,7 +145,7 @@ seal_twig-loop-child-preserved g t c =
           so_far (c.in_ok-entry.ensures.sealed can);
       front = keeps_front c.args.entries.now.items c.loop-child.entries.items c.seal_child.new.entries.items c.add.new.entries.items c.in_ok-entry.entry (omega (arith, inv.count)) inv.front c.in_ok-entry.ensures.entries c.add.ensures.items;
       count = omega (arith, inv.count, ap length c.in_ok-entry.ensures.entries, ap length c.add.ensures.items, length-append c.seal_child.new.entries.items (c.in_ok-entry.entry ∷ []));
-      room = omega (arith, inv.room, c.seal_child.ensures.room, c.add.ensures.capacity);
+      room = c.add.ensures.capacity ∙ c.seal_child.ensures.same_room ∙ inv.room;
       beside = beside_then g.P.Platform g.T.Tape 0 c.args.platform.now c.loop-child.platform c.seal_child.new.platform c.args.tape.now c.loop-child.tape c.seal_child.new.tape inv.beside c.seal_child.ensures.beside;
       quiet = (c.in_ok-entry.ensures.platform_cause.done ∙ inv.quiet.0, c.in_ok-entry.ensures.tape_cause.done ∙ inv.quiet.1);
     }

@@ -1,4 +1,4 @@
-use Rattle.std.proofs.Common.{◌≡◌, ◌+◌, ◌*◌, ◌≤◌, length, take, drop}
+use Rattle.std.proofs.Common.{◌≡◌, ◌+◌, ◌*◌, length, take, drop}
 use Rattle.std.specs.Vec.{vec_capacity}
 use Rattle.btree_twigs.specs.Stubs.{children_of, level_of}
 use Rattle.btree_twigs.specs.Top.{child_level}
@@ -17,7 +17,7 @@ invariant-seal_twig-loop-child g l = record {
       (g.P.Platform.head l.fn.platform) (g.P.Platform.head l.platform) (g.T.Tape.drawn l.fn.tape) (g.T.Tape.drawn l.tape);
   front : take (length l.fn.entries.items) l.entries.items ≡ l.fn.entries.items;
   count : length l.entries.items ≡ length l.fn.entries.items + l.child-index;
-  room : vec_capacity l.fn.entries ≤ vec_capacity l.entries;
+  room : vec_capacity l.entries ≡ vec_capacity l.fn.entries;
   beside : OnlyAdds g.P.Platform g.T.Tape 0 l.fn.platform l.platform l.fn.tape l.tape;
   quiet : (g.P.Platform.faults l.platform ≡ g.P.Platform.faults l.fn.platform) × (g.T.Tape.faults l.tape ≡ g.T.Tape.faults l.fn.tape);
 }
