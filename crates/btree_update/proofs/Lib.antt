@@ -33,3 +33,4 @@ pub mod EarlyLaws
 pub mod FewLaws
 pub mod FrameLaws
 pub mod KeepLaws
+pub mod WipeLaws

@@ -1,5 +1,5 @@
 -- What is left of the keys of nodes in memory that are let go.
-use Rattle.std.specs.Prelude.{ℕ, List, Option, IfSome, slice_get}
+use Rattle.std.specs.Prelude.{◌≡◌, ℕ, List, Option, IfSome, length, option_map, slice_get}
 use Rattle.btree_twigs.specs.Stubs.{children_of}
 use Rattle.btree_twigs.specs.Wiped.{AreBlank}
 use Rattle.btree_twigs.specs.declared.twigs.Child.{Child, Child-F}
@@ -17,6 +17,18 @@ AreWiped nodes = (place : ℕ) → IfSome (slice_get nodes place) IsWiped
 -- and each that is there
 abbrev pub AreWipedBeside : List (Option Twig) → Type 0
 AreWipedBeside nodes = (place : ℕ) → IfSome (slice_get nodes place) (λ node. IfSome node IsWiped)
+
+-- how many children a node has
+abbrev pub width : Twig → ℕ
+width twig = length (children_of twig)
+
+-- each of these nodes has as many children as before: none was let go before it was wiped
+abbrev pub AreAsWide : List Twig → List Twig → Type 0
+AreAsWide old new = (place : ℕ) → option_map width (slice_get new place) ≡ option_map width (slice_get old place)
+
+-- so has each that is there
+abbrev pub AreAsWideBeside : List (Option Twig) → List (Option Twig) → Type 0
+AreAsWideBeside old new = (place : ℕ) → option_map (option_map width) (slice_get new place) ≡ option_map (option_map width) (slice_get old place)
 
 -- a root whose node, where that is in memory, has no key left
 abbrev pub IsWipedRoot : Child-F Child Twig → Type 0

@@ -7,9 +7,9 @@ ghost use Rattle.page_store.specs.Tree.{Parts, Mapped, Tree};
 ghost use Rattle.btree_twigs.specs.declared.twigs.Child.TheVariants.{Kept};
 ghost use Rattle.btree_twigs.specs.Stubs.{Stub, Puts, Takes, datum, stubs};
 ghost use Rattle.btree_twigs.specs.Levels.{Node, Reshape, ReshapeDown};
-ghost use Rattle.btree_update.specs.LetGo.{AreWiped, AreWipedBeside, IsWipedRoot};
+ghost use Rattle.btree_update.specs.LetGo.{AreWiped, AreWipedBeside, AreAsWide, AreAsWideBeside, IsWipedRoot};
 ghost use Rattle.btree_update.specs.Opens.{HasWay};
-ghost use Rattle.btree_twigs.specs.Updates.{IsOpen, HasSpares};
+ghost use Rattle.btree_twigs.specs.Updates.{IsOpen, HasSpares, width_of};
 ghost use Rattle.btree_twigs.specs.Top.{IsTop};
 ghost use Rattle.btree_twigs.specs.Wiped.{blank as zeros};
 ghost use Rattle.btree_update.specs.Maps.{MapPuts, MapTakes, HasBlock, LacksBlock};
@@ -346,10 +346,18 @@ impl Grove {
 fn clear_top(top: &mut Child)
     ensures { top.new ≡ zeros }
 {
+    wipe_top(top);
+    let_go_top(top);
+}
+
+/// Writes zeros over the room of a root that is in memory, and over those of the nodes below it.
+fn wipe_top(top: &mut Child)
+    ensures wiped { IsWipedRoot (out-Child top.new) }
+    ensures many { width_of top.new ≡ width_of top.old }
+{
     if let Child::Grown { twig, .. } = top {
         wipe(twig);
     }
-    let_go_top(top);
 }
 
 /// Puts zeros in the place of a root whose node has no key left.
@@ -372,7 +380,8 @@ fn let_go_held(held: &mut Vec<Twig>, beside: &mut Vec<Option<Twig>>)
 
 /// Writes zeros over the children of each node.
 fn wipe_held(held: &mut [Twig])
-    ensures { AreWiped held.new }
+    ensures wiped { AreWiped held.new }
+    ensures many { AreAsWide held.old held.new }
 {
     for twig in held.iter_mut() {
         wipe(twig);
@@ -381,7 +390,8 @@ fn wipe_held(held: &mut [Twig])
 
 /// Writes zeros over the children of each node that is there.
 fn wipe_beside(beside: &mut [Option<Twig>])
-    ensures { AreWipedBeside beside.new }
+    ensures wiped { AreWipedBeside beside.new }
+    ensures many { AreAsWideBeside beside.old beside.new }
 {
     for node in beside.iter_mut() {
         if let Some(twig) = node {
