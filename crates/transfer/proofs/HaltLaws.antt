@@ -1,6 +1,6 @@
 -- Which record a halt names.
 use Rattle.std.proofs.Common.{◌≡◌, ◌≢◌, ◌<◌, ◌∙◌, ℕ, List, Option, Result, Ok, Err, inl, inr, refl, sym, ap, subst, arith}
-use Rattle.std.specs.Prelude.{◌⊎◌, IfErr}
+use Rattle.std.specs.Prelude.{IfErr}
 use Rattle.std.specs.Result.{IsErrAnd}
 use Rattle.std.proofs.lemmas.Result.{err_from_is_err_and}
 use Rattle.platform.specs.Image.{Image}
@@ -10,12 +10,12 @@ use Rattle.device_session.specs.Sessions.{Session}
 use Rattle.device_session.specs.declared.refusals.CommitReply.{CommitReply}
 use Rattle.device_session.specs.declared.refusals.CommitReply.TheVariants as replies
 use Rattle.session_calls.specs.Commits.{LeftAt}
-use Rattle.session_calls.specs.Damage.{IsMiscountedAt, IsWrongNode, ReadsAny, WritesAny}
+use Rattle.session_calls.specs.Damage.{ReadsAny, WritesAny}
 use Rattle.session_calls.specs.Goes.{AddsBlock}
 use Rattle.session_calls.specs.Mounts.{IsMountStop}
 use Rattle.session_calls.specs.declared.stops.DeviceStop.{DeviceStop}
 use Rattle.session_calls.specs.declared.stops.DeviceStop.TheVariants as stops
-use Rattle.session_calls.proofs.NodeLaws.{node_or}
+use Rattle.session_calls.proofs.NodeLaws.{wrong_page}
 use Rattle.transfer.specs.Counts.{Counts}
 use Rattle.transfer.specs.Halts.{Blames}
 use Rattle.transfer.specs.Listing.{IsListStop}
@@ -31,9 +31,9 @@ read_from tells Mounted mounted image after session block bytes stops.Memory any
 read_from tells Mounted mounted image after session block bytes stops.Tape any = absurd any
 read_from tells Mounted mounted image after session block bytes stops.Ledger any = absurd any
 read_from tells Mounted mounted image after session block bytes stops.BadRoot any = absurd any
-read_from tells Mounted mounted image after session block bytes (stops.BadRecord addr) any = λ told. inl (any (told, mounted told))
+read_from tells Mounted mounted image after session block bytes (stops.BadRecord addr) any = λ told. inr (any (told, mounted told))
 
-pub read_to : (tells Mounted : Type 0) (mounted : tells → Mounted) (image after : Image) (session : Session) (block : ℕ) (bytes : List ℕ) (stop : DeviceStop) → ReadsAny (tells × Mounted) image after session block bytes (Err stop) → HaltsTo tells (Unit {0}) after (halts.To stop)
+pub read_to : (tells Mounted : Type 0) (mounted : tells → Mounted) (image after : Image) (session : Session) (block : ℕ) (bytes : List ℕ) (stop : DeviceStop) → ReadsAny (tells × Mounted) image after session block bytes (Err stop) → HaltsTo tells (Unit {0}) ⊥ after (halts.To stop)
 read_to tells Mounted mounted image after session block bytes stops.Platform any = tt
 read_to tells Mounted mounted image after session block bytes stops.Memory any = absurd any
 read_to tells Mounted mounted image after session block bytes stops.Tape any = absurd any
@@ -52,17 +52,13 @@ pub no_memory : (result : Result (Unit {0}) Halt) (halt : Halt) → WantsNoMemor
 no_memory result halt wants is memory = wants.1 (let same : halt ≡ halts.To stops.Memory = cc in same)
 
 -- a write
-node_there : {More : Type 0} (image : Image) (addr : ℕ) → IsWrongNode image addr ⊎ (IsMiscountedAt image addr × More) → IsWrongThere ⊥ image addr
-node_there image addr (inl node) = inl node
-node_there image addr (inr other) = inr (inl other.0)
-
-pub write_to : (tells Mounted : Type 0) (mounted : tells → Mounted) (image after : Image) (session : Session) (block : ℕ) (stop : DeviceStop) → WritesAny (tells × Mounted) image after session block (Err stop) → HaltsTo tells ⊥ after (halts.To stop)
+pub write_to : (tells Mounted : Type 0) (mounted : tells → Mounted) (image after : Image) (session : Session) (block : ℕ) (stop : DeviceStop) → WritesAny (tells × Mounted) image after session block (Err stop) → HaltsTo tells ⊥ (Unit {0}) after (halts.To stop)
 write_to tells Mounted mounted image after session block stops.Platform any = tt
 write_to tells Mounted mounted image after session block stops.Memory any = tt
 write_to tells Mounted mounted image after session block stops.Tape any = tt
 write_to tells Mounted mounted image after session block stops.Ledger any = absurd any
 write_to tells Mounted mounted image after session block stops.BadRoot any = absurd any
-write_to tells Mounted mounted image after session block (stops.BadRecord addr) any = λ told. node_there after addr (any (told, mounted told))
+write_to tells Mounted mounted image after session block (stops.BadRecord addr) any = λ told. inr (inl (wrong_page (any (told, mounted told)), tt))
 
 -- which wants memory only where a page is free
 pub write_room : {S R : Type 0} (P : PlatformGhosts S) (T : TapeGhosts R) (platform platform_now : S) (tape tape_now : R) (stop : DeviceStop) → AddsBlock P T platform platform_now tape tape_now (Err stop) → P.head platform < P.capacity platform
@@ -81,19 +77,15 @@ list_from tells Mounted mounted image stops.Memory is = tt
 list_from tells Mounted mounted image stops.Tape is = absurd is
 list_from tells Mounted mounted image stops.Ledger is = absurd is
 list_from tells Mounted mounted image stops.BadRoot is = absurd is
-list_from tells Mounted mounted image (stops.BadRecord addr) is = λ told. node_or image addr (is (told, mounted told))
+list_from tells Mounted mounted image (stops.BadRecord addr) is = λ told. inl (is (told, mounted told))
 
-listed_there : (image : Image) (addr : ℕ) → IsWrongNode image addr ⊎ IsMiscountedAt image addr → IsWrongThere ⊥ image addr
-listed_there image addr (inl node) = inl node
-listed_there image addr (inr other) = inr (inl other)
-
-pub list_to : (tells Mounted : Type 0) (mounted : tells → Mounted) (image : Image) (stop : DeviceStop) → IsListStop (tells × Mounted) image stop → HaltsTo tells ⊥ image (halts.To stop)
+pub list_to : (tells Mounted : Type 0) (mounted : tells → Mounted) (image : Image) (stop : DeviceStop) → IsListStop (tells × Mounted) image stop → HaltsTo tells ⊥ ⊥ image (halts.To stop)
 list_to tells Mounted mounted image stops.Platform is = tt
 list_to tells Mounted mounted image stops.Memory is = tt
 list_to tells Mounted mounted image stops.Tape is = absurd is
 list_to tells Mounted mounted image stops.Ledger is = absurd is
 list_to tells Mounted mounted image stops.BadRoot is = absurd is
-list_to tells Mounted mounted image (stops.BadRecord addr) is = λ told. listed_there image addr (is (told, mounted told))
+list_to tells Mounted mounted image (stops.BadRecord addr) is = λ told. inl (is (told, mounted told))
 
 -- a mount, and a commit
 pub mount_to : (tells : Type 0) (cell : Option (List ℕ)) (pages : ℕ) (stop : DeviceStop) → IsMountStop tells cell pages stop → IsOfOpening (halts.To stop)
@@ -104,13 +96,13 @@ mount_to tells cell pages stops.Tape is = tt
 mount_to tells cell pages stops.Ledger is = tt
 mount_to tells cell pages (stops.BadRecord addr) is = absurd is
 
-pub mount_from : (from_tells to_tells Compared : Type 0) (from to : Image) (tells : Type 0) (cell : Option (List ℕ)) (pages : ℕ) (stop : DeviceStop) → IsMountStop tells cell pages stop → MeetsWrong from_tells to_tells Compared from to (halts.From stop)
-mount_from from_tells to_tells Compared from to tells cell pages stops.Platform is = tt
-mount_from from_tells to_tells Compared from to tells cell pages stops.Memory is = tt
-mount_from from_tells to_tells Compared from to tells cell pages stops.BadRoot is = tt
-mount_from from_tells to_tells Compared from to tells cell pages stops.Tape is = tt
-mount_from from_tells to_tells Compared from to tells cell pages stops.Ledger is = tt
-mount_from from_tells to_tells Compared from to tells cell pages (stops.BadRecord addr) is = absurd is
+pub mount_from : (from_tells to_tells Compared Written : Type 0) (from to : Image) (tells : Type 0) (cell : Option (List ℕ)) (pages : ℕ) (stop : DeviceStop) → IsMountStop tells cell pages stop → MeetsWrong from_tells to_tells Compared Written from to (halts.From stop)
+mount_from from_tells to_tells Compared Written from to tells cell pages stops.Platform is = tt
+mount_from from_tells to_tells Compared Written from to tells cell pages stops.Memory is = tt
+mount_from from_tells to_tells Compared Written from to tells cell pages stops.BadRoot is = tt
+mount_from from_tells to_tells Compared Written from to tells cell pages stops.Tape is = tt
+mount_from from_tells to_tells Compared Written from to tells cell pages stops.Ledger is = tt
+mount_from from_tells to_tells Compared Written from to tells cell pages (stops.BadRecord addr) is = absurd is
 
 pub commit_to : {S R : Type 0} (P : PlatformGhosts S) (T : TapeGhosts R) (platform platform_now : S) (tape tape_now : R) (stop : DeviceStop) → LeftAt P T platform platform_now tape tape_now stop → IsOfCommit (halts.To stop)
 commit_to P T platform platform_now tape tape_now stops.Platform left = tt
@@ -135,89 +127,95 @@ number_blamed before now (replies.Full needed free) result same is = subst (Blam
 
 -- ---- on both platforms
 
-pub meets_from : (from_tells to_tells Compared : Type 0) (from to : Image) (halt : Halt) → HaltsFrom from_tells from halt → MeetsWrong from_tells to_tells Compared from to halt
-meets_from from_tells to_tells Compared from to halts.NoDevice is = absurd is
-meets_from from_tells to_tells Compared from to halts.NotEmpty is = absurd is
-meets_from from_tells to_tells Compared from to halts.Full is = absurd is
-meets_from from_tells to_tells Compared from to halts.Output is = absurd is
-meets_from from_tells to_tells Compared from to (halts.From stops.Platform) is = tt
-meets_from from_tells to_tells Compared from to (halts.From stops.Memory) is = tt
-meets_from from_tells to_tells Compared from to (halts.From stops.Tape) is = absurd is
-meets_from from_tells to_tells Compared from to (halts.From stops.Ledger) is = absurd is
-meets_from from_tells to_tells Compared from to (halts.From stops.BadRoot) is = absurd is
-meets_from from_tells to_tells Compared from to (halts.From (stops.BadRecord addr)) is = is
-meets_from from_tells to_tells Compared from to (halts.To stop) is = absurd is
+pub meets_from : (from_tells to_tells Compared Written : Type 0) (from to : Image) (halt : Halt) → HaltsFrom from_tells from halt → MeetsWrong from_tells to_tells Compared Written from to halt
+meets_from from_tells to_tells Compared Written from to halts.NoDevice is = absurd is
+meets_from from_tells to_tells Compared Written from to halts.NotEmpty is = absurd is
+meets_from from_tells to_tells Compared Written from to halts.Full is = absurd is
+meets_from from_tells to_tells Compared Written from to halts.Output is = absurd is
+meets_from from_tells to_tells Compared Written from to (halts.From stops.Platform) is = tt
+meets_from from_tells to_tells Compared Written from to (halts.From stops.Memory) is = tt
+meets_from from_tells to_tells Compared Written from to (halts.From stops.Tape) is = absurd is
+meets_from from_tells to_tells Compared Written from to (halts.From stops.Ledger) is = absurd is
+meets_from from_tells to_tells Compared Written from to (halts.From stops.BadRoot) is = absurd is
+meets_from from_tells to_tells Compared Written from to (halts.From (stops.BadRecord addr)) is = is
+meets_from from_tells to_tells Compared Written from to (halts.To stop) is = absurd is
 
-pub meets_to : (from_tells to_tells Compared : Type 0) (from to : Image) (halt : Halt) → HaltsTo to_tells Compared to halt → MeetsWrong from_tells to_tells Compared from to halt
-meets_to from_tells to_tells Compared from to halts.NoDevice is = absurd is
-meets_to from_tells to_tells Compared from to halts.NotEmpty is = absurd is
-meets_to from_tells to_tells Compared from to halts.Full is = tt
-meets_to from_tells to_tells Compared from to halts.Output is = absurd is
-meets_to from_tells to_tells Compared from to (halts.From stop) is = absurd is
-meets_to from_tells to_tells Compared from to (halts.To stops.Platform) is = tt
-meets_to from_tells to_tells Compared from to (halts.To stops.Memory) is = tt
-meets_to from_tells to_tells Compared from to (halts.To stops.Tape) is = tt
-meets_to from_tells to_tells Compared from to (halts.To stops.Ledger) is = tt
-meets_to from_tells to_tells Compared from to (halts.To stops.BadRoot) is = absurd is
-meets_to from_tells to_tells Compared from to (halts.To (stops.BadRecord addr)) is = is
+pub meets_to : (from_tells to_tells Compared Written : Type 0) (from to : Image) (halt : Halt) → HaltsTo to_tells Compared Written to halt → MeetsWrong from_tells to_tells Compared Written from to halt
+meets_to from_tells to_tells Compared Written from to halts.NoDevice is = absurd is
+meets_to from_tells to_tells Compared Written from to halts.NotEmpty is = absurd is
+meets_to from_tells to_tells Compared Written from to halts.Full is = tt
+meets_to from_tells to_tells Compared Written from to halts.Output is = absurd is
+meets_to from_tells to_tells Compared Written from to (halts.From stop) is = absurd is
+meets_to from_tells to_tells Compared Written from to (halts.To stops.Platform) is = tt
+meets_to from_tells to_tells Compared Written from to (halts.To stops.Memory) is = tt
+meets_to from_tells to_tells Compared Written from to (halts.To stops.Tape) is = tt
+meets_to from_tells to_tells Compared Written from to (halts.To stops.Ledger) is = tt
+meets_to from_tells to_tells Compared Written from to (halts.To stops.BadRoot) is = absurd is
+meets_to from_tells to_tells Compared Written from to (halts.To (stops.BadRecord addr)) is = is
 
-pub meets_opening : (from_tells to_tells Compared : Type 0) (from to : Image) (halt : Halt) → IsOfOpening halt → MeetsWrong from_tells to_tells Compared from to halt
-meets_opening from_tells to_tells Compared from to halts.NoDevice is = absurd is
-meets_opening from_tells to_tells Compared from to halts.NotEmpty is = tt
-meets_opening from_tells to_tells Compared from to halts.Full is = tt
-meets_opening from_tells to_tells Compared from to halts.Output is = absurd is
-meets_opening from_tells to_tells Compared from to (halts.From stop) is = absurd is
-meets_opening from_tells to_tells Compared from to (halts.To stops.Platform) is = tt
-meets_opening from_tells to_tells Compared from to (halts.To stops.Memory) is = tt
-meets_opening from_tells to_tells Compared from to (halts.To stops.Tape) is = tt
-meets_opening from_tells to_tells Compared from to (halts.To stops.Ledger) is = tt
-meets_opening from_tells to_tells Compared from to (halts.To stops.BadRoot) is = tt
-meets_opening from_tells to_tells Compared from to (halts.To (stops.BadRecord addr)) is = absurd is
+pub meets_opening : (from_tells to_tells Compared Written : Type 0) (from to : Image) (halt : Halt) → IsOfOpening halt → MeetsWrong from_tells to_tells Compared Written from to halt
+meets_opening from_tells to_tells Compared Written from to halts.NoDevice is = absurd is
+meets_opening from_tells to_tells Compared Written from to halts.NotEmpty is = tt
+meets_opening from_tells to_tells Compared Written from to halts.Full is = tt
+meets_opening from_tells to_tells Compared Written from to halts.Output is = absurd is
+meets_opening from_tells to_tells Compared Written from to (halts.From stop) is = absurd is
+meets_opening from_tells to_tells Compared Written from to (halts.To stops.Platform) is = tt
+meets_opening from_tells to_tells Compared Written from to (halts.To stops.Memory) is = tt
+meets_opening from_tells to_tells Compared Written from to (halts.To stops.Tape) is = tt
+meets_opening from_tells to_tells Compared Written from to (halts.To stops.Ledger) is = tt
+meets_opening from_tells to_tells Compared Written from to (halts.To stops.BadRoot) is = tt
+meets_opening from_tells to_tells Compared Written from to (halts.To (stops.BadRecord addr)) is = absurd is
 
-meets_commit : (from_tells to_tells Compared : Type 0) (from to : Image) (halt : Halt) → IsOfCommit halt → MeetsWrong from_tells to_tells Compared from to halt
-meets_commit from_tells to_tells Compared from to halts.NoDevice is = absurd is
-meets_commit from_tells to_tells Compared from to halts.NotEmpty is = absurd is
-meets_commit from_tells to_tells Compared from to halts.Full is = tt
-meets_commit from_tells to_tells Compared from to halts.Output is = absurd is
-meets_commit from_tells to_tells Compared from to (halts.From stop) is = absurd is
-meets_commit from_tells to_tells Compared from to (halts.To stops.Platform) is = tt
-meets_commit from_tells to_tells Compared from to (halts.To stops.Tape) is = tt
-meets_commit from_tells to_tells Compared from to (halts.To stops.Ledger) is = tt
-meets_commit from_tells to_tells Compared from to (halts.To stops.Memory) is = tt
-meets_commit from_tells to_tells Compared from to (halts.To stops.BadRoot) is = absurd is
-meets_commit from_tells to_tells Compared from to (halts.To (stops.BadRecord addr)) is = absurd is
+meets_commit : (from_tells to_tells Compared Written : Type 0) (from to : Image) (halt : Halt) → IsOfCommit halt → MeetsWrong from_tells to_tells Compared Written from to halt
+meets_commit from_tells to_tells Compared Written from to halts.NoDevice is = absurd is
+meets_commit from_tells to_tells Compared Written from to halts.NotEmpty is = absurd is
+meets_commit from_tells to_tells Compared Written from to halts.Full is = tt
+meets_commit from_tells to_tells Compared Written from to halts.Output is = absurd is
+meets_commit from_tells to_tells Compared Written from to (halts.From stop) is = absurd is
+meets_commit from_tells to_tells Compared Written from to (halts.To stops.Platform) is = tt
+meets_commit from_tells to_tells Compared Written from to (halts.To stops.Tape) is = tt
+meets_commit from_tells to_tells Compared Written from to (halts.To stops.Ledger) is = tt
+meets_commit from_tells to_tells Compared Written from to (halts.To stops.Memory) is = tt
+meets_commit from_tells to_tells Compared Written from to (halts.To stops.BadRoot) is = absurd is
+meets_commit from_tells to_tells Compared Written from to (halts.To (stops.BadRecord addr)) is = absurd is
 
-pub meets_commit_all : {X : Type 0} (from_tells to_tells Compared : Type 0) (from to : Image) (result : Result X Halt) → IfErr result IsOfCommit → IfErr result (MeetsWrong from_tells to_tells Compared from to)
-meets_commit_all from_tells to_tells Compared from to (Ok done) is = tt
-meets_commit_all from_tells to_tells Compared from to (Err halt) is = meets_commit from_tells to_tells Compared from to halt is
+pub meets_commit_all : {X : Type 0} (from_tells to_tells Compared Written : Type 0) (from to : Image) (result : Result X Halt) → IfErr result IsOfCommit → IfErr result (MeetsWrong from_tells to_tells Compared Written from to)
+meets_commit_all from_tells to_tells Compared Written from to (Ok done) is = tt
+meets_commit_all from_tells to_tells Compared Written from to (Err halt) is = meets_commit from_tells to_tells Compared Written from to halt is
 
--- what is named is so where more is compared
-there_where : (Was Compared : Type 0) (image : Image) (addr : ℕ) → (Was → Compared) → IsWrongThere Was image addr → IsWrongThere Compared image addr
-there_where Was Compared image addr more (inl node) = inl node
-there_where Was Compared image addr more (inr (inl other)) = inr (inl other)
-there_where Was Compared image addr more (inr (inr place)) = inr (inr (place.0, more place.1))
+-- what is named is so where less is asked of it
+pub there_where : (Was Compared Wrote Written : Type 0) (image : Image) (addr : ℕ) → (Was → Compared) → (Wrote → Written) → IsWrongThere Was Wrote image addr → IsWrongThere Compared Written image addr
+there_where Was Compared Wrote Written image addr compared written (inl listing) = inl listing
+there_where Was Compared Wrote Written image addr compared written (inr (inl step)) = inr (inl (step.0, written step.1))
+there_where Was Compared Wrote Written image addr compared written (inr (inr place)) = inr (inr (place.0, compared place.1))
 
-pub meets_where : (from_tells to_tells Was Compared : Type 0) (from to : Image) (halt : Halt) → (to_tells → Was → Compared) → MeetsWrong from_tells to_tells Was from to halt → MeetsWrong from_tells to_tells Compared from to halt
-meets_where from_tells to_tells Was Compared from to halts.NoDevice more is = tt
-meets_where from_tells to_tells Was Compared from to halts.NotEmpty more is = tt
-meets_where from_tells to_tells Was Compared from to halts.Full more is = tt
-meets_where from_tells to_tells Was Compared from to halts.Output more is = tt
-meets_where from_tells to_tells Was Compared from to (halts.From stops.Platform) more is = tt
-meets_where from_tells to_tells Was Compared from to (halts.From stops.Memory) more is = tt
-meets_where from_tells to_tells Was Compared from to (halts.From stops.Tape) more is = tt
-meets_where from_tells to_tells Was Compared from to (halts.From stops.Ledger) more is = tt
-meets_where from_tells to_tells Was Compared from to (halts.From stops.BadRoot) more is = tt
-meets_where from_tells to_tells Was Compared from to (halts.From (stops.BadRecord addr)) more is = is
-meets_where from_tells to_tells Was Compared from to (halts.To stops.Platform) more is = tt
-meets_where from_tells to_tells Was Compared from to (halts.To stops.Memory) more is = tt
-meets_where from_tells to_tells Was Compared from to (halts.To stops.Tape) more is = tt
-meets_where from_tells to_tells Was Compared from to (halts.To stops.Ledger) more is = tt
-meets_where from_tells to_tells Was Compared from to (halts.To stops.BadRoot) more is = tt
-meets_where from_tells to_tells Was Compared from to (halts.To (stops.BadRecord addr)) more is = λ told. there_where Was Compared to addr (more told) (is told)
+pub meets_there : (from_tells to_tells Was Compared Wrote Written : Type 0) (from to : Image) (halt : Halt) → (to_tells → (addr : ℕ) → IsWrongThere Was Wrote to addr → IsWrongThere Compared Written to addr) → MeetsWrong from_tells to_tells Was Wrote from to halt
+    → MeetsWrong from_tells to_tells Compared Written from to halt
+meets_there from_tells to_tells Was Compared Wrote Written from to halts.NoDevice there is = tt
+meets_there from_tells to_tells Was Compared Wrote Written from to halts.NotEmpty there is = tt
+meets_there from_tells to_tells Was Compared Wrote Written from to halts.Full there is = tt
+meets_there from_tells to_tells Was Compared Wrote Written from to halts.Output there is = tt
+meets_there from_tells to_tells Was Compared Wrote Written from to (halts.From stops.Platform) there is = tt
+meets_there from_tells to_tells Was Compared Wrote Written from to (halts.From stops.Memory) there is = tt
+meets_there from_tells to_tells Was Compared Wrote Written from to (halts.From stops.Tape) there is = tt
+meets_there from_tells to_tells Was Compared Wrote Written from to (halts.From stops.Ledger) there is = tt
+meets_there from_tells to_tells Was Compared Wrote Written from to (halts.From stops.BadRoot) there is = tt
+meets_there from_tells to_tells Was Compared Wrote Written from to (halts.From (stops.BadRecord addr)) there is = is
+meets_there from_tells to_tells Was Compared Wrote Written from to (halts.To stops.Platform) there is = tt
+meets_there from_tells to_tells Was Compared Wrote Written from to (halts.To stops.Memory) there is = tt
+meets_there from_tells to_tells Was Compared Wrote Written from to (halts.To stops.Tape) there is = tt
+meets_there from_tells to_tells Was Compared Wrote Written from to (halts.To stops.Ledger) there is = tt
+meets_there from_tells to_tells Was Compared Wrote Written from to (halts.To stops.BadRoot) there is = tt
+meets_there from_tells to_tells Was Compared Wrote Written from to (halts.To (stops.BadRecord addr)) there is = λ told. there told addr (is told)
 
-pub meets_where_all : {X : Type 0} (from_tells to_tells Was Compared : Type 0) (from to : Image) (result : Result X Halt) → (to_tells → Was → Compared) → IfErr result (MeetsWrong from_tells to_tells Was from to) → IfErr result (MeetsWrong from_tells to_tells Compared from to)
-meets_where_all from_tells to_tells Was Compared from to (Ok done) more is = tt
-meets_where_all from_tells to_tells Was Compared from to (Err halt) more is = meets_where from_tells to_tells Was Compared from to halt more is
+pub meets_where : (from_tells to_tells Was Compared Wrote Written : Type 0) (from to : Image) (halt : Halt) → (to_tells → Was → Compared) → (to_tells → Wrote → Written) → MeetsWrong from_tells to_tells Was Wrote from to halt → MeetsWrong from_tells to_tells Compared Written from to halt
+meets_where from_tells to_tells Was Compared Wrote Written from to halt compared written is =
+    meets_there from_tells to_tells Was Compared Wrote Written from to halt (λ told addr. there_where Was Compared Wrote Written to addr (compared told) (written told)) is
+
+pub meets_where_all : {X : Type 0} (from_tells to_tells Was Compared Wrote Written : Type 0) (from to : Image) (result : Result X Halt) → (to_tells → Was → Compared) → (to_tells → Wrote → Written) → IfErr result (MeetsWrong from_tells to_tells Was Wrote from to)
+    → IfErr result (MeetsWrong from_tells to_tells Compared Written from to)
+meets_where_all from_tells to_tells Was Compared Wrote Written from to (Ok done) compared written is = tt
+meets_where_all from_tells to_tells Was Compared Wrote Written from to (Err halt) compared written is = meets_where from_tells to_tells Was Compared Wrote Written from to halt compared written is
 
 -- ---- behind the mount
 
@@ -234,18 +232,18 @@ behind_from tells image (halts.From stops.BadRoot) is = absurd is
 behind_from tells image (halts.From (stops.BadRecord addr)) is = tt
 behind_from tells image (halts.To stop) is = absurd is
 
-pub behind_to : (tells Compared : Type 0) (image : Image) (halt : Halt) → HaltsTo tells Compared image halt → IsBehindBoth halt
-behind_to tells Compared image halts.NoDevice is = absurd is
-behind_to tells Compared image halts.NotEmpty is = absurd is
-behind_to tells Compared image halts.Full is = tt
-behind_to tells Compared image halts.Output is = absurd is
-behind_to tells Compared image (halts.From stop) is = absurd is
-behind_to tells Compared image (halts.To stops.Platform) is = tt
-behind_to tells Compared image (halts.To stops.Memory) is = tt
-behind_to tells Compared image (halts.To stops.Tape) is = tt
-behind_to tells Compared image (halts.To stops.Ledger) is = tt
-behind_to tells Compared image (halts.To stops.BadRoot) is = absurd is
-behind_to tells Compared image (halts.To (stops.BadRecord addr)) is = tt
+pub behind_to : (tells Compared Written : Type 0) (image : Image) (halt : Halt) → HaltsTo tells Compared Written image halt → IsBehindBoth halt
+behind_to tells Compared Written image halts.NoDevice is = absurd is
+behind_to tells Compared Written image halts.NotEmpty is = absurd is
+behind_to tells Compared Written image halts.Full is = tt
+behind_to tells Compared Written image halts.Output is = absurd is
+behind_to tells Compared Written image (halts.From stop) is = absurd is
+behind_to tells Compared Written image (halts.To stops.Platform) is = tt
+behind_to tells Compared Written image (halts.To stops.Memory) is = tt
+behind_to tells Compared Written image (halts.To stops.Tape) is = tt
+behind_to tells Compared Written image (halts.To stops.Ledger) is = tt
+behind_to tells Compared Written image (halts.To stops.BadRoot) is = absurd is
+behind_to tells Compared Written image (halts.To (stops.BadRecord addr)) is = tt
 
 pub behind_opening : (halt : Halt) → IsOfOpening halt → IsBehindMount halt
 behind_opening halts.NoDevice is = absurd is

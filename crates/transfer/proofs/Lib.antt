@@ -5,6 +5,7 @@ pub mod StatusLaws
 pub mod ListLaws
 pub mod HaltLaws
 pub mod RefusalLaws
+pub mod NoneLaws
 pub mod FormatLaws
 pub mod CopyLaws
 pub mod MovingLaws

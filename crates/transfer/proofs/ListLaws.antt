@@ -1,5 +1,5 @@
 -- What a listing of mapped blocks says.
-use Rattle.std.proofs.Common.{◌≡◌, ◌⊎◌, ◌<◌, ◌≤◌, ◌+◌, ◌∙◌, ◌++◌, ◌∷◌, ℕ, zero, suc, List, [], Some, Result, Ok, Err, inl, inr, refl, sym, ap, subst, take, map, length, arith}
+use Rattle.std.proofs.Common.{◌≡◌, ◌<◌, ◌≤◌, ◌+◌, ◌∙◌, ◌++◌, ◌∷◌, ℕ, List, [], Some, Result, Ok, Err, inl, inr, refl, sym, ap, subst, take, map, length, arith}
 use Rattle.std.specs.Prelude.{All, IfErr, IfOk, slice_get}
 use Rattle.std.proofs.Common.{add-one}
 use Rattle.std.proofs.lemmas.List.{length-map, map-append}
@@ -8,7 +8,7 @@ use Rattle.node_codec.specs.declared.body.Entry.{Entry}
 use Rattle.btree_walk.specs.Mapped.{IsListedWithin, entry_of}
 use Rattle.btree_walk.proofs.LevelLaws.{tree_entries}
 use Rattle.page_store.specs.Stands.{StandsBy}
-use Rattle.page_store.specs.Tree.{Parts, SomeChild}
+use Rattle.page_store.specs.Tree.{Parts}
 use Rattle.sdbt_base.specs.Arrays.{Device}
 use Rattle.btree_walk.proofs.NodeLaws.{take_more}
 use Rattle.btree_walk.proofs.OrderLaws.{root_within}
@@ -20,18 +20,16 @@ use Rattle.platform.specs.declared.platforms.Platform.{Ghosts as PlatformGhosts}
 use Rattle.root_codec.specs.declared.root.Root.{Root}
 use Rattle.root_codec.specs.RootRecord.{FitsRoot}
 use Rattle.btree_walk.specs.Looks.{OnlyLooks}
-use Rattle.btree_walk.specs.Nodes.{FirstWrong, FirstWrongOf, Node, NodesOf, branches, listed}
+use Rattle.btree_walk.specs.Nodes.{FirstWrongOf, Node, NodesOf, listed}
 use Rattle.btree_walk.specs.declared.refusals.WalkRefusal.{WalkRefusal}
 use Rattle.btree_walk.specs.declared.refusals.WalkRefusal.TheVariants as walks
-use Rattle.page_store.specs.declared.wants.Want.{Want}
-use Rattle.page_store.specs.Places.{root_want}
 use Rattle.device_terms.proofs.MomentLaws.{one_look, still}
 use Rattle.session_calls.specs.Blame.{HasCause, IsBlamed}
-use Rattle.session_calls.specs.Damage.{IsMiscountedAt, IsMounted, IsWrongNode, WrongNodeBelow}
+use Rattle.session_calls.specs.Damage.{IsMounted}
 use Rattle.session_calls.specs.declared.stops.DeviceStop.{DeviceStop}
 use Rattle.session_calls.specs.declared.stops.DeviceStop.TheVariants as stops
 use Rattle.device_session.specs.Sessions.{Session}
-use Rattle.transfer.specs.Listing.{IsListStop, IsOfEntries, stop_of_walk}
+use Rattle.transfer.specs.Listing.{IsListStop, IsOfEntries, StopsListingAt, stop_of_walk}
 use Rattle.transfer.specs.Whole.{HasBlocks}
 
 -- a walk only looks
@@ -90,48 +88,12 @@ walk_refused before now walks.Memory least tells = record {
   cause = ap (λ (n : ℕ). counts n 0 0 0 0) (tells.refused (λ is. cc));
 }
 
--- the first node that doesn't fit is a wrong node of the root record in the cell
-SomeOf : {B : Type 0} → List B → (B → Type 0) → Type 0
-SomeOf [] P = ⊥
-SomeOf (b ∷ bs) P = P b ⊎ SomeOf bs P
-
-some_of : {B : Type 0} (P : B → Type 0) (before after : List B) (b : B) → P b → SomeOf (before ++ b ∷ after) P
-unfolding SomeOf
-some_of P [] after b is = inl is
-some_of P (x ∷ before) after b is = inr (some_of P before after b is)
-
-some_child : (Below : Want → List ℕ → Type 0) (order level high : ℕ) (entries : List Entry) → SomeOf (branches order level high entries) (λ b. Below b.want b.key) → SomeChild Below order level high entries
-unfolding SomeOf
-some_child Below order level high [] some = some
-some_child Below order level high (entry ∷ entries) (inl here) = inl here
-some_child Below order level high (entry ∷ entries) (inr there) = inr (some_child Below order level high entries there)
-
-first_wrong_is_node : (pages : List (List ℕ)) (addr order level : ℕ) (want : Want) (key : List ℕ) → FirstWrong pages addr order level want key → WrongNodeBelow pages addr order level want key
-unfolding FirstWrong WrongNodeBelow
-first_wrong_is_node pages addr order zero want key wrong = absurd wrong
-first_wrong_is_node pages addr order (suc level) want key (inl misfit) = inl misfit
-first_wrong_is_node pages addr order (suc level) want key (inr later) = inr record {
-  entries = later.entries;
-  fits = later.fits;
-  some = some_child (WrongNodeBelow pages addr order level) order level want.high later.entries
-      (subst (λ bs. SomeOf bs (λ b. WrongNodeBelow pages addr order level b.want b.key)) (sym later.split)
-      (some_of (λ b. WrongNodeBelow pages addr order level b.want b.key) later.before later.after later.branch (first_wrong_is_node pages addr order level later.branch.want later.branch.key later.stops)));
-}
-
-first_wrong : (image : Image) (session : Session) (addr : ℕ) → FitsRoot session.root → IsMounted image session → FirstWrongOf image.readable session.root addr → IsWrongNode image addr
-first_wrong image session addr fits mounted wrong = record {
-  root = session.root;
-  in_range = fits;
-  cell = mounted.cell;
-  wrong = first_wrong_is_node image.readable addr session.root.order session.root.level (root_want session.root) session.root.key wrong;
-}
-
 pub list_stopped : (Known : Type 0) (image after : Image) (session : Session) (refusal : WalkRefusal) → (Known → after ≡ image) → FitsRoot session.root → (Known → IsMounted image session) → (Known → (addr : ℕ) → refusal ≡ walks.BadRecord addr → FirstWrongOf image.readable session.root addr)
     → IsListStop Known after (stop_of_walk refusal)
 list_stopped Known image after session walks.PlatformFault same fits mounted wrong = tt
 list_stopped Known image after session walks.Memory same fits mounted wrong = tt
 list_stopped Known image after session (walks.BadRecord addr) same fits mounted wrong =
-    λ known. inl (subst (λ (i : Image). IsWrongNode i addr) (sym (same known)) (first_wrong image session addr fits (mounted known) (wrong known addr refl)))
+    λ known. subst (λ (i : Image). StopsListingAt i addr) (sym (same known)) (record { root = session.root; in_range = fits; cell = (mounted known).cell; stops = inl (wrong known addr refl) })
 
 -- ---- the blocks of entries
 
@@ -159,17 +121,10 @@ entries_stopped Known image list blocks addr (Err (stops.BadRecord at)) is withi
 
 -- ---- how many they are
 
--- where a tree's entries are others than the root record says, its blocks are miscounted
-pub list_miscounted : (image after : Image) (session : Session) (nodes : List Node) → FitsRoot session.root → IsMounted image session → NodesOf image.readable session.root nodes → (length (listed nodes) ≡ session.root.mapped → ⊥) → after ≡ image → IsWrongNode after session.root.addr ⊎ IsMiscountedAt after session.root.addr
+-- where a tree's entries are others than the root record says, it stops at the root node
+pub list_miscounted : (image after : Image) (session : Session) (nodes : List Node) → FitsRoot session.root → IsMounted image session → NodesOf image.readable session.root nodes → (length (listed nodes) ≡ session.root.mapped → ⊥) → after ≡ image → StopsListingAt after session.root.addr
 list_miscounted image after session nodes fits mounted of never same =
-    let here : IsMiscountedAt image session.root.addr = record {
-      root = session.root;
-      in_range = fits;
-      cell = mounted.cell;
-      is_node = refl;
-      miscounted = λ parts tree many. never (ap length (tree_entries image.readable session.root parts nodes fits tree of) ∙ length-map parts.mapped entry_of ∙ many);
-    } in
-    inr (subst (λ (i : Image). IsMiscountedAt i session.root.addr) (sym same) here)
+    subst (λ (i : Image). StopsListingAt i session.root.addr) (sym same) (record { root = session.root; in_range = fits; cell = mounted.cell; stops = inr (refl, record { nodes = nodes; are = of; another = never }) })
 
 -- those of a device aren't
 pub list_counted : (image : Image) (device : Device) (root : Root) (parts : Parts) (nodes : List Node) → StandsBy image device root parts → NodesOf image.readable root nodes → length (listed nodes) ≡ root.mapped

@@ -44,18 +44,18 @@ reads_from tells image (halts.From stops.BadRoot) is = absurd is
 reads_from tells image (halts.From (stops.BadRecord addr)) is = tt
 reads_from tells image (halts.To stop) is = absurd is
 
-pub copy_to : (tells Compared : Type 0) (image : Image) (halt : Halt) → HaltsTo tells Compared image halt → IsOfCopy halt
-copy_to tells Compared image halts.NoDevice is = absurd is
-copy_to tells Compared image halts.NotEmpty is = absurd is
-copy_to tells Compared image halts.Full is = tt
-copy_to tells Compared image halts.Output is = absurd is
-copy_to tells Compared image (halts.From stop) is = absurd is
-copy_to tells Compared image (halts.To stops.Platform) is = tt
-copy_to tells Compared image (halts.To stops.Memory) is = tt
-copy_to tells Compared image (halts.To stops.Tape) is = tt
-copy_to tells Compared image (halts.To stops.Ledger) is = tt
-copy_to tells Compared image (halts.To stops.BadRoot) is = absurd is
-copy_to tells Compared image (halts.To (stops.BadRecord addr)) is = tt
+pub copy_to : (tells Compared Written : Type 0) (image : Image) (halt : Halt) → HaltsTo tells Compared Written image halt → IsOfCopy halt
+copy_to tells Compared Written image halts.NoDevice is = absurd is
+copy_to tells Compared Written image halts.NotEmpty is = absurd is
+copy_to tells Compared Written image halts.Full is = tt
+copy_to tells Compared Written image halts.Output is = absurd is
+copy_to tells Compared Written image (halts.From stop) is = absurd is
+copy_to tells Compared Written image (halts.To stops.Platform) is = tt
+copy_to tells Compared Written image (halts.To stops.Memory) is = tt
+copy_to tells Compared Written image (halts.To stops.Tape) is = tt
+copy_to tells Compared Written image (halts.To stops.Ledger) is = tt
+copy_to tells Compared Written image (halts.To stops.BadRoot) is = absurd is
+copy_to tells Compared Written image (halts.To (stops.BadRecord addr)) is = tt
 
 pub reads_copy : (halt : Halt) → IsOfReads halt → IsOfCopy halt
 reads_copy halts.NoDevice is = is
@@ -89,8 +89,8 @@ copy_reads (halts.To (stops.BadRecord addr)) is never = tt
 abbrev pub failed : (X : Type 0) → Halt → Result X Halt
 failed X halt = Err halt
 
-pub reads_to : {X : Type 0} (tells Compared : Type 0) (image : Image) (halt : Halt) → HaltsTo tells Compared image halt → (failed X halt ≡ failed X halts.Full → ⊥) → IsOfReads halt
-reads_to {X = X} tells Compared image halt is never = copy_reads halt (copy_to tells Compared image halt is) (λ full. never (ap (failed X) full))
+pub reads_to : {X : Type 0} (tells Compared Written : Type 0) (image : Image) (halt : Halt) → HaltsTo tells Compared Written image halt → (failed X halt ≡ failed X halts.Full → ⊥) → IsOfReads halt
+reads_to {X = X} tells Compared Written image halt is never = copy_reads halt (copy_to tells Compared Written image halt is) (λ full. never (ap (failed X) full))
 
 pub copy_behind : (halt : Halt) → IsOfCopy halt → IsBehindBoth halt
 copy_behind halts.NoDevice is = is

@@ -30,12 +30,13 @@ pub record ReadsBoth {S R X : Type 0} (P : PlatformGhosts S) (Q : PlatformGhosts
   pub from : (any : Drawn) → Along P 0 few first first_now any any source source_now
   pub to : (any : Drawn) → Along Q 0 most second second_now any any target target_now
   pub blame : (tape output ledger : ℕ) → Blames (counts (P.faults first) (Q.faults second) tape output ledger) (counts (P.faults first_now) (Q.faults second_now) tape output ledger) result
-  pub wrong : IfErr result (MeetsWrong P.tells Q.tells Compared (P.history first_now).present (Q.history second_now).present)
+  pub wrong : IfErr result (MeetsWrong P.tells Q.tells Compared ⊥ (P.history first_now).present (Q.history second_now).present)
   pub behind : IfErr result IsOfReads
   pub trees : (source_now.grove ≡ source.grove) × (target_now.grove ≡ target.grove)
 
--- the first device is only read, and the second one is filled: its session ends. So often is either read at most as is said of the two counts
-pub record FillsBoth {S R W V : Type 0} (P : PlatformGhosts S) (Q : PlatformGhosts R) (T : TapeGhosts W) (L : SinkGhosts V) (Reads : ℕ → ℕ → Type 0) (Compared : Type 0) (first first_now : S) (second second_now : R) (tape tape_now : W) (ledger ledger_now : V) (source source_now target : Session) (result : Result ℕ Halt) : Type 0 where
+-- the first device is only read, and the second one is filled: its session ends. So often is either read at most as is said of the two counts, and a halt names a record of the second one
+-- where it was written only where that is said
+pub record FillsBoth {S R W V : Type 0} (P : PlatformGhosts S) (Q : PlatformGhosts R) (T : TapeGhosts W) (L : SinkGhosts V) (Reads : ℕ → ℕ → Type 0) (Compared Written : Type 0) (first first_now : S) (second second_now : R) (tape tape_now : W) (ledger ledger_now : V) (source source_now target : Session) (result : Result ℕ Halt) : Type 0 where
   pub few : ℕ
   pub most : ℕ
   pub reads : Reads few most
@@ -43,5 +44,5 @@ pub record FillsBoth {S R W V : Type 0} (P : PlatformGhosts S) (Q : PlatformGhos
   pub reads_to : Q.tells → Q.reads second_now ≤ Q.reads second + most
   pub to : Carries Q.tells (around Q T L second tape ledger) (around Q T L second_now tape_now ledger_now) target None (IsOk result)
   pub blame : (output : ℕ) → Blames (counts (P.faults first) (Q.faults second) (T.faults tape) output (L.faults ledger)) (counts (P.faults first_now) (Q.faults second_now) (T.faults tape_now) output (L.faults ledger_now)) result
-  pub wrong : IfErr result (MeetsWrong P.tells Q.tells Compared (P.history first_now).present (Q.history second_now).present)
+  pub wrong : IfErr result (MeetsWrong P.tells Q.tells Compared Written (P.history first_now).present (Q.history second_now).present)
   pub behind : IfErr result IsBehindBoth

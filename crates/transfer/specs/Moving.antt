@@ -120,7 +120,7 @@ pub record Moves (from from_now to to_now : History) (device : Device) (there : 
 pub record Went (from_tells to_tells : Type 0) (from from_now to to_now : History) (free : ℕ) (ending : Result (Unit {0}) Halt) (written written_now : Option (List ℕ)) : Type 0 where
   pub moved : Result Moved Halt
   pub said : EndsAs moved ending written written_now
-  pub wrong : IfErr moved (MeetsWrong from_tells to_tells (HasSome to.present) from_now.present to_now.present)
+  pub wrong : IfErr moved (MeetsWrong from_tells to_tells (HasSome to.present) ⊥ from_now.present to_now.present)
   pub looked : Looked from_tells from.present moved
   pub there : LookedThere to_tells to.present moved
   pub mapped : IfOk moved (λ one. from_tells → HasMapped from.present one.blocks)

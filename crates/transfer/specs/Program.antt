@@ -62,7 +62,7 @@ pub record Ran (from_tells to_tells : Type 0) (first : Image) (first_to : Histor
   pub ending : Result (Unit {0}) Halt
   pub said : EndsAs moved ending written written_now
   pub status_is : status ≡ exit_of ending
-  pub wrong : IfErr moved (MeetsWrong from_tells to_tells (HasSome first_to.present) from to.present)
+  pub wrong : IfErr moved (MeetsWrong from_tells to_tells (HasSome first_to.present) ⊥ from to.present)
   pub looked : Looked from_tells first moved
   pub there : LookedThere to_tells first_to.present moved
   pub mapped : IfOk moved (λ one. from_tells → HasMapped first one.blocks)

@@ -17,8 +17,9 @@ use Rattle.device_session.specs.Sessions.{Session}
 use Rattle.device_session.specs.declared.refusals.CommitReply.{CommitReply}
 use Rattle.device_session.specs.declared.refusals.CommitReply.TheVariants as replies
 use Rattle.session_calls.specs.Carrying.{IsReady}
-use Rattle.session_calls.specs.Damage.{IsMiscountedAt, IsWrongNode, IsWrongPage, IsWrongPlace}
+use Rattle.session_calls.specs.Damage.{IsWrongPlace, IsWrongStep}
 use Rattle.session_calls.specs.declared.stops.DeviceStop.TheVariants as device
+use Rattle.transfer.specs.Listing.{StopsListingAt}
 use Rattle.transfer.specs.declared.halts.Halt.{Halt}
 use Rattle.transfer.specs.declared.halts.Halt.TheVariants as halts
 
@@ -52,17 +53,20 @@ pub record Clears (tells : Type 0) (before : Option Session) (old new : Outside)
   pub made : tells → (entry : State) → IsAt old.history.present before entry
       → ((Done → ⊥) × Made old.history new.history None entry [] (closed entry.device)) ⊎ Made old.history new.history None entry (None ∷ []) (closed None)
 
--- what is named of the device that another one is moved to: a node that doesn't fit its place, or the root node of a tree that is miscounted; any other record that doesn't fit, as that of a
--- block, only where blocks are compared
-abbrev pub IsWrongThere : Type 0 → Image → ℕ → Type 0
-IsWrongThere Compared image addr = IsWrongNode image addr ⊎ IsMiscountedAt image addr ⊎ (IsWrongPlace image addr × Compared)
+-- what is named of the device that is moved: where a listing of its blocks stops, or a record that doesn't fit its place
+abbrev pub IsWrongHere : Image → ℕ → Type 0
+IsWrongHere image addr = StopsListingAt image addr ⊎ IsWrongPlace image addr
 
--- a record that is named doesn't fit its place on its platform, on any pages, where that tells. A block is written without a look at what there is of it, so that on the second platform the
--- record of a block is named only where blocks are compared
-abbrev pub MeetsWrong : Type 0 → Type 0 → Type 0 → Image → Image → Halt → Type 0
-MeetsWrong from_tells to_tells Compared from to (halts.From (device.BadRecord addr)) = from_tells → IsWrongPage from addr
-MeetsWrong from_tells to_tells Compared from to (halts.To (device.BadRecord addr)) = to_tells → IsWrongThere Compared to addr
-MeetsWrong from_tells to_tells Compared from to _ = Unit {0}
+-- what is named of the device that another one is moved to: where a listing of its blocks stops; where a change of a block does, only where blocks are written; and any other record that doesn't
+-- fit, as that of a block, only where blocks are compared
+abbrev pub IsWrongThere : Type 0 → Type 0 → Image → ℕ → Type 0
+IsWrongThere Compared Written image addr = StopsListingAt image addr ⊎ (IsWrongStep image addr × Written) ⊎ (IsWrongPlace image addr × Compared)
+
+-- a record that is named is such a one of its platform, on any pages, where that tells
+abbrev pub MeetsWrong : Type 0 → Type 0 → Type 0 → Type 0 → Image → Image → Halt → Type 0
+MeetsWrong from_tells to_tells Compared Written from to (halts.From (device.BadRecord addr)) = from_tells → IsWrongHere from addr
+MeetsWrong from_tells to_tells Compared Written from to (halts.To (device.BadRecord addr)) = to_tells → IsWrongThere Compared Written to addr
+MeetsWrong from_tells to_tells Compared Written from to _ = Unit {0}
 
 -- blocks are compared only with those that are mapped in a device that there is: the root record in its cell says that some are
 abbrev pub HasSome : Image → Type 0
@@ -104,22 +108,22 @@ pub record LookedThere {X : Type 0} (tells : Type 0) (image : Image) (result : R
   pub bad : tells → (IsServedImage image → ⊥) → IsAtRoot result
   pub bad_only : tells → result ≡ Err (halts.To device.BadRoot) → IsServedImage image → ⊥
 
--- a halt of the device that is moved, and of the one that it is moved to: at a record that doesn't fit its place, on any pages, there at one of a block only where blocks are compared; or
--- since a platform, the tape or the ledger failed, no memory was given, or too few pages are free
+-- a halt of the device that is moved, and of the one that it is moved to: at a record that is named so, on any pages; or since a platform, the tape or the ledger failed, no memory was given, or
+-- too few pages are free
 abbrev pub HaltsFrom : Type 0 → Image → Halt → Type 0
-HaltsFrom tells image (halts.From (device.BadRecord addr)) = tells → IsWrongPage image addr
+HaltsFrom tells image (halts.From (device.BadRecord addr)) = tells → IsWrongHere image addr
 HaltsFrom tells image (halts.From device.Platform) = Unit {0}
 HaltsFrom tells image (halts.From device.Memory) = Unit {0}
 HaltsFrom tells image _ = ⊥
 
-abbrev pub HaltsTo : Type 0 → Type 0 → Image → Halt → Type 0
-HaltsTo tells Compared image halts.Full = Unit {0}
-HaltsTo tells Compared image (halts.To (device.BadRecord addr)) = tells → IsWrongThere Compared image addr
-HaltsTo tells Compared image (halts.To device.Platform) = Unit {0}
-HaltsTo tells Compared image (halts.To device.Tape) = Unit {0}
-HaltsTo tells Compared image (halts.To device.Ledger) = Unit {0}
-HaltsTo tells Compared image (halts.To device.Memory) = Unit {0}
-HaltsTo tells Compared image _ = ⊥
+abbrev pub HaltsTo : Type 0 → Type 0 → Type 0 → Image → Halt → Type 0
+HaltsTo tells Compared Written image halts.Full = Unit {0}
+HaltsTo tells Compared Written image (halts.To (device.BadRecord addr)) = tells → IsWrongThere Compared Written image addr
+HaltsTo tells Compared Written image (halts.To device.Platform) = Unit {0}
+HaltsTo tells Compared Written image (halts.To device.Tape) = Unit {0}
+HaltsTo tells Compared Written image (halts.To device.Ledger) = Unit {0}
+HaltsTo tells Compared Written image (halts.To device.Memory) = Unit {0}
+HaltsTo tells Compared Written image _ = ⊥
 
 -- a halt that isn't for want of memory
 abbrev pub WantsNoMemory : Halt → Type 0

@@ -1,5 +1,5 @@
 -- What a move that was done found of a device, on any pages.
-use Rattle.std.specs.Prelude.{◌≡◌, ◌≢◌, ◌<◌, ◌≤◌, ◌⊎◌, ℕ, None, Bool, false, Contains, List, All, IfOk, IsTrue, Result, OnOk, length, map}
+use Rattle.std.specs.Prelude.{◌≡◌, ◌≢◌, ◌<◌, ◌≤◌, ◌⊎◌, ℕ, None, Bool, false, Contains, List, [], All, IfOk, IsTrue, Result, OnOk, length, map}
 use Rattle.std.specs.FinMap.{from_entries}
 use Rattle.sdbt_base.specs.Arrays.{Blocks, content_of}
 use Rattle.platform.specs.History.{History, image_at, moment}
@@ -27,6 +27,13 @@ pub record HasBlocks (image : Image) (root : Root) (blocks : List ℕ) : Type 0 
   pub nodes : List Node
   pub are : NodesOf image.readable root nodes
   pub is : blocks ≡ map (λ e. e.low) (listed nodes)
+
+-- the device of the root record in the cell has no block: each node below it fits its place, they have no entry of a block, and it says that none is mapped
+pub record HasNone (image : Image) : Type 0 where
+  pub root : Root
+  pub is_root : IsRootOf image root
+  pub blocks : HasBlocks image root []
+  pub count : root.mapped ≡ 0
 
 -- where the platform tells, a look-up of the block in the session's tree comes to a content
 abbrev pub IsRead : Type 0 → Image → Session → ℕ → Type 0

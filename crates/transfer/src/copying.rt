@@ -38,7 +38,7 @@ pub(crate) fn copy_blocks<P: Platform, Q: Platform, T: Tape>(
     ensures to { Along Q.Platform (length blocks.now) (40 * length blocks.now) to.old to.new (drawn_by T.Tape tape.old) (drawn_by T.Tape tape.new) target.old target.new }
     ensures blame { (output ledger : ℕ) → Blames (counts (P.faults from.old) (Q.faults to.old) (T.faults tape.old) output ledger)
         (counts (P.faults from.new) (Q.faults to.new) (T.faults tape.new) output ledger) result }
-    ensures wrong { IfErr result (MeetsWrong P.tells Q.tells ⊥ (P.history from.new).present (Q.history to.new).present) }
+    ensures wrong { IfErr result (MeetsWrong P.tells Q.tells ⊥ (Unit {0}) (P.history from.new).present (Q.history to.new).present) }
     ensures leads { P.tells → Q.tells → (device there : Device) (array other : OpenSession) → IsAt (P.history from.old).present (Some source.old) (mounted device array)
         → IsAt (Q.history to.old).present (Some target.old) (mounted there other)
         → Copies (P.history from.new).present (Q.history to.new).present source.new target.new device there array
@@ -77,7 +77,7 @@ fn copy_block<P: Platform, Q: Platform, T: Tape>(
     ensures to { Along Q.Platform 1 40 to.old to.new (drawn_by T.Tape tape.old) (drawn_by T.Tape tape.new) target.old target.new }
     ensures blame { (output ledger : ℕ) → Blames (counts (P.faults from.old) (Q.faults to.old) (T.faults tape.old) output ledger)
         (counts (P.faults from.new) (Q.faults to.new) (T.faults tape.new) output ledger) result }
-    ensures wrong { IfErr result (MeetsWrong P.tells Q.tells ⊥ (P.history from.new).present (Q.history to.new).present) }
+    ensures wrong { IfErr result (MeetsWrong P.tells Q.tells ⊥ (Unit {0}) (P.history from.new).present (Q.history to.new).present) }
     ensures leads { P.tells → Q.tells → (device there : Device) (array other : OpenSession) → IsAt (P.history from.old).present (Some source.old) (mounted device array)
         → IsAt (Q.history to.old).present (Some target.old) (mounted there other)
         → Copies (P.history from.new).present (Q.history to.new).present source.new target.new device there array

@@ -18,7 +18,7 @@ ghost use Rattle.transfer.specs.Both.{AreReady, FillsBoth, ReadsBoth};
 ghost use Rattle.transfer.specs.Counts.{counts};
 ghost use Rattle.transfer.specs.Halts.{Blames};
 ghost use Rattle.session_calls.specs.Spans.{Spans};
-ghost use Rattle.transfer.specs.Whole.{CopiesOnce, FillsOnce, HasBlocks, IsFilled, IsMoved, IsNew, IsRead, IsReadThrough, MovesWhole, SeesAll, SeesOther, WhereDone};
+ghost use Rattle.transfer.specs.Whole.{CopiesOnce, FillsOnce, HasBlocks, HasNone, IsFilled, IsMoved, IsNew, IsRead, IsReadThrough, MovesWhole, SeesAll, SeesOther, WhereDone};
 ghost use Rattle.transfer.specs.Running.{Clears, HasMapped, HasSome, IsBehindMount, Looked, LookedThere, MeetsWrong, alone};
 
 use crate::copying::{commit_target, copy_blocks};
@@ -73,7 +73,7 @@ fn move_device<P: Platform, Q: Platform, T: Tape, L: Sink>(
     ensures blame { (output : ℕ) → Blames (counts (P.faults from.old) (Q.faults to.old) (T.faults tape.old) output (L.faults ledger.old))
         (counts (P.faults from.new) (Q.faults to.new) (T.faults tape.new) output (L.faults ledger.new)) result }
     // On any pages: which record is named.
-    ensures wrong { IfErr result (MeetsWrong P.tells Q.tells (HasSome (Q.history to.old).present) (P.history from.new).present (Q.history to.new).present) }
+    ensures wrong { IfErr result (MeetsWrong P.tells Q.tells (HasSome (Q.history to.old).present) ⊥ (P.history from.new).present (Q.history to.new).present) }
     ensures looked { Looked P.tells (P.history from.old).present result }
     ensures there { LookedThere Q.tells (Q.history to.old).present result × ReadsFew P.Platform Q.Platform 1 from.old from.new to.old to.new }
     ensures refused { Refusing P.tells Q.tells (P.history from.old).present (Q.history to.old).present (Q.capacity to.old - Q.head to.old) result }
@@ -107,7 +107,7 @@ fn move_session<P: Platform, Q: Platform, T: Tape, L: Sink>(
         (around Q.Platform T.Tape L.Sink to.new tape.new ledger.new) (IsOk result) }
     ensures blame { (output : ℕ) → Blames (counts (P.faults from.old) (Q.faults to.old) (T.faults tape.old) output (L.faults ledger.old))
         (counts (P.faults from.new) (Q.faults to.new) (T.faults tape.new) output (L.faults ledger.new)) result }
-    ensures wrong { IfErr result (MeetsWrong P.tells Q.tells (HasSome (Q.history to.old).present) (P.history from.new).present (Q.history to.new).present) }
+    ensures wrong { IfErr result (MeetsWrong P.tells Q.tells (HasSome (Q.history to.old).present) ⊥ (P.history from.new).present (Q.history to.new).present) }
     ensures leads { P.tells → Q.tells → (device : Device) (there : Option Device) → IsAt (P.history from.old).present (Some first) (mounted device (session_on device))
         → Stands (Q.history to.old).present there → IsServedImage (Q.history to.old).present
         → Moves (P.history from.old) (P.history from.new) (Q.history to.old) (Q.history to.new) device there (IsShort device 1 (Q.capacity to.old - Q.head to.old)) result }
@@ -141,7 +141,7 @@ fn fill<P: Platform, Q: Platform, T: Tape, L: Sink>(
         (around Q.Platform T.Tape L.Sink to.new tape.new ledger.new) (IsOk result) }
     ensures blame { (output : ℕ) → Blames (counts (P.faults from.old) (Q.faults to.old) (T.faults tape.old) output (L.faults ledger.old))
         (counts (P.faults from.new) (Q.faults to.new) (T.faults tape.new) output (L.faults ledger.new)) result }
-    ensures wrong { IfErr result (MeetsWrong P.tells Q.tells (HasSome (Q.history to.old).present) (P.history from.new).present (Q.history to.new).present) }
+    ensures wrong { IfErr result (MeetsWrong P.tells Q.tells (HasSome (Q.history to.old).present) ⊥ (P.history from.new).present (Q.history to.new).present) }
     ensures leads { P.tells → Q.tells → (device : Device) (there : Option Device) → IsAt (P.history from.old).present (Some source.old) (mounted device (session_on device))
         → Stands (Q.history to.old).present there → IsServedImage (Q.history to.old).present
         → Reaches (Q.history to.old) (Q.history to.new) device there (IsShort device 1 (Q.capacity to.old - Q.head to.old)) result }
@@ -183,7 +183,7 @@ fn fill_target<P: Platform, Q: Platform, T: Tape, L: Sink>(
     // Its cache has room for a node of each level.
     requires room { 20 ≤ room_of target }
     ensures both { FillsBoth P.Platform Q.Platform T.Tape L.Sink (λ few most. IsIdle target → ReadsFilled P.tells Q.tells (P.history from.old).present (Q.history to.old).present source.old target is_new few most)
-        (1 ≤ (root_of target).mapped) from.old from.new to.old to.new tape.old tape.new ledger.old ledger.new source.old source.new target result }
+        (1 ≤ (root_of target).mapped) ((IsTrue is_new → Q.tells → HasNone (Q.history to.old).present) → IsIdle target → ⊥) from.old from.new to.old to.new tape.old tape.new ledger.old ledger.new source.old source.new target result }
     ensures refused { IsIdle target → IfErr result (HaltsAt (IsOtherThan (root_of source.old) (root_of target)
         (SeesOther P.tells Q.tells (P.history from.old).present (Q.history to.old).present source.old target)) (root_of source.old).mapped (Q.capacity to.old - Q.head to.old)) }
     ensures unlike { (AreAlike (root_of source.old) (root_of target) → ⊥) → (result ≡ Err Halt.NotEmpty) × (from.new ≡ from.old) × (to.new ≡ to.old) }
@@ -218,7 +218,7 @@ fn fill_found<P: Platform, Q: Platform, T: Tape, L: Sink>(
 ) -> Result<u64, Halt>
     requires { AreReady P.tells Q.tells (alone P.Platform from.old) (around Q.Platform T.Tape L.Sink to.old tape.old ledger.old) source.old found blocks.now }
     ensures both { FillsBoth P.Platform Q.Platform T.Tape L.Sink (λ few most. found.mapped ≡ (root_of found).mapped → ReadsFound Q.tells (Q.history to.old).present found blocks.now few most)
-        (1 ≤ (root_of found).mapped) from.old from.new to.old to.new tape.old tape.new ledger.old ledger.new source.old source.new found result }
+        (1 ≤ (root_of found).mapped) (found.mapped ≡ (root_of found).mapped → ⊥) from.old from.new to.old to.new tape.old tape.new ledger.old ledger.new source.old source.new found result }
     ensures refused { needed_by found ≡ 0 → IfErr result (HaltsAt (((number_of found ≡ 0) × (found.mapped ≡ 0) → ⊥)
         × SeesAll P.tells Q.tells (P.history from.old).present (Q.history to.old).present source.old found blocks.now false) (length blocks.now) (Q.capacity to.old - Q.head to.old)) }
     ensures fills { found.mapped ≡ (root_of found).mapped → IfOk result (λ number. FillsOnce P.tells Q.tells (P.history from.old).present (Q.history to.old) (Q.history to.new) source.old found blocks.now
@@ -279,7 +279,7 @@ fn copy<P: Platform, Q: Platform, T: Tape, L: Sink>(
     ledger: &mut L,
 ) -> Result<u64, Halt>
     requires { AreReady P.tells Q.tells (alone P.Platform from.old) (around Q.Platform T.Tape L.Sink to.old tape.old ledger.old) source.old first blocks.now }
-    ensures both { FillsBoth P.Platform Q.Platform T.Tape L.Sink (λ few most. (few ≤ 21 * length blocks.now) × (most ≤ 40 * length blocks.now)) ⊥
+    ensures both { FillsBoth P.Platform Q.Platform T.Tape L.Sink (λ few most. (few ≤ 21 * length blocks.now) × (most ≤ 40 * length blocks.now)) ⊥ (HasNone (Q.history to.old).present → ⊥)
         from.old from.new to.old to.new tape.old tape.new ledger.old ledger.new source.old source.new first result }
     ensures refused { needed_by first ≡ 0 → IfErr result (HaltsAt ⊥ (length blocks.now) (Q.capacity to.old - Q.head to.old)) }
     // On any pages: they were copied before the commit.

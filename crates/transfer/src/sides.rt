@@ -63,7 +63,7 @@ pub(crate) fn read_target<Q: Platform>(
     ensures blame { (from tape output ledger : ℕ) → Blames (counts from (Q.faults to.old) tape output ledger)
         (counts from (Q.faults to.new) tape output ledger) result }
     ensures full { result ≡ Err Halt.Full → ⊥ }
-    ensures wrong { IfErr result (HaltsTo Q.tells (Unit {0}) (Q.history to.new).present) }
+    ensures wrong { IfErr result (HaltsTo Q.tells (Unit {0}) ⊥ (Q.history to.new).present) }
     ensures memory { IfErr result WantsNoMemory }
     ensures leads { Q.tells → (there : Device) (array : OpenSession) → IsAt (Q.history to.old).present (Some target.old) (mounted there array)
         → ReadsHere (Q.history to.new).present target.new there array block out.new result }
@@ -95,7 +95,7 @@ pub(crate) fn write_target<Q: Platform, T: Tape>(
     ensures short { Q.head to.old ≡ Q.capacity to.old → result ≡ Err Halt.Full }
     ensures room { result ≡ Err (Halt.To DeviceStop.Memory) → Q.head to.new < Q.capacity to.new }
     // A record of a block is not read here.
-    ensures wrong { IfErr result (HaltsTo Q.tells ⊥ (Q.history to.new).present) }
+    ensures wrong { IfErr result (HaltsTo Q.tells ⊥ (Unit {0}) (Q.history to.new).present) }
     ensures leads { Q.tells → (there : Device) (array : OpenSession) → IsAt (Q.history to.old).present (Some target.old) (mounted there array)
         → WritesHere (Q.history to.new).present target.new there (written array block content.now) result }
     // On any pages: behind a write that was done a look-up of the block comes to the content, and one of each other block to what it came to before.
@@ -151,7 +151,7 @@ pub(crate) fn list_target<Q: Platform>(
     ensures blame { (from tape output ledger : ℕ) → Blames (counts from (Q.faults to.old) tape output ledger)
         (counts from (Q.faults to.new) tape output ledger) result }
     ensures full { result ≡ Err Halt.Full → ⊥ }
-    ensures wrong { IfErr result (HaltsTo Q.tells ⊥ (Q.history to.new).present) }
+    ensures wrong { IfErr result (HaltsTo Q.tells ⊥ ⊥ (Q.history to.new).present) }
     ensures image { Q.tells → (Q.history to.new).present ≡ (Q.history to.old).present }
     ensures lists { Q.tells → (there : Device) (array : OpenSession) → IsAt (Q.history to.old).present (Some target.now) (mounted there array)
         → IfOk result (λ blocks. blocks.items ≡ map.keys there.contents) × IfErr result IsReadHalt }

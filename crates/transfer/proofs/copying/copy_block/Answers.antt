@@ -22,7 +22,7 @@ pub returns-in_err-read_source-clause-blame : goal.returns-in_err-read_source-cl
 returns-in_err-read_source-clause-blame g c output ledger = rw (halted c.from_residual.result c.in_err-read_source.field-0.0 c.from_residual.ensures.1) (c.in_err-read_source.ensures.blame (g.Q.Platform.faults c.args.to.now) (g.T.Tape.faults c.args.tape.now) output ledger)
 
 pub returns-in_err-read_source-clause-wrong : goal.returns-in_err-read_source-clause-wrong
-returns-in_err-read_source-clause-wrong g c = rw (halted c.from_residual.result c.in_err-read_source.field-0.0 c.from_residual.ensures.1) (meets_from _ _ _ _ _ c.in_err-read_source.field-0.0 c.in_err-read_source.ensures.wrong)
+returns-in_err-read_source-clause-wrong g c = rw (halted c.from_residual.result c.in_err-read_source.field-0.0 c.from_residual.ensures.1) (meets_from _ _ _ _ _ _ c.in_err-read_source.field-0.0 c.in_err-read_source.ensures.wrong)
 
 pub returns-in-Ok-clause-from : goal.returns-in-Ok-clause-from
 returns-in-Ok-clause-from g c any = c.read_source.ensures.along any
@@ -41,7 +41,7 @@ returns-in-Err-clause-blame g c output ledger =
     (c.in-Err.ensures.blame (g.P.Platform.faults c.read_source.new.from) output ledger)
 
 pub returns-in-Err-clause-wrong : goal.returns-in-Err-clause-wrong
-returns-in-Err-clause-wrong g c = meets_to _ _ _ _ _ c.in-Err.halt c.in-Err.ensures.wrong
+returns-in-Err-clause-wrong g c = meets_to _ _ _ _ _ _ c.in-Err.halt c.in-Err.ensures.wrong
 
 pub returns-in_err-read_source-clause-leads : goal.returns-in_err-read_source-clause-leads
 returns-in_err-read_source-clause-leads g c from_told to_told device there array other at at_other = rw (halted c.from_residual.result c.in_err-read_source.field-0.0 c.from_residual.ensures.1) (read_sound c.in_err-read_source.field-0.0 (c.in_err-read_source.ensures.leads from_told device array at))
@@ -59,7 +59,7 @@ pub returns-in_err-read_source-clause-behind : goal.returns-in_err-read_source-c
 returns-in_err-read_source-clause-behind g c = rw (halted c.from_residual.result c.in_err-read_source.field-0.0 c.from_residual.ensures.1) (copy_from _ _ c.in_err-read_source.field-0.0 c.in_err-read_source.ensures.wrong)
 
 pub returns-in-Err-clause-behind : goal.returns-in-Err-clause-behind
-returns-in-Err-clause-behind g c = copy_to _ _ _ c.in-Err.halt c.in-Err.ensures.wrong
+returns-in-Err-clause-behind g c = copy_to _ _ _ _ c.in-Err.halt c.in-Err.ensures.wrong
 
 pub returns-in_err-read_source-clause-full : goal.returns-in_err-read_source-clause-full
 returns-in_err-read_source-clause-full g c is =

@@ -1,13 +1,13 @@
 use Rattle.std.proofs.Common.{◌≡◌, ◌<◌, List, Err, ap, subst, sym}
-use Rattle.std.specs.Prelude.{◌⊎◌, All}
+use Rattle.std.specs.Prelude.{All}
 use Rattle.node_codec.specs.declared.body.Entry.{Entry}
 use Rattle.root_codec.specs.RootRecord.{FitsRoot}
 use Rattle.root_codec.specs.declared.root.Root.{Root}
 use Rattle.btree_walk.specs.Nodes.{FirstWrongOf, NodesOf}
 use Rattle.btree_walk.specs.declared.refusals.WalkRefusal.{WalkRefusal}
-use Rattle.session_calls.specs.Damage.{IsMiscountedAt, IsMounted, IsWrongNode}
+use Rattle.session_calls.specs.Damage.{IsMounted}
 use Rattle.session_calls.specs.declared.stops.DeviceStop.{DeviceStop}
-use Rattle.transfer.specs.Listing.{IsListStop}
+use Rattle.transfer.specs.Listing.{IsListStop, StopsListingAt}
 use Rattle.std.proofs.Common.{◌-◌, ◌∙◌, ℕ, length, map, arith}
 use Rattle.std.specs.FinMap as maps
 use Rattle.std.specs.declared.vec.Vec.{Vec}
@@ -74,7 +74,7 @@ returns-in-Ok-entries-clause-wrong g c known =
     let same : root ≡ c.args.session.now.root = c.root-root.ensures in
     let lists = c.in-Ok-entries.ensures.listed known.0 in
     let of : NodesOf image.readable c.args.session.now.root lists.nodes = subst (λ (r : Root). NodesOf image.readable r lists.nodes) same lists.are in
-    subst (λ (r : Root). IsWrongNode (P.history c.entries.new.platform).present r.addr ⊎ IsMiscountedAt (P.history c.entries.new.platform).present r.addr) (sym same)
+    subst (λ (r : Root). StopsListingAt (P.history c.entries.new.platform).present r.addr) (sym same)
     (list_miscounted image (P.history c.entries.new.platform).present c.args.session.now lists.nodes c.requires.open.served.in_range known.1 of
     (λ many. absurd (c.if-len-root.false (c.len.ensures ∙ ap length lists.is ∙ many ∙ sym (ap (λ (r : Root). r.mapped) same)))) (c.in-Ok-entries.ensures.looks.image known.0))
 

@@ -47,7 +47,7 @@ returns-in_err-has_same_block-clause-both g c = rw (halted c.from_residual.resul
   to = λ any. along_then g.Q.Platform 0 0 (21 * c.loop-block.block-index) c.has_same_block.ensures.both.most _ _ _ any any any _ _ _ (c.loop-block.invariant.target any) (c.has_same_block.ensures.both.to any);
   blame = λ tape output ledger. blames_then _ _ _ _ (same_counts _ _ _ _ _ _ _ _ _ _ c.loop-block.invariant.from_quiet c.loop-block.invariant.to_quiet refl refl refl)
       (c.in_err-has_same_block.ensures.both.blame tape output ledger);
-  wrong = meets_where _ _ (Unit {0}) (1 ≤ length c.args.blocks.now) _ _ c.in_err-has_same_block.field-0.0 (λ told any. (let within = c.loop-block-test.true in omega (arith, within))) c.in_err-has_same_block.ensures.both.wrong;
+  wrong = meets_where _ _ (Unit {0}) (1 ≤ length c.args.blocks.now) ⊥ ⊥ _ _ c.in_err-has_same_block.field-0.0 (λ told any. (let within = c.loop-block-test.true in omega (arith, within))) (λ told never. never) c.in_err-has_same_block.ensures.both.wrong;
   behind = c.in_err-has_same_block.ensures.both.behind;
   trees = (c.in_err-has_same_block.ensures.both.trees.0 ∙ c.loop-block.invariant.source_tree, c.in_err-has_same_block.ensures.both.trees.1 ∙ c.loop-block.invariant.target_tree);
 })

@@ -14,7 +14,7 @@ returns-in_err-read_source-clause-both g c = rw (halted c.from_residual.result c
   from = λ any. c.in_err-read_source.ensures.along any;
   to = λ any. along_start g.Q.Platform c.args.to.now any c.args.target.now c.requires.target.is_open;
   blame = λ tape output ledger. blames_as _ _ c.in_err-read_source.field-0.0 (c.in_err-read_source.ensures.blame (g.Q.Platform.faults c.args.to.now) tape output ledger);
-  wrong = meets_from _ _ _ _ _ c.in_err-read_source.field-0.0 c.in_err-read_source.ensures.wrong;
+  wrong = meets_from _ _ _ _ _ _ c.in_err-read_source.field-0.0 c.in_err-read_source.ensures.wrong;
   behind = reads_from _ _ c.in_err-read_source.field-0.0 c.in_err-read_source.ensures.wrong;
   trees = (c.in_err-read_source.ensures.reads.tree, refl);
 })
@@ -42,8 +42,8 @@ returns-in-Err-clause-both g c = record {
   to = λ any. c.read_target.ensures.along any;
   blame = λ tape output ledger. blames_then _ _ _ _ (c.in_ok-read_source.ensures.blame (g.Q.Platform.faults c.args.to.now) tape output ledger).quiet
       (blames_as _ _ c.in-Err.halt (c.in-Err.ensures.blame (g.P.Platform.faults c.read_source.new.from) tape output ledger));
-  wrong = meets_to _ _ _ _ _ c.in-Err.halt c.in-Err.ensures.wrong;
-  behind = reads_to _ _ _ c.in-Err.halt c.in-Err.ensures.wrong c.in-Err.ensures.full;
+  wrong = meets_to _ _ _ _ _ _ c.in-Err.halt c.in-Err.ensures.wrong;
+  behind = reads_to _ _ _ _ c.in-Err.halt c.in-Err.ensures.wrong c.in-Err.ensures.full;
   trees = (c.in_ok-read_source.ensures.reads.tree, c.in-Err.ensures.reads.tree);
 }
 

@@ -10,7 +10,8 @@ use Rattle.transfer.specs.Copies.{copied}
 use Rattle.transfer.specs.Moving.{IsShort}
 use Rattle.transfer.proofs.FillLaws.{reaches_blank, reaches_committed, reaches_since, short_not_copy}
 use Rattle.transfer.proofs.BlameLaws.{blames_as, blames_then}
-use Rattle.transfer.proofs.HaltLaws.{behind_commit_all, halted, meets_commit_all}
+use Rattle.transfer.proofs.HaltLaws.{behind_commit_all, halted, meets_commit_all, meets_there}
+use Rattle.transfer.proofs.NoneLaws.{unwritten_there}
 use Rattle.transfer.proofs.RefusalLaws.{commit_at_all, copy_at, copy_behind}
 use Rattle.transfer.proofs.running.copy.Goals as goal
 use Rattle.transfer.proofs.WholeLaws.{whatever, within_then}
@@ -25,7 +26,11 @@ returns-in_err-copy_blocks-clause-both g c = rw (halted c.from_residual.result c
   to = carries_end _ _ _ _ _ _ _ (λ going. tt)
       (carries_along g.Q.Platform g.T.Tape g.L.Sink (length c.args.blocks.now) (40 * length c.args.blocks.now) c.args.to.now c.copy_blocks.new.to c.args.tape.now c.copy_blocks.new.tape c.args.ledger.now _ _ c.requires.target c.copy_blocks.ensures.to);
   blame = λ output. blames_as _ _ c.in_err-copy_blocks.field-0.0 (c.in_err-copy_blocks.ensures.blame output (g.L.Sink.faults c.args.ledger.now));
-  wrong = c.in_err-copy_blocks.ensures.wrong;
+  wrong = meets_there _ _ ⊥ ⊥ (Unit {0}) _ _ _ c.in_err-copy_blocks.field-0.0
+      (λ told addr.
+      (let Q = g.Q.Platform in
+      unwritten_there (Q.history c.args.to.now) (Q.history c.copy_blocks.new.to) c.args.first (Q.head c.args.to.now) addr c.requires.target.is_open (g.met.Q.Platform.counts_pages told c.args.to.now) (c.requires.target.mounted told).cell (c.copy_blocks.ensures.to.cell told)))
+      c.in_err-copy_blocks.ensures.wrong;
   behind = copy_behind c.in_err-copy_blocks.field-0.0 c.in_err-copy_blocks.ensures.behind;
 })
 
@@ -42,7 +47,7 @@ returns-clause-both g c = record {
       (carries_along g.Q.Platform g.T.Tape g.L.Sink (length c.args.blocks.now) (40 * length c.args.blocks.now) c.args.to.now c.copy_blocks.new.to c.args.tape.now c.copy_blocks.new.tape c.args.ledger.now _ _ c.requires.target c.copy_blocks.ensures.to)
       c.commit_target.ensures.carries;
   blame = λ output. blames_then _ _ _ _ (c.in_ok-copy_blocks.ensures.blame output (g.L.Sink.faults c.args.ledger.now)).quiet (c.commit_target.ensures.blame (g.P.Platform.faults c.copy_blocks.new.from) output);
-  wrong = meets_commit_all _ _ _ _ _ c.commit_target.result c.commit_target.ensures.wrong;
+  wrong = meets_commit_all _ _ _ _ _ _ c.commit_target.result c.commit_target.ensures.wrong;
   behind = behind_commit_all c.commit_target.result c.commit_target.ensures.wrong;
 }
 

@@ -8,7 +8,11 @@ use Rattle.transfer.proofs.BlameLaws.{blames_as, blames_then}
 use Rattle.transfer.proofs.FillLaws.{new_blank, new_is_blank, reaches_opened, reaches_unopened}
 use Rattle.session_calls.proofs.CallLaws.{no_draw}
 use Rattle.transfer.specs.Running.{HasSome}
-use Rattle.transfer.specs.Whole.{SeesOther}
+use Rattle.transfer.specs.Whole.{HasNone, SeesOther}
+use Rattle.transfer.specs.Refusals.{IsIdle}
+use Rattle.transfer.proofs.running.fill.Given.{Over}
+use Rattle.transfer.proofs.running.fill.Goals.{After-fill_target}
+use Rattle.std.specs.Prelude.{IsTrue}
 use Rattle.transfer.proofs.DifferLaws.{differ_of}
 use Rattle.transfer.proofs.HaltLaws.{behind_both_all, behind_opening, halted, meets_opening, meets_where_all}
 use Rattle.transfer.proofs.ReadsLaws.{few_filled, few_unopened}
@@ -35,7 +39,7 @@ pub returns-in_err-target-clause-blame : goal.returns-in_err-target-clause-blame
 returns-in_err-target-clause-blame g c output = rw (halted c.from_residual.result c.in_err-target.field-0.0 c.from_residual.ensures.1) (blames_as _ _ c.in_err-target.field-0.0 (c.in_err-target.ensures.target.blame (g.P.Platform.faults c.args.from.now) output))
 
 pub returns-in_err-target-clause-wrong : goal.returns-in_err-target-clause-wrong
-returns-in_err-target-clause-wrong g c = rw (halted c.from_residual.result c.in_err-target.field-0.0 c.from_residual.ensures.1) (meets_opening _ _ _ _ _ c.in_err-target.field-0.0 c.in_err-target.ensures.target.stops)
+returns-in_err-target-clause-wrong g c = rw (halted c.from_residual.result c.in_err-target.field-0.0 c.from_residual.ensures.1) (meets_opening _ _ _ _ _ _ c.in_err-target.field-0.0 c.in_err-target.ensures.target.stops)
 
 pub returns-in_err-target-clause-behind : goal.returns-in_err-target-clause-behind
 returns-in_err-target-clause-behind g c = rw (halted c.from_residual.result c.in_err-target.field-0.0 c.from_residual.ensures.1) (behind_opening c.in_err-target.field-0.0 c.in_err-target.ensures.target.stops)
@@ -64,10 +68,32 @@ returns-in_err-target-clause-there g c = rw (halted c.from_residual.result c.in_
 pub returns-clause-from : goal.returns-clause-from
 returns-clause-from g c = (c.fill_target.ensures.both.few, λ any. c.fill_target.ensures.both.from any)
 
+-- a new device has no block
+new_none : (g : Over) (c : After-fill_target g) → IsTrue c.in_ok-target.target.is_new → g.Q.Platform.tells → HasNone (g.Q.Platform.history c.open_target.new.to).present
+new_none g c new told =
+    let Q = g.Q.Platform in
+    let target = c.in_ok-target.ensures.target in
+    let session : Session = c.in_ok-target.target.session in
+    let image = (Q.history c.open_target.new.to).present in
+    let on = new_on (Q.history c.args.to.now).present c.blocks-blocks.result c.root.result.now.order c.in_ok-target.target.is_new session new (target.on told) in
+    let opened = target.opened.made told None on.0 (subst (λ (cell : Option (List ℕ)). IsServedCell cell (length (Q.history c.args.to.now).present.recorded)) (sym on.0) tt) in
+    let stands = opened.4.exits.there.session.0.stands in
+    record {
+      root = session.root;
+      is_root = root_there image session (Q.head c.open_target.new.to) target.opened.ready.is_open (target.opened.ready.mounted told).cell;
+      blocks = lists_none image session.root opened.4.exits.there.session.0.committed stands.in_range stands.tree (stands.count ∙ on.1);
+      count = on.1;
+    }
+
 pub returns-clause-wrong : goal.returns-clause-wrong
 returns-clause-wrong g c =
-    meets_where_all _ _ (1 ≤ c.in_ok-target.target.session.root.mapped) (HasSome (g.Q.Platform.history c.args.to.now).present) _ _ c.fill_target.result
-    (λ told some. has_some (g.Q.Platform.history c.args.to.now).present c.blocks-blocks.result c.root.result.now.order c.in_ok-target.target.is_new c.in_ok-target.target.session (c.in_ok-target.ensures.target.on told) some) c.fill_target.ensures.both.wrong
+    let Q = g.Q.Platform in
+    let target = c.in_ok-target.ensures.target in
+    let session : Session = c.in_ok-target.target.session in
+    let is_new = c.in_ok-target.target.is_new in
+    meets_where_all _ _ (1 ≤ session.root.mapped) (HasSome (Q.history c.args.to.now).present) ((IsTrue is_new → Q.tells → HasNone (Q.history c.open_target.new.to).present) → IsIdle session → ⊥) ⊥ _ _ c.fill_target.result
+    (λ told some. has_some (Q.history c.args.to.now).present c.blocks-blocks.result c.root.result.now.order is_new session (target.on told) some)
+    (λ told not. not (λ new told. new_none g c new told) target.idle) c.fill_target.ensures.both.wrong
 
 pub returns-clause-refused : goal.returns-clause-refused
 returns-clause-refused g c =

@@ -5,7 +5,8 @@ use Rattle.session_calls.specs.Along.{drawn_by}
 use Rattle.session_calls.proofs.AlongLaws.{along_then}
 use Rattle.session_calls.proofs.CallLaws.{no_draw}
 use Rattle.session_calls.proofs.CarryLaws.{carries_along, carries_end, carries_then}
-use Rattle.transfer.proofs.HaltLaws.{halted, meets_where_all}
+use Rattle.transfer.proofs.HaltLaws.{halted, meets_where, meets_where_all}
+use Rattle.transfer.proofs.NoneLaws.{none_listed}
 use Rattle.transfer.proofs.ReadsLaws.{found_compared, found_copied}
 use Rattle.transfer.proofs.BlameLaws.{blames_as, blames_done, blames_halt, blames_then}
 use Rattle.transfer.proofs.FillLaws.{fresh_blank, number_at, reaches_halted, reaches_other, reaches_since, reaches_still, stale_other}
@@ -13,7 +14,7 @@ use Rattle.transfer.proofs.RefusalLaws.{at_then, reads_at, reads_behind}
 use Rattle.transfer.proofs.running.fill_found.Goals as goal
 use Rattle.transfer.proofs.WholeLaws.{copied_read, one_read, pages_same, reads_back}
 use Rattle.std.proofs.Common.{refl}
-use Rattle.transfer.specs.Whole.{SeesAll}
+use Rattle.transfer.specs.Whole.{HasNone, SeesAll}
 use Rattle.transfer.proofs.WholeLaws.{fills_copied, fills_same}
 
 pub returns-in_err-has-clause-both : goal.returns-in_err-has-clause-both
@@ -26,7 +27,7 @@ returns-in_err-has-clause-both g c = rw (halted c.from_residual.result c.in_err-
   to = carries_end _ _ _ _ _ _ _ (λ going. tt)
       (carries_along g.Q.Platform g.T.Tape g.L.Sink 0 c.has_all.ensures.both.most c.args.to.now c.has_all.new.to c.args.tape.now c.args.tape.now c.args.ledger.now _ _ c.requires.target (c.has_all.ensures.both.to (drawn_by g.T.Tape c.args.tape.now)));
   blame = λ output. blames_as _ _ c.in_err-has.field-0.0 (c.in_err-has.ensures.both.blame (g.T.Tape.faults c.args.tape.now) output (g.L.Sink.faults c.args.ledger.now));
-  wrong = c.in_err-has.ensures.both.wrong;
+  wrong = meets_where _ _ (1 ≤ c.args.found.root.mapped) (1 ≤ c.args.found.root.mapped) ⊥ _ _ _ c.in_err-has.field-0.0 (λ told some. some) (λ told never. absurd never) c.in_err-has.ensures.both.wrong;
   behind = reads_behind c.in_err-has.field-0.0 c.in_err-has.ensures.both.behind;
 })
 
@@ -60,7 +61,15 @@ returns-then-fresh-clause-both g c = record {
       (carries_along g.Q.Platform g.T.Tape g.L.Sink 0 c.has_all.ensures.both.most c.args.to.now c.has_all.new.to c.args.tape.now c.args.tape.now c.args.ledger.now _ _ c.requires.target (c.has_all.ensures.both.to (drawn_by g.T.Tape c.args.tape.now)))
       c.copy.ensures.both.to;
   blame = λ output. blames_then _ _ _ _ (c.in_ok-has.ensures.both.blame (g.T.Tape.faults c.args.tape.now) output (g.L.Sink.faults c.args.ledger.now)).quiet (c.copy.ensures.both.blame output);
-  wrong = meets_where_all _ _ ⊥ (1 ≤ c.args.found.root.mapped) _ _ c.copy.result (λ told never. absurd never) c.copy.ensures.both.wrong;
+  wrong = meets_where_all _ _ ⊥ (1 ≤ c.args.found.root.mapped) (HasNone (g.Q.Platform.history c.has_all.new.to).present → ⊥) _ _ _ c.copy.result (λ told never. absurd never)
+      (λ told not idle.
+      (let Q = g.Q.Platform in
+      let target = c.has_all.ensures.both.to no_draw in
+      let sees = c.in_ok-has.ensures.sees in
+      let none : c.args.found.mapped ≡ 0 = (c.is_fresh-fresh.ensures.0 c.if-fresh.true).1 in
+      not (none_listed (Q.history c.args.to.now) (Q.history c.has_all.new.to) c.args.found (Q.head c.args.to.now) sees.others c.requires.target.is_open (c.requires.target.mounted told).cell (target.cell told)
+      (pages_same Q c.args.to.now c.has_all.new.to no_draw no_draw c.args.found c.has_all.new.target g.met.Q.Platform.counts_pages target told) (sees.listed told) (sees.count ∙ (sym idle ∙ none)) (sym idle ∙ none))))
+      c.copy.ensures.both.wrong;
   behind = c.copy.ensures.both.behind;
 }
 

@@ -16,7 +16,7 @@ use Rattle.transfer.proofs.FillLaws.{alike_of, reaches_halted, reaches_other, un
 use Rattle.device_session.proofs.CountLaws.{needs_none}
 use Rattle.transfer.proofs.RefusalLaws.{at_then, reads_at, reads_from}
 use Rattle.transfer.proofs.running.fill_target.Goals as goal
-use Rattle.transfer.specs.Whole.{HasBlocks}
+use Rattle.transfer.specs.Whole.{HasBlocks, HasNone}
 use Rattle.transfer.proofs.WholeLaws.{copied_read, read_through, sees_other}
 use Rattle.transfer.proofs.WholeLaws.{filled, fills_new}
 
@@ -42,7 +42,7 @@ returns-in_err-blocks-clause-both g c = rw (halted c.from_residual.result c.in_e
   from = λ any. c.list_source.ensures.along any;
   to = carries_end _ _ _ _ _ _ _ (λ going. tt) (carries_start _ _ c.args.target c.requires.target);
   blame = λ output. blames_as _ _ c.in_err-blocks.field-0.0 (c.in_err-blocks.ensures.blame (g.Q.Platform.faults c.args.to.now) (g.T.Tape.faults c.args.tape.now) output (g.L.Sink.faults c.args.ledger.now));
-  wrong = meets_from _ _ _ _ _ c.in_err-blocks.field-0.0 c.in_err-blocks.ensures.wrong;
+  wrong = meets_from _ _ _ _ _ _ c.in_err-blocks.field-0.0 c.in_err-blocks.ensures.wrong;
   behind = behind_from _ _ c.in_err-blocks.field-0.0 c.in_err-blocks.ensures.wrong;
 })
 
@@ -55,7 +55,7 @@ returns-then-is_new-clause-both g c = record {
   reads_to = c.copy.ensures.both.reads_to;
   to = c.copy.ensures.both.to;
   blame = λ output. blames_then _ _ _ _ (c.in_ok-blocks.ensures.blame (g.Q.Platform.faults c.args.to.now) (g.T.Tape.faults c.args.tape.now) output (g.L.Sink.faults c.args.ledger.now)).quiet (c.copy.ensures.both.blame output);
-  wrong = meets_where_all _ _ ⊥ (1 ≤ c.args.target.root.mapped) _ _ c.copy.result (λ told never. absurd never) c.copy.ensures.both.wrong;
+  wrong = meets_where_all _ _ ⊥ (1 ≤ c.args.target.root.mapped) (HasNone (g.Q.Platform.history c.args.to.now).present → ⊥) _ _ _ c.copy.result (λ told never. absurd never) (λ told not new idle. not (new c.if-is_new.true told)) c.copy.ensures.both.wrong;
   behind = c.copy.ensures.both.behind;
 }
 
@@ -68,7 +68,7 @@ returns-clause-both g c = record {
   reads_to = c.fill_found.ensures.both.reads_to;
   to = c.fill_found.ensures.both.to;
   blame = λ output. blames_then _ _ _ _ (c.in_ok-blocks.ensures.blame (g.Q.Platform.faults c.args.to.now) (g.T.Tape.faults c.args.tape.now) output (g.L.Sink.faults c.args.ledger.now)).quiet (c.fill_found.ensures.both.blame output);
-  wrong = c.fill_found.ensures.both.wrong;
+  wrong = meets_where_all _ _ (1 ≤ c.args.target.root.mapped) (1 ≤ c.args.target.root.mapped) (c.args.target.mapped ≡ c.args.target.root.mapped → ⊥) _ _ _ c.fill_found.result (λ told some. some) (λ told not new idle. not idle.mapped) c.fill_found.ensures.both.wrong;
   behind = c.fill_found.ensures.both.behind;
 }
 

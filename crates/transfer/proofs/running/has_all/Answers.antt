@@ -23,8 +23,8 @@ returns-in_err-others-clause-both g c = rw (halted c.from_residual.result c.in_e
   from = λ any. along_start g.P.Platform c.args.from.now any c.args.source.now c.requires.source.is_open;
   to = λ any. c.list_target.ensures.along any;
   blame = λ tape output ledger. blames_as _ _ c.in_err-others.field-0.0 (c.in_err-others.ensures.blame (g.P.Platform.faults c.args.from.now) tape output ledger);
-  wrong = meets_where _ _ ⊥ (1 ≤ c.args.target.now.root.mapped) _ _ c.in_err-others.field-0.0 (λ told never. absurd never) (meets_to _ _ ⊥ _ _ c.in_err-others.field-0.0 c.in_err-others.ensures.wrong);
-  behind = reads_to _ _ _ c.in_err-others.field-0.0 c.in_err-others.ensures.wrong c.in_err-others.ensures.full;
+  wrong = meets_where _ _ ⊥ (1 ≤ c.args.target.now.root.mapped) ⊥ ⊥ _ _ c.in_err-others.field-0.0 (λ told never. absurd never) (λ told never. never) (meets_to _ _ ⊥ ⊥ _ _ c.in_err-others.field-0.0 c.in_err-others.ensures.wrong);
+  behind = reads_to _ _ _ _ c.in_err-others.field-0.0 c.in_err-others.ensures.wrong c.in_err-others.ensures.full;
   trees = (refl, refl);
 })
 
@@ -47,7 +47,7 @@ returns-then-eq-clause-both g c =
       from = λ any. c.has_same.ensures.both.from any;
       to = λ any. along_then g.Q.Platform 0 0 (g.Q.Platform.reads c.list_target.new.to - g.Q.Platform.reads c.args.to.now) c.has_same.ensures.both.most _ _ _ any any any _ _ _ (c.list_target.ensures.along any) (c.has_same.ensures.both.to any);
       blame = λ tape output ledger. blames_then _ _ _ _ (c.in_ok-others.ensures.blame (g.P.Platform.faults c.args.from.now) tape output ledger).quiet (c.has_same.ensures.both.blame tape output ledger);
-      wrong = meets_where_all _ _ (1 ≤ length c.args.blocks.now) (1 ≤ c.args.target.now.root.mapped) _ _ c.has_same.result (λ told some. omega (arith, some, many)) c.has_same.ensures.both.wrong;
+      wrong = meets_where_all _ _ (1 ≤ length c.args.blocks.now) (1 ≤ c.args.target.now.root.mapped) ⊥ ⊥ _ _ c.has_same.result (λ told some. omega (arith, some, many)) (λ told never. never) c.has_same.ensures.both.wrong;
       behind = c.has_same.ensures.both.behind;
       trees = c.has_same.ensures.both.trees;
     }

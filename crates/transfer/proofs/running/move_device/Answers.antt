@@ -69,7 +69,7 @@ returns-in-Err-clause-blame g c output =
     from_stopped _ _ before now c.in-Err.stop (of_platform _ _ _ output _) refl c.in-Err.ensures.blame.fell c.in-Err.ensures.blame.cause
 
 pub returns-in-Err-clause-wrong : goal.returns-in-Err-clause-wrong
-returns-in-Err-clause-wrong g c = mount_from g.P.Platform.tells g.Q.Platform.tells (HasSome (g.Q.Platform.history c.args.to.now).present) (g.P.Platform.history c.mount_session.new.platform).present (g.Q.Platform.history c.args.to.now).present _ _ _ c.in-Err.stop c.in-Err.ensures.stops
+returns-in-Err-clause-wrong g c = mount_from g.P.Platform.tells g.Q.Platform.tells (HasSome (g.Q.Platform.history c.args.to.now).present) ⊥ (g.P.Platform.history c.mount_session.new.platform).present (g.Q.Platform.history c.args.to.now).present _ _ _ c.in-Err.stop c.in-Err.ensures.stops
 
 pub returns-in-Ok-Some-clause-looked : goal.returns-in-Ok-Some-clause-looked
 returns-in-Ok-Some-clause-looked g c =
