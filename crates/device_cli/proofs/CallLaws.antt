@@ -37,6 +37,8 @@ use Rattle.session_calls.specs.Upgrades.{LeadsNowhere, LeadsUpgraded, MayUpgrade
 use Rattle.session_calls.specs.declared.stops.DeviceStop.{DeviceStop}
 use Rattle.session_calls.specs.declared.stops.DeviceStop.TheVariants as stops
 use Rattle.session_calls.proofs.StateLaws.{at_array}
+use Rattle.device_cli.specs.Looks.{most_changes}
+use Rattle.device_cli.proofs.LookLaws.{changed_not}
 use Rattle.session_calls.proofs.UpgradeLaws.{turns_upgraded}
 use Rattle.device_cli.specs.Added.{LeavesFew, left_by}
 use Rattle.device_cli.specs.Causes.{MayStop, OnMounted}
@@ -118,9 +120,9 @@ no_root stops.Memory of e = cc
 no_root (stops.BadRecord addr) of e = cc
 
 -- what a stop of a call leaves
-pub after_stopped : {S : Type 0} (P : Ghosts S) (before desk : Desk) (old new : S) (command : Command) (stop : DeviceStop) → (IsErrOf {T = Given} {E = DeviceStop} (Err stop) stops.BadRoot → ⊥) → P.capacity new ≡ P.capacity old → P.head old ≤ P.head new
+pub after_stopped : {S : Type 0} (P : Ghosts S) (before desk : Desk) (old new : S) (command : Command) (stop : DeviceStop) → (IsErrOf {T = Given} {E = DeviceStop} (Err stop) stops.BadRoot → ⊥) → P.capacity new ≡ P.capacity old → P.head old ≤ P.head new → (P.tells → P.changes new ≡ P.changes old)
     → LeavesFew P.tells (P.history old).present stop command (needed_of before.session) (P.head old) (P.head new) → After P before desk old new command (Err stop)
-after_stopped P before desk old new command stop none capacity rises added = record {
+after_stopped P before desk old new command stop none capacity rises same added = record {
   ready = tt;
   room = tt;
   mounted = λ told. tt;
@@ -129,6 +131,7 @@ after_stopped P before desk old new command stop none capacity rises added = rec
   bad_root = λ told. none;
   capacity = capacity;
   rises = rises;
+  changes = λ told. changed_not (most_changes command) (P.changes old) (P.changes new) (same told);
   added = added;
   full = tt;
 }

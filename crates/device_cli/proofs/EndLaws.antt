@@ -43,18 +43,18 @@ forgets tells old new Going e =
     record { discloses = all; seizes = seizes_maps tells old.drawn new.drawn old.history new.history all }
 
 -- one that serves a script
-pub ended_run : (tells Before : Type 0) (old new : Outside) (Going : Type 0) (was : World) (drawn drawn_now : Option (List (List ℕ))) (session : Option Session) (reads : ℕ) (ending : Ending) (left left_now written written_now : Option (List ℕ))
+pub ended_run : (tells Before : Type 0) (old new : Outside) (Going : Type 0) (was : World) (drawn drawn_now : Option (List (List ℕ))) (session : Option Session) (reads changes : ℕ) (ending : Ending) (left left_now written written_now : Option (List ℕ))
     → was.session ≡ None → was.history ≡ old.history → was.head ≡ old.head → was.capacity ≡ old.capacity
-    → Ran tells Before (first_by drawn was) (drew_by drawn_now (world session new.history new.head new.capacity reads)) damage_line ending left left_now written written_now
+    → Ran tells Before (first_by drawn was) (drew_by drawn_now (world session new.history new.head new.capacity reads changes)) damage_line ending left left_now written written_now
     → KeepsOn tells old.drawn new.drawn old.written new.written None old.history new.history Going (λ keys. Unit {0}) → Ended tells old new Going
-ended_run tells Before old new Going was drawn drawn_now session reads ending left left_now written written_now alone history head capacity ran keeps =
+ended_run tells Before old new Going was drawn drawn_now session reads changes ending left left_now written written_now alone history head capacity ran keeps =
     let later = ran.handled.replied.later in
     record {
       later = record { capacity = later.capacity ∙ capacity; rises = subst (λ (n : ℕ). n ≤ new.head) head later.rises; within = later.within };
       keeps = keeps;
       made = subst (λ (h : History). tells → (device : Option Device) → Stands h.present device → IsServedImage h.present
           → (marks : List (Option Device)) × Made h new.history None (closed device) marks (closed (last_mark device marks))) history
-          (made_by tells Before was drawn drawn_now session new.history new.head new.capacity reads ending left left_now written written_now alone ran);
+          (made_by tells Before was drawn drawn_now session new.history new.head new.capacity reads changes ending left left_now written written_now alone ran);
     }
 
 -- ---- what the words say
@@ -73,7 +73,7 @@ serves_at tells status old new session ending alone then_alone untold is ran cau
     × (n ≡ 5 → (new.input ≡ old.input) ⊎ IfNext script.replies script.lines (IsOf (HasCalled tells there.history.present))) in
     let same : world None now.history now.head now.capacity now.reads ≡ now =
     ap (λ (d : Option (List (List ℕ))). record now { session = None; drawn = d }) (sym untold) ∙ ap (λ (s : Option Session). record now { session = s }) (sym then_alone) in
-    let script = answers_with tells (new.input ≡ old.input) old.world old.drawn new.drawn session now.history now.head now.capacity now.reads ending old.left new.left old.written new.written alone ran in
+    let script = answers_with tells (new.input ≡ old.input) old.world old.drawn new.drawn session now.history now.head now.capacity now.reads now.changes ending old.left new.left old.written new.written alone ran in
     let here : Serves now (exit_of ending) = subst (λ (there : World). Serves there (exit_of ending)) same (script.0, script.2, script.3) in
     let all : Serves now status = subst (λ (n : ℕ). Serves now n) (sym is) here in
     record {

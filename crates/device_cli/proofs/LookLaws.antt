@@ -3,6 +3,7 @@ use Rattle.std.proofs.Common.{◌≡◌, ℕ, zero, suc, length, ◌+◌, ◌*�
 use Rattle.std.specs.Prelude.{IfSome, drop, slice_get}
 use Rattle.std.specs.Result.{result_ok}
 use Rattle.std.proofs.lemmas.Bool.{cases_Bool}
+use Rattle.platform.specs.Counts.{MayRiseBy}
 use Rattle.platform.specs.declared.platforms.Platform.{Ghosts}
 use Rattle.device_session.specs.Open.{IsOpen, blocks_of}
 use Rattle.device_session.specs.Reading.{KeepsWayTo, room_of}
@@ -16,7 +17,7 @@ use Rattle.script_lang.proofs.CommandLaws.{one_command}
 use Rattle.device_session.specs.Sessions.{Session}
 use Rattle.device_cli.specs.Replied.{outcome}
 use Rattle.device_cli.specs.World.{World}
-use Rattle.device_cli.specs.Looks.{IsBounded, IsWarmFor, AreBounded, LooksOn, block_read, is_refused, most_for, most_reads, most_told, reads_refused}
+use Rattle.device_cli.specs.Looks.{IsBounded, IsWarmFor, AreBounded, AreChanging, ChangesFew, ReadsOn, LooksOn, block_read, is_refused, most_changes, most_for, most_reads, most_told, reads_refused}
 
 -- replies behind the first one, and so many more
 drop_next : {X : Type 0} (n : ℕ) (xs : List X) → drop n (drop 1 xs) ≡ drop (suc n) xs
@@ -70,53 +71,106 @@ dropped zero (reply ∷ replies) others same = absurd (omega (arith, same))
 dropped (suc n) [] others same = absurd (omega (arith, same))
 dropped (suc n) (reply ∷ replies) others same = dropped n replies others (omega (arith, same))
 
+-- what happens to a count for lines, and then for others
+record Changing (lines more : List (List ℕ)) (most : ℕ) : Type 0 where
+  pub first : ℕ
+  pub second : ℕ
+  pub front : AreChanging lines first
+  pub behind : AreChanging more second
+  pub sum : most ≡ first + second
+
+changing : (lines more : List (List ℕ)) (most : ℕ) → AreChanging (lines ++ more) most → Changing lines more most
+changing [] more most h = record { first = 0; second = most; front = refl; behind = h; sum = omega arith }
+changing (line ∷ lines) more most (inl (bad, rest)) =
+    let p = changing lines more most rest in
+    record { first = p.first; second = p.second; front = inl (bad, p.front); behind = p.behind; sum = p.sum }
+changing (line ∷ lines) more most (inr (command, spells, others, rest, is)) =
+    let p = changing lines more others rest in
+    record { first = most_changes command + p.first; second = p.second; front = inr (command, spells, p.first, p.front, refl); behind = p.behind; sum = omega (arith, is, p.sum) }
+
+pub changed_not : (most old new : ℕ) → new ≡ old → MayRiseBy most old new
+changed_not most old new same = record { rises = omega (arith, same); at_most = omega (arith, same) }
+
+changed_then : (first second most old mid new : ℕ) → most ≡ first + second → MayRiseBy first old mid → MayRiseBy second mid new → MayRiseBy most old new
+changed_then first second most old mid new sum a b = record { rises = omega (arith, a.rises, b.rises); at_most = omega (arith, a.at_most, b.at_most, sum) }
+
 -- no line
-pub looks_idle : (tells : Type 0) (old new : World) (Done : Type 0) → new.session ≡ old.session → (tells → new.reads ≤ old.reads) → LooksOn tells old new [] [] Done
-looks_idle tells old new Done held same told before after most warm (none, is) =
-    (omega (arith, same told, none), λ done. subst (λ (block : Option ℕ). IsWarmFor new.session block) (sym is) (subst (λ (session : Option Session). IsWarmFor session before) (sym held) warm))
+pub looks_idle : (tells : Type 0) (old new : World) (Done : Type 0) → new.session ≡ old.session → (tells → (new.reads ≤ old.reads) × (new.changes ≡ old.changes)) → LooksOn tells old new [] [] Done
+looks_idle tells old new Done held same told = (
+  λ most none. changed_not most old.changes new.changes (same told).1,
+  λ before after most warm none. (omega (arith, (same told).0, none.0), λ done. subst (λ (block : Option ℕ). IsWarmFor new.session block) (sym none.1) (subst (λ (session : Option Session). IsWarmFor session before) (sym held) warm)),
+)
 
 -- no line, before a stop
-pub looks_none : (tells : Type 0) (old new : World) (Done : Type 0) → (Done → ⊥) → (tells → new.reads ≤ old.reads) → LooksOn tells old new [] [] Done
-looks_none tells old new Done never same told before after most warm (none, is) = (omega (arith, same told, none), λ done. absurd (never done))
+pub looks_none : (tells : Type 0) (old new : World) (Done : Type 0) → (Done → ⊥) → (tells → (new.reads ≤ old.reads) × (new.changes ≡ old.changes)) → LooksOn tells old new [] [] Done
+looks_none tells old new Done never same told = (
+  λ most none. changed_not most old.changes new.changes (same told).1,
+  λ before after most warm none. (omega (arith, (same told).0, none.0), λ done. absurd (never done)),
+)
 
 -- lines that have their replies, and then others
 pub looks_then : (tells : Type 0) (old mid new : World) (lines more : List (List ℕ)) (replies others : List Reply) (Was Done : Type 0) → length replies ≡ length lines → Was
     → LooksOn tells old mid lines replies Was → LooksOn tells mid new more others Done → LooksOn tells old new (lines ++ more) (replies ++ others) Done
-looks_then tells old mid new lines more replies others Was Done same was p q told before after most warm h =
-    let parts = parted before after lines more (replies ++ others) most h in
-    let one = p told before parts.between parts.first warm (fronted before parts.between lines replies others parts.first same parts.front) in
-    let two = q told parts.between after parts.second (one.1 was) (subst (λ (rs : List Reply). AreBounded parts.between more rs parts.second after) (dropped (length lines) replies others same) parts.behind) in
-    (omega (arith, one.0, two.0, parts.sum), two.1)
+looks_then tells old mid new lines more replies others Was Done same was p q told = (
+  λ most h.
+      let parts = changing lines more most h in
+      changed_then parts.first parts.second most old.changes mid.changes new.changes parts.sum ((p told).0 parts.first parts.front) ((q told).0 parts.second parts.behind),
+  λ before after most warm h.
+      let parts = parted before after lines more (replies ++ others) most h in
+      let one = (p told).1 before parts.between parts.first warm (fronted before parts.between lines replies others parts.first same parts.front) in
+      let two = (q told).1 parts.between after parts.second (one.1 was) (subst (λ (rs : List Reply). AreBounded parts.between more rs parts.second after) (dropped (length lines) replies others same) parts.behind) in
+      (omega (arith, one.0, two.0, parts.sum), two.1),
+)
 
 -- lines of which the last ones weren't served
 pub looks_longer : (tells : Type 0) (old new : World) (lines more : List (List ℕ)) (replies : List Reply) (Was Done : Type 0) → (Done → ⊥) → LooksOn tells old new lines replies Was → LooksOn tells old new (lines ++ more) replies Done
-looks_longer tells old new lines more replies Was Done never p told before after most warm h =
-    let parts = parted before after lines more replies most h in
-    let one = p told before parts.between parts.first warm parts.front in
-    (omega (arith, one.0, parts.sum), λ done. absurd (never done))
+looks_longer tells old new lines more replies Was Done never p told = (
+  λ most h.
+      let parts = changing lines more most h in
+      changed_then parts.first parts.second most old.changes new.changes new.changes parts.sum ((p told).0 parts.first parts.front) (changed_not parts.second new.changes new.changes refl),
+  λ before after most warm h.
+      let parts = parted before after lines more replies most h in
+      let one = (p told).1 before parts.between parts.first warm parts.front in
+      (omega (arith, one.0, parts.sum), λ done. absurd (never done)),
+)
 
 pub looks_weaker : (tells : Type 0) (old new : World) (lines : List (List ℕ)) (replies : List Reply) (Was Done : Type 0) → (Done → Was) → LooksOn tells old new lines replies Was → LooksOn tells old new lines replies Done
-looks_weaker tells old new lines replies Was Done leads p told before after most warm h =
-    let one = p told before after most warm h in
-    (one.0, λ done. one.1 (leads done))
+looks_weaker tells old new lines replies Was Done leads p told =
+    ((p told).0, λ before after most warm h. let one = (p told).1 before after most warm h in (one.0, λ done. one.1 (leads done)))
 
 -- a line that spells a command
-pub looks_line : (tells : Type 0) (old new : World) (line : List ℕ) (replies : List Reply) (command : Command) (Done : Type 0) → Spells line command
-    → (tells → (before : Option ℕ) → IsWarmFor old.session before → IsBounded command → (new.reads ≤ old.reads + most_told before command (slice_get replies 0)) × (Done → IsWarmFor new.session (block_read command)))
-    → LooksOn tells old new (line ∷ []) replies Done
-looks_line tells old new line replies command Done spells looks told before after most warm (inl (bad, rest)) = absurd (bad command spells)
-looks_line tells old new line replies command Done spells looks told before after most warm (inr (other, reads, look, others, (none, last), is)) =
+reads_line : (old new : World) (line : List ℕ) (replies : List Reply) (command : Command) (Done : Type 0) → Spells line command
+    → ((before : Option ℕ) → IsWarmFor old.session before → IsBounded command → (new.reads ≤ old.reads + most_told before command (slice_get replies 0)) × (Done → IsWarmFor new.session (block_read command)))
+    → ReadsOn old new (line ∷ []) replies Done
+reads_line old new line replies command Done spells looks before after most warm (inl (bad, rest)) = absurd (bad command spells)
+reads_line old new line replies command Done spells looks before after most warm (inr (other, reads, look, others, (none, last), is)) =
     let same : other ≡ command = one_command line other command reads spells in
-    let here = looks told before warm (subst IsBounded same look) in
+    let here = looks before warm (subst IsBounded same look) in
     let few : most ≡ most_told before command (slice_get replies 0) + others = subst (λ (c : Command). most ≡ most_told before c (slice_get replies 0) + others) same is in
     let block : after ≡ block_read command = subst (λ (c : Command). after ≡ block_read c) same last in
     (omega (arith, here.0, few, none), λ done. subst (λ (b : Option ℕ). IsWarmFor new.session b) (sym block) (here.1 done))
 
+changes_line : (old new : World) (line : List ℕ) (command : Command) → Spells line command → MayRiseBy (most_changes command) old.changes new.changes → ChangesFew old new (line ∷ [])
+changes_line old new line command spells few most (inl (bad, rest)) = absurd (bad command spells)
+changes_line old new line command spells few most (inr (other, reads, others, none, is)) =
+    let same : other ≡ command = one_command line other command reads spells in
+    let sum : most ≡ most_changes command + others = subst (λ (c : Command). most ≡ most_changes c + others) same is in
+    record { rises = few.rises; at_most = omega (arith, few.at_most, sum) }
+
+pub looks_line : (tells : Type 0) (old new : World) (line : List ℕ) (replies : List Reply) (command : Command) (Done : Type 0) → Spells line command → (tells → MayRiseBy (most_changes command) old.changes new.changes)
+    → (tells → (before : Option ℕ) → IsWarmFor old.session before → IsBounded command → (new.reads ≤ old.reads + most_told before command (slice_get replies 0)) × (Done → IsWarmFor new.session (block_read command)))
+    → LooksOn tells old new (line ∷ []) replies Done
+looks_line tells old new line replies command Done spells few looks told = (changes_line old new line command spells (few told), reads_line old new line replies command Done spells (looks told))
+
 -- a line outside the grammar
-pub looks_bad : (tells : Type 0) (old new : World) (line : List ℕ) (replies : List Reply) (Done : Type 0) → IsBad line → new.session ≡ old.session → (tells → new.reads ≤ old.reads) → LooksOn tells old new (line ∷ []) replies Done
-looks_bad tells old new line replies Done bad held same told before after most warm (inl (spelled, (none, is))) =
-    (omega (arith, same told, none), λ done. subst (λ (block : Option ℕ). IsWarmFor new.session block) (sym is) (subst (λ (session : Option Session). IsWarmFor session before) (sym held) warm))
-looks_bad tells old new line replies Done bad held same told before after most warm (inr (other, reads, look, others, rest, is)) = absurd (bad other reads)
+reads_bad : (old new : World) (line : List ℕ) (replies : List Reply) (Done : Type 0) → IsBad line → new.session ≡ old.session → new.reads ≤ old.reads → ReadsOn old new (line ∷ []) replies Done
+reads_bad old new line replies Done bad held same before after most warm (inl (spelled, (none, is))) =
+    (omega (arith, same, none), λ done. subst (λ (block : Option ℕ). IsWarmFor new.session block) (sym is) (subst (λ (session : Option Session). IsWarmFor session before) (sym held) warm))
+reads_bad old new line replies Done bad held same before after most warm (inr (other, reads, look, others, rest, is)) = absurd (bad other reads)
+
+pub looks_bad : (tells : Type 0) (old new : World) (line : List ℕ) (replies : List Reply) (Done : Type 0) → IsBad line → new.session ≡ old.session → (tells → (new.reads ≤ old.reads) × (new.changes ≡ old.changes)) → LooksOn tells old new (line ∷ []) replies Done
+looks_bad tells old new line replies Done bad held same told =
+    (λ most h. changed_not most old.changes new.changes (same told).1, reads_bad old new line replies Done bad held (same told).0)
 
 -- no more for a reply than for none
 refused_most : (before : Option ℕ) (command : Command) → reads_refused command ≤ most_reads before command
@@ -140,11 +194,14 @@ pub refused_told : (before : Option ℕ) (command : Command) (reply : Reply) →
 refused_told before command reply = elim (cases_Bool (is_refused reply)) [ inl refused ↦ rw refused (omega arith) | inr served ↦ rw served (refused_most before command) ]
 
 -- a line whose reply was not put whole
-pub looks_cut : (tells : Type 0) (old new : World) (line : List ℕ) (reply : Reply) (Was Done : Type 0) → (Done → ⊥) → LooksOn tells old new (line ∷ []) (reply ∷ []) Was → LooksOn tells old new (line ∷ []) [] Done
-looks_cut tells old new line reply Was Done never p told before after most warm (inl (bad, rest)) = ((p told before after most warm (inl (bad, rest))).0, λ done. absurd (never done))
-looks_cut tells old new line reply Was Done never p told before after most warm (inr (command, spells, look, others, rest, is)) =
-    let here = p told before after (most_told before command (Some reply) + others) warm (inr (command, spells, look, others, rest, refl)) in
+reads_cut : (old new : World) (line : List ℕ) (reply : Reply) (Was Done : Type 0) → (Done → ⊥) → ReadsOn old new (line ∷ []) (reply ∷ []) Was → ReadsOn old new (line ∷ []) [] Done
+reads_cut old new line reply Was Done never p before after most warm (inl (bad, rest)) = ((p before after most warm (inl (bad, rest))).0, λ done. absurd (never done))
+reads_cut old new line reply Was Done never p before after most warm (inr (command, spells, look, others, rest, is)) =
+    let here = p before after (most_told before command (Some reply) + others) warm (inr (command, spells, look, others, rest, refl)) in
     (omega (arith, here.0, is, told_most before command reply), λ done. absurd (never done))
+
+pub looks_cut : (tells : Type 0) (old new : World) (line : List ℕ) (reply : Reply) (Was Done : Type 0) → (Done → ⊥) → LooksOn tells old new (line ∷ []) (reply ∷ []) Was → LooksOn tells old new (line ∷ []) [] Done
+looks_cut tells old new line reply Was Done never p told = ((p told).0, reads_cut old new line reply Was Done never (p told).1)
 
 -- ---- one command
 

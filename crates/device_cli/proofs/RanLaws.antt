@@ -29,7 +29,7 @@ use Rattle.line_run.proofs.StopLaws.{TookUntil-line}
 
 -- the same after the platform stood still
 pub Ran-after : (tells : Type 0) (old mid new : World) (last : DeviceStop → List ℕ) (ending : Ending) (left left_now a b : Option (List ℕ))
-    → IsLater old mid → mid.head ≡ old.head → (tells → mid.reads ≤ old.reads) → mid.session ≡ old.session → mid.drawn ≡ old.drawn
+    → IsLater old mid → mid.head ≡ old.head → (tells → (mid.reads ≤ old.reads) × (mid.changes ≡ old.changes)) → mid.session ≡ old.session → mid.drawn ≡ old.drawn
     → (tells → Extends old.history mid.history) → (tells → mid.history.present ≡ old.history.present) → (tells → (entry : State) → Stood old entry → Stood mid entry × During old.history mid.history (Leaves entry.device))
     → Ran tells ⊥ mid new last ending left left_now a b → Ran tells ⊥ old new last ending left left_now a b
 Ran-after tells old mid new last ending left left_now a b later same unread held undrawn extends kept still r = record {
@@ -185,7 +185,7 @@ IsEarly (device.BadRecord addr) = ⊥
 
 -- a run that was stopped before its first line
 pub Ran-refused : (tells Before : Type 0) (old new : World) (stop : DeviceStop) (left written : Option (List ℕ)) → IsEarly stop → Before
-    → IsLater old new → new.head ≡ old.head → (tells → new.reads ≤ old.reads) → new.session ≡ old.session → new.drawn ≡ old.drawn
+    → IsLater old new → new.head ≡ old.head → (tells → (new.reads ≤ old.reads) × (new.changes ≡ old.changes)) → new.session ≡ old.session → new.drawn ≡ old.drawn
     → (tells → Extends old.history new.history) → (tells → new.history.present ≡ old.history.present) → (tells → (entry : State) → Stood old entry → Stood new entry × During old.history new.history (Leaves entry.device))
     → (tells → (entry : State) → Stood old entry → IsSound stop) → Ran tells Before old new no_line (Err (stops.Device stop)) left left written written
 unfolding whole_lines_of

@@ -66,7 +66,7 @@ made_idle old new entry rep (there, during) =
     made_none old.history new.history None entry (closed entry.device) rep.there.device during refl (shut new.history.present entry.device there.there.device there.served)
 
 -- no lines, and nothing put, while the platform stood still
-pub Replied-idle : (tells : Type 0) (old new : World) (last : DeviceStop → List ℕ) → IsLater old new → new.head ≡ old.head → (tells → new.reads ≤ old.reads) → new.session ≡ old.session
+pub Replied-idle : (tells : Type 0) (old new : World) (last : DeviceStop → List ℕ) → IsLater old new → new.head ≡ old.head → (tells → (new.reads ≤ old.reads) × (new.changes ≡ old.changes)) → new.session ≡ old.session
     → new.drawn ≡ old.drawn → (tells → Extends old.history new.history) → (tells → new.history.present ≡ old.history.present) → (tells → (entry : State) → Stood old entry → Stood new entry × During old.history new.history (Leaves entry.device))
     → Replied tells ⊥ old new last (Ok tt) [] []
 Replied-idle tells old new last later same unread held undrawn extends kept still = record {
@@ -102,7 +102,7 @@ still_there w entry rep = (rep, During-start w.history (Leaves entry.device) (st
 
 -- no lines, and nothing put
 pub Replied-nothing : (tells : Type 0) (w : World) (last : DeviceStop → List ℕ) → w.head ≤ w.capacity → Replied tells ⊥ w w last (Ok tt) [] []
-Replied-nothing tells w last fits = Replied-idle tells w w last (IsLater-refl w fits) refl (λ told. omega arith) refl refl (λ told. Extends-refl w.history) (λ told. refl) (λ told entry rep. still_there w entry rep)
+Replied-nothing tells w last fits = Replied-idle tells w w last (IsLater-refl w fits) refl (λ told. (omega arith, refl)) refl refl (λ told. Extends-refl w.history) (λ told. refl) (λ told entry rep. still_there w entry rep)
 
 -- what the serving of a line did from a state: a reply that belongs to it, and the state after it
 abbrev pub Turned : World → World → State → ℕ → List ℕ → Reply → Type 0

@@ -461,9 +461,9 @@ answers_from old new ending entry lines replies part held f =
     }
 
 -- what is said of a run's end says nothing of its session, and of its tape
-forget : (old : World) (drawn drawn_now : Option (List (List ℕ))) (session : Option Session) (history : History) (head capacity reads : ℕ) (status : ℕ) (entry : State) (lines : List (List ℕ)) (replies : List Reply) (part : List ℕ)
-    → AnswersFrom (first_by drawn old) (drew_by drawn_now (world session history head capacity reads)) status entry lines replies part → AnswersFrom old (world None history head capacity reads) status entry lines replies part
-forget old drawn drawn_now session history head capacity reads status entry lines replies part f = record {
+forget : (old : World) (drawn drawn_now : Option (List (List ℕ))) (session : Option Session) (history : History) (head capacity reads changes : ℕ) (status : ℕ) (entry : State) (lines : List (List ℕ)) (replies : List Reply) (part : List ℕ)
+    → AnswersFrom (first_by drawn old) (drew_by drawn_now (world session history head capacity reads changes)) status entry lines replies part → AnswersFrom old (world None history head capacity reads changes) status entry lines replies part
+forget old drawn drawn_now session history head capacity reads changes status entry lines replies part f = record {
   now = f.now;
   pages = f.pages;
   updates = f.updates;
@@ -490,10 +490,10 @@ enough_alone : (held : Option Session) → held ≡ None → AreEnough held 0
 enough_alone held alone = subst (λ (session : Option Session). AreEnough session 0) (sym alone) (omega arith)
 
 -- a run answers the script, whatever session it ends with
-pub answers_script : (tells Before : Type 0) (old : World) (drawn drawn_now : Option (List (List ℕ))) (session : Option Session) (history : History) (head capacity reads : ℕ) (ending : Ending) (left left_now written written_now : Option (List ℕ))
-    → old.session ≡ None → Ran tells Before (first_by drawn old) (drew_by drawn_now (world session history head capacity reads)) damage_line ending left left_now written written_now
-    → AnswersScript tells old (world None history head capacity reads) (exit_of ending) left left_now written written_now
-answers_script tells Before old drawn drawn_now session history head capacity reads ending left left_now written written_now alone r = let p = r.handled.replied in record {
+pub answers_script : (tells Before : Type 0) (old : World) (drawn drawn_now : Option (List (List ℕ))) (session : Option Session) (history : History) (head capacity reads changes : ℕ) (ending : Ending) (left left_now written written_now : Option (List ℕ))
+    → old.session ≡ None → Ran tells Before (first_by drawn old) (drew_by drawn_now (world session history head capacity reads changes)) damage_line ending left left_now written written_now
+    → AnswersScript tells old (world None history head capacity reads changes) (exit_of ending) left left_now written written_now
+answers_script tells Before old drawn drawn_now session history head capacity reads changes ending left left_now written written_now alone r = let p = r.handled.replied in record {
   taken = r.taken;
   gave = r.gave;
   lines = r.lines;
@@ -507,34 +507,35 @@ answers_script tells Before old drawn drawn_now session history head capacity re
   whole = whole ending (length p.replies) (length r.lines) r.taken left_now r.lines p.many r.come;
   no_part = no_part ending p.part p.behind;
   bad_root = bad_root ending p.part p.behind;
-  bad_record = bad_record tells Before (drew_by drawn_now (world session history head capacity reads)) ending p.part p.replies r.lines p.behind p.stopped;
-  no_key = no_key tells Before (drew_by drawn_now (world session history head capacity reads)) ending p.replies r.lines p.stopped;
-  no_entry = no_entry tells Before (drew_by drawn_now (world session history head capacity reads)) ending p.replies r.lines p.stopped;
-  no_memory = no_memory tells Before (drew_by drawn_now (world session history head capacity reads)) ending p.replies r.lines p.stopped;
+  bad_record = bad_record tells Before (drew_by drawn_now (world session history head capacity reads changes)) ending p.part p.replies r.lines p.behind p.stopped;
+  no_key = no_key tells Before (drew_by drawn_now (world session history head capacity reads changes)) ending p.replies r.lines p.stopped;
+  no_entry = no_entry tells Before (drew_by drawn_now (world session history head capacity reads changes)) ending p.replies r.lines p.stopped;
+  no_memory = no_memory tells Before (drew_by drawn_now (world session history head capacity reads changes)) ending p.replies r.lines p.stopped;
   cut = cut ending p.part p.behind;
   full = p.full 0 (enough_alone old.session alone);
   so = λ told. (let so = p.so told in (so.1, so.2, subst (λ (held : Option Session). AreSo tells history (moment old.history) held r.lines p.replies so.1 so.2) alone so.3));
-  looks = λ told most last h. omega (arith, (p.looks told None last most (subst (λ (held : Option Session). IsWarmFor held None) (sym alone) tt) h).0);
+  changes = λ told. (p.looks told).0;
+  looks = λ told most last h. omega (arith, ((p.looks told).1 None last most (subst (λ (held : Option Session). IsWarmFor held None) (sym alone) tt) h).0);
   answered = λ told there stands served.
-      forget old drawn drawn_now session history head capacity reads (exit_of ending) (closed there) r.lines p.replies p.part
-      (answers_from (first_by drawn old) (drew_by drawn_now (world session history head capacity reads)) ending (closed there) r.lines p.replies p.part (within_closed old.history.present there stands)
+      forget old drawn drawn_now session history head capacity reads changes (exit_of ending) (closed there) r.lines p.replies p.part
+      (answers_from (first_by drawn old) (drew_by drawn_now (world session history head capacity reads changes)) ending (closed there) r.lines p.replies p.part (within_closed old.history.present there stands)
       (p.answered told (closed there) 0 (record { there = alone_on old there alone stands; served = served }) (enough_alone old.session alone)));
 }
 
 -- and with its replies, the keys that its lines drew, and where the platform failed
-pub answers_with : (tells Before : Type 0) (old : World) (drawn drawn_now : Option (List (List ℕ))) (session : Option Session) (history : History) (head capacity reads : ℕ) (ending : Ending) (left left_now written written_now : Option (List ℕ))
-    → old.session ≡ None → (r : Ran tells Before (first_by drawn old) (drew_by drawn_now (world session history head capacity reads)) damage_line ending left left_now written written_now)
-    → (script : AnswersScript tells old (world None history head capacity reads) (exit_of ending) left left_now written written_now) × (script.replies ≡ r.handled.replied.replies) × DrewUntil drawn script.lines script.replies drawn_now
+pub answers_with : (tells Before : Type 0) (old : World) (drawn drawn_now : Option (List (List ℕ))) (session : Option Session) (history : History) (head capacity reads changes : ℕ) (ending : Ending) (left left_now written written_now : Option (List ℕ))
+    → old.session ≡ None → (r : Ran tells Before (first_by drawn old) (drew_by drawn_now (world session history head capacity reads changes)) damage_line ending left left_now written written_now)
+    → (script : AnswersScript tells old (world None history head capacity reads changes) (exit_of ending) left left_now written written_now) × (script.replies ≡ r.handled.replied.replies) × DrewUntil drawn script.lines script.replies drawn_now
     × (exit_of ending ≡ 5 → Before ⊎ IfNext script.replies script.lines (IsOf (HasCalled tells history.present)))
 unfolding answers_script
-answers_with tells Before old drawn drawn_now session history head capacity reads ending left left_now written written_now alone r =
-    (answers_script tells Before old drawn drawn_now session history head capacity reads ending left left_now written written_now alone r, refl, r.handled.replied.drew, no_platform tells Before (drew_by drawn_now (world session history head capacity reads)) ending r.handled.replied.replies r.lines r.handled.replied.stopped)
+answers_with tells Before old drawn drawn_now session history head capacity reads changes ending left left_now written written_now alone r =
+    (answers_script tells Before old drawn drawn_now session history head capacity reads changes ending left left_now written written_now alone r, refl, r.handled.replied.drew, no_platform tells Before (drew_by drawn_now (world session history head capacity reads changes)) ending r.handled.replied.replies r.lines r.handled.replied.stopped)
 
 -- which devices a run made, whatever session it ends with
-pub made_by : (tells Before : Type 0) (old : World) (drawn drawn_now : Option (List (List ℕ))) (session : Option Session) (history : History) (head capacity reads : ℕ) (ending : Ending) (left left_now written written_now : Option (List ℕ))
-    → old.session ≡ None → Ran tells Before (first_by drawn old) (drew_by drawn_now (world session history head capacity reads)) damage_line ending left left_now written written_now
+pub made_by : (tells Before : Type 0) (old : World) (drawn drawn_now : Option (List (List ℕ))) (session : Option Session) (history : History) (head capacity reads changes : ℕ) (ending : Ending) (left left_now written written_now : Option (List ℕ))
+    → old.session ≡ None → Ran tells Before (first_by drawn old) (drew_by drawn_now (world session history head capacity reads changes)) damage_line ending left left_now written written_now
     → tells → (there : Option Device) → StandsFor old.history.present there → IsServedImage old.history.present
     → (marks : List (Option Device)) × Made old.history history None (closed there) marks (closed (last_mark there marks))
-made_by tells Before old drawn drawn_now session history head capacity reads ending left left_now written written_now alone r told there stands served =
+made_by tells Before old drawn drawn_now session history head capacity reads changes ending left left_now written written_now alone r told there stands served =
     let f = r.handled.replied.answered told (closed there) 0 (record { there = alone_on old there alone stands; served = served }) (enough_alone old.session alone) in
     (f.marks, f.made)

@@ -38,54 +38,54 @@ keeps_same old new same =
     (During-start old.history (λ image. image.cell ≡ old.history.present.cell) refl)
 
 -- a reply that needed no call
-serves_at : (s now : Option Session) (h : History) (head capacity reads : ℕ) (entry next : State) (command : Command) (reply : Reply) → Represents (world s h head capacity reads) entry
-    → (reply, next) ≡ answer (is_full (world s h head capacity reads) entry command) none_counted entry command → Represents (world now h head capacity reads) next
-    → Serves (world s h head capacity reads) (world now h head capacity reads) entry command (Ok reply)
-serves_at s now h head capacity reads entry next command reply rep is after =
+serves_at : (s now : Option Session) (h : History) (head capacity reads changes : ℕ) (entry next : State) (command : Command) (reply : Reply) → Represents (world s h head capacity reads changes) entry
+    → (reply, next) ≡ answer (is_full (world s h head capacity reads changes) entry command) none_counted entry command → Represents (world now h head capacity reads changes) next
+    → Serves (world s h head capacity reads changes) (world now h head capacity reads changes) entry command (Ok reply)
+serves_at s now h head capacity reads changes entry next command reply rep is after =
     (next, (none_counted, is), after, Turns-not h h (Leaves entry.device) (Leaves next.device) (During-start h (Leaves entry.device) (stands_leaves h.present _ rep.device)))
 
-pub serves_unmounted : (s now : Option Session) (h : History) (head capacity reads : ℕ) (entry : State) (command : Command) → s ≡ None → now ≡ None
+pub serves_unmounted : (s now : Option Session) (h : History) (head capacity reads changes : ℕ) (entry : State) (command : Command) → s ≡ None → now ≡ None
     → ((full : Bool) (there : Option Device) → (Unmounted, closed there) ≡ answer full none_counted (closed there) command)
-    → Represents (world s h head capacity reads) entry → Serves (world s h head capacity reads) (world now h head capacity reads) entry command (Ok Unmounted)
-serves_unmounted s now h head capacity reads entry command none none_now gives rep =
-    let old = world s h head capacity reads in
-    without_session old entry none rep (λ state. Serves old (world now h head capacity reads) state command (Ok Unmounted))
-    (λ stands. serves_at s now h head capacity reads (closed entry.device) (closed entry.device) command Unmounted (has_none old entry.device none stands)
-    (gives (is_full old (closed entry.device) command) entry.device) (has_none (world now h head capacity reads) entry.device none_now stands))
+    → Represents (world s h head capacity reads changes) entry → Serves (world s h head capacity reads changes) (world now h head capacity reads changes) entry command (Ok Unmounted)
+serves_unmounted s now h head capacity reads changes entry command none none_now gives rep =
+    let old = world s h head capacity reads changes in
+    without_session old entry none rep (λ state. Serves old (world now h head capacity reads changes) state command (Ok Unmounted))
+    (λ stands. serves_at s now h head capacity reads changes (closed entry.device) (closed entry.device) command Unmounted (has_none old entry.device none stands)
+    (gives (is_full old (closed entry.device) command) entry.device) (has_none (world now h head capacity reads changes) entry.device none_now stands))
 
-pub serves_drop : (s now : Option Session) (h : History) (head capacity reads : ℕ) (entry : State) (session : Session) → s ≡ Some session → now ≡ None
-    → Represents (world s h head capacity reads) entry → Serves (world s h head capacity reads) (world now h head capacity reads) entry Drop (Ok Dropped)
-serves_drop s now h head capacity reads entry session some none rep =
-    let old = world s h head capacity reads in
-    with_session old session entry some rep (λ state. Serves old (world now h head capacity reads) state Drop (Ok Dropped))
-    (λ d t holds touched. serves_at s now h head capacity reads (at d t) (closed (Some d)) Drop Dropped (has_session old session d t some holds touched) refl
-    (has_none (world now h head capacity reads) (Some d) none (holds_stands session h.present d t.contents holds)))
+pub serves_drop : (s now : Option Session) (h : History) (head capacity reads changes : ℕ) (entry : State) (session : Session) → s ≡ Some session → now ≡ None
+    → Represents (world s h head capacity reads changes) entry → Serves (world s h head capacity reads changes) (world now h head capacity reads changes) entry Drop (Ok Dropped)
+serves_drop s now h head capacity reads changes entry session some none rep =
+    let old = world s h head capacity reads changes in
+    with_session old session entry some rep (λ state. Serves old (world now h head capacity reads changes) state Drop (Ok Dropped))
+    (λ d t holds touched. serves_at s now h head capacity reads changes (at d t) (closed (Some d)) Drop Dropped (has_session old session d t some holds touched) refl
+    (has_none (world now h head capacity reads changes) (Some d) none (holds_stands session h.present d t.contents holds)))
 
-pub serves_stat : (s : Option Session) (h : History) (head capacity reads : ℕ) (entry : State) (session : Session) (mapped number : ℕ) → s ≡ Some session
+pub serves_stat : (s : Option Session) (h : History) (head capacity reads changes : ℕ) (entry : State) (session : Session) (mapped number : ℕ) → s ≡ Some session
     → ((d : Device) (t : OpenSession) → Holds session h.present d t.contents → (mapped ≡ map.len t.contents) × (number ≡ d.number))
-    → Represents (world s h head capacity reads) entry → Serves (world s h head capacity reads) (world s h head capacity reads) entry commands.Stat (Ok (replies.Stat mapped number))
-serves_stat s h head capacity reads entry session mapped number some tells rep =
-    let old = world s h head capacity reads in
+    → Represents (world s h head capacity reads changes) entry → Serves (world s h head capacity reads changes) (world s h head capacity reads changes) entry commands.Stat (Ok (replies.Stat mapped number))
+serves_stat s h head capacity reads changes entry session mapped number some tells rep =
+    let old = world s h head capacity reads changes in
     with_session old session entry some rep (λ state. Serves old old state commands.Stat (Ok (replies.Stat mapped number)))
     (λ d t holds touched. let both = tells d t holds in
     let there = has_session old session d t some holds touched in
-    serves_at s s h head capacity reads (at d t) (at d t) commands.Stat (replies.Stat mapped number) there (gives_stat (is_full old (at d t) commands.Stat) d t mapped number both.0 both.1) there)
+    serves_at s s h head capacity reads changes (at d t) (at d t) commands.Stat (replies.Stat mapped number) there (gives_stat (is_full old (at d t) commands.Stat) d t mapped number both.0 both.1) there)
 
-pub serves_already : (s : Option Session) (h : History) (head capacity reads : ℕ) (entry : State) (session : Session) → s ≡ Some session → Represents (world s h head capacity reads) entry
-    → Serves (world s h head capacity reads) (world s h head capacity reads) entry Mount (Ok AlreadyMounted)
-serves_already s h head capacity reads entry session some rep =
-    let old = world s h head capacity reads in
+pub serves_already : (s : Option Session) (h : History) (head capacity reads changes : ℕ) (entry : State) (session : Session) → s ≡ Some session → Represents (world s h head capacity reads changes) entry
+    → Serves (world s h head capacity reads changes) (world s h head capacity reads changes) entry Mount (Ok AlreadyMounted)
+serves_already s h head capacity reads changes entry session some rep =
+    let old = world s h head capacity reads changes in
     with_session old session entry some rep (λ state. Serves old old state Mount (Ok AlreadyMounted))
     (λ d t holds touched. let there = has_session old session d t some holds touched in
-    serves_at s s h head capacity reads (at d t) (at d t) Mount AlreadyMounted there refl there)
+    serves_at s s h head capacity reads changes (at d t) (at d t) Mount AlreadyMounted there refl there)
 
-pub serves_not_upgraded : (s : Option Session) (h : History) (head capacity reads : ℕ) (entry : State) (session : Session) → s ≡ Some session → Represents (world s h head capacity reads) entry
-    → Serves (world s h head capacity reads) (world s h head capacity reads) entry Upgrade (Ok AlreadyMounted)
-serves_not_upgraded s h head capacity reads entry session some rep =
-    let old = world s h head capacity reads in
+pub serves_not_upgraded : (s : Option Session) (h : History) (head capacity reads changes : ℕ) (entry : State) (session : Session) → s ≡ Some session → Represents (world s h head capacity reads changes) entry
+    → Serves (world s h head capacity reads changes) (world s h head capacity reads changes) entry Upgrade (Ok AlreadyMounted)
+serves_not_upgraded s h head capacity reads changes entry session some rep =
+    let old = world s h head capacity reads changes in
     with_session old session entry some rep (λ state. Serves old old state Upgrade (Ok AlreadyMounted))
     (λ d t holds touched. let there = has_session old session d t some holds touched in
-    serves_at s s h head capacity reads (at d t) (at d t) Upgrade AlreadyMounted there refl there)
+    serves_at s s h head capacity reads changes (at d t) (at d t) Upgrade AlreadyMounted there refl there)
 
 -- a session on what is there
 serves_mounted_at : (old new : World) (there : Option Device) (session : Session) (number : ℕ) → old.session ≡ None → StandsFor old.history.present there

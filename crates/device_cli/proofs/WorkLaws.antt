@@ -77,18 +77,18 @@ pub idle : (w : World) (written : Option (List ℕ)) → IsIdle w w written writ
 idle w written = record { memory = refl; world = refl; unput = refl }
 
 -- what a run gives, or what is as it was
-pub ended_work : (tells : Type 0) (old new : Outside) (Going : Type 0) (seed count : ℕ) (was : World) (drawn drawn_now : Option (List (List ℕ))) (session : Option Session) (reads : ℕ) (written written_now : Option (List ℕ)) (ending : Ending)
+pub ended_work : (tells : Type 0) (old new : Outside) (Going : Type 0) (seed count : ℕ) (was : World) (drawn drawn_now : Option (List (List ℕ))) (session : Option Session) (reads changes : ℕ) (written written_now : Option (List ℕ)) (ending : Ending)
     → was.session ≡ None → was.history ≡ old.history → was.head ≡ old.head → was.capacity ≡ old.capacity → new.head ≤ new.capacity
-    → IsIdle was (world session new.history new.head new.capacity reads) written written_now ending ⊎ Worked tells seed count (first_by drawn was) (drew_by drawn_now (world session new.history new.head new.capacity reads)) written written_now ending
+    → IsIdle was (world session new.history new.head new.capacity reads changes) written written_now ending ⊎ Worked tells seed count (first_by drawn was) (drew_by drawn_now (world session new.history new.head new.capacity reads changes)) written written_now ending
     → KeepsOn tells old.drawn new.drawn old.written new.written None old.history new.history Going (λ keys. Unit {0}) → Ended tells old new Going
-ended_work tells old new Going seed count was drawn drawn_now session reads written written_now ending alone history head capacity room (inl not) keeps =
+ended_work tells old new Going seed count was drawn drawn_now session reads changes written written_now ending alone history head capacity room (inl not) keeps =
     let same : new.history ≡ old.history = ap (λ (w : World). w.history) not.world ∙ history in record {
       later = record { capacity = ap (λ (w : World). w.capacity) not.world ∙ capacity; rises = omega (arith, ap (λ (w : World). w.head) not.world, head); within = room };
       keeps = keeps;
       made = λ told device stands served. ([], subst (λ (h : History). Made old.history h None (closed device) [] (closed device)) (sym same) (made_start old.history None (closed device) (shut old.history.present device stands served)));
     }
-ended_work tells old new Going seed count was drawn drawn_now session reads written written_now ending alone history head capacity room (inr w) keeps =
-    ended_run tells _ old new Going was drawn drawn_now session reads w.serving (Some (script_of seed count)) w.left (Some []) w.told alone history head capacity w.ran keeps
+ended_work tells old new Going seed count was drawn drawn_now session reads changes written written_now ending alone history head capacity room (inr w) keeps =
+    ended_run tells _ old new Going was drawn drawn_now session reads changes w.serving (Some (script_of seed count)) w.left (Some []) w.told alone history head capacity w.ran keeps
 
 -- ---- no line of a script spells `upgrade`
 
@@ -191,7 +191,7 @@ pub serves_work : {S R I O L : Type 0} (tells : Type 0) (seed count : ℕ) (old 
 serves_work tells seed count old new session ending alone then_alone untold w =
     let text : Option (List ℕ) = Some (script_of seed count) in
     let now = new.world in
-    let script = answers_with tells (w.left ≡ text) old.world old.drawn new.drawn session now.history now.head now.capacity now.reads w.serving text w.left (Some []) w.told alone w.ran in
+    let script = answers_with tells (w.left ≡ text) old.world old.drawn new.drawn session now.history now.head now.capacity now.reads now.changes w.serving text w.left (Some []) w.told alone w.ran in
     let same : world None now.history now.head now.capacity now.reads ≡ now =
     ap (λ (d : Option (List (List ℕ))). record now { session = None; drawn = d }) (sym untold) ∙ ap (λ (s : Option Session). record now { session = s }) (sym then_alone) in
     let Answered : World → Type 0 = λ there. (s : AnswersScript tells old.world there (exit_of w.serving) text w.left (Some []) w.told) × (s.replies ≡ w.ran.handled.replied.replies) × DrewUntil old.drawn s.lines s.replies new.drawn

@@ -1,6 +1,8 @@
 -- What a run may rely on between lines.
 use Rattle.std.specs.Prelude.{◌≡◌, ◌≤◌, ℕ, Result, IfSome, IfOk, IfErr, OnOk, IsErrOf}
+use Rattle.platform.specs.Counts.{MayRiseBy}
 use Rattle.platform.specs.declared.platforms.Platform.{Ghosts}
+use Rattle.device_cli.specs.Looks.{most_changes}
 use Rattle.device_terms.specs.Served.{IsServedImage}
 use Rattle.script_lang.specs.Replies.{CanWrite, FitsBlock, said}
 use Rattle.script_lang.specs.declared.replies.Reply.{Reply as Given}
@@ -43,6 +45,7 @@ pub record After {S : Type 0} (P : Ghosts S) (before desk : Desk) (old new : S) 
   pub bad_root : P.tells → IsErrOf result stops.BadRoot → ⊥
   pub capacity : P.capacity new ≡ P.capacity old
   pub rises : P.head old ≤ P.head new
+  pub changes : P.tells → MayRiseBy (most_changes command) (P.changes old) (P.changes new)
   pub added : IfErr result (λ stop. LeavesFew P.tells (P.history old).present stop command (needed_of before.session) (P.head old) (P.head new))
   pub full : IfOk result (λ reply. reply ≡ given.Full → LacksPages P.tells (P.history old).present command (needed_of before.session) (P.head new) (P.capacity new))
 

@@ -1,7 +1,8 @@
 -- How often a run reads a page or looks at the cell, at lines that don't go over the whole tree.
 use Rattle.std.specs.Prelude.{◌≡◌, ◌⊎◌, ℕ, ◌+◌, ◌<◌, ◌≤◌, ◌==◌, Bool, true, false, if◌then◌else◌, List, [], ◌∷◌, Option, None, Some, drop, slice_get}
+use Rattle.platform.specs.Counts.{MayRiseBy}
 use Rattle.script_lang.specs.Commands.{Command}
-use Rattle.script_lang.specs.Commands.{Commit, Erase, Format, Mount, Read, Write, Trim, Drop, Stat}
+use Rattle.script_lang.specs.Commands.{Commit, Erase, Format, Mount, Read, Write, Trim, Drop, Stat, Upgrade}
 use Rattle.script_lang.specs.Grammar.{IsBad, Spells}
 use Rattle.script_lang.specs.Replies.{Reply, Unmounted, AlreadyMounted, Range, Full}
 use Rattle.device_session.specs.Open.{blocks_of}
@@ -68,14 +69,36 @@ AreBounded before (line ∷ lines) replies most after =
     ⊎ ((command : Command) × Spells line command × IsBounded command × (others : ℕ) × AreBounded (block_read command) lines (drop 1 replies) others after
     × (most ≡ most_told before command (slice_get replies 0) + others))
 
+-- so often, at most, all pages are synced, or the cell replaced or cleared, for a command
+abbrev pub most_changes : Command → ℕ
+most_changes (Format blocks order) = 2
+most_changes Commit = 2
+most_changes Upgrade = 2
+most_changes Erase = 1
+most_changes _ = 0
+
+-- the lines spell commands, or nothing, and so often that happens for them together, at most
+abbrev pub AreChanging : List (List ℕ) → ℕ → Type 0
+AreChanging [] most = most ≡ 0
+AreChanging (line ∷ lines) most =
+    (IsBad line × AreChanging lines most) ⊎ ((command : Command) × Spells line command × (others : ℕ) × AreChanging lines others × (most ≡ most_changes command + others))
+
 -- the cache has room for a node of each level, and keeps each node on the way to the block that was read last, if one was
 abbrev pub IsWarmFor : Option Session → Option ℕ → Type 0
 IsWarmFor None block = Unit {0}
 IsWarmFor (Some session) None = 20 ≤ room_of session
 IsWarmFor (Some session) (Some block) = (20 ≤ room_of session) × (block < blocks_of session → KeepsWayTo session block)
 
+-- it happens no oftener for these lines
+abbrev pub ChangesFew : World → World → List (List ℕ) → Type 0
+ChangesFew old new lines = (most : ℕ) → AreChanging lines most → MayRiseBy most old.changes new.changes
+
 -- where the lines are such, with these replies, no more is read than this; and where all are done, the cache is ready for the next one
-abbrev pub LooksOn : Type 0 → World → World → List (List ℕ) → List Reply → Type 0 → Type 0
-LooksOn tells old new lines replies Done =
-    tells → (before after : Option ℕ) (most : ℕ) → IsWarmFor old.session before → AreBounded before lines replies most after
+abbrev pub ReadsOn : World → World → List (List ℕ) → List Reply → Type 0 → Type 0
+ReadsOn old new lines replies Done =
+    (before after : Option ℕ) (most : ℕ) → IsWarmFor old.session before → AreBounded before lines replies most after
     → (new.reads ≤ old.reads + most) × (Done → IsWarmFor new.session after)
+
+-- of these lines and their replies it is both so
+abbrev pub LooksOn : Type 0 → World → World → List (List ℕ) → List Reply → Type 0 → Type 0
+LooksOn tells old new lines replies Done = tells → ChangesFew old new lines × ReadsOn old new lines replies Done

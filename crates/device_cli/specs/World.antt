@@ -9,21 +9,22 @@ use Rattle.device_session.specs.Sessions.{Session}
 use Rattle.script_lang.specs.Commands.{Command}
 use Rattle.device_cli.specs.Pages.{needed_for, upgrade_of}
 
--- the session, if one is open; the moments of the platform; how many pages it has, and how many it can have; how many reads were made, of pages and of the cell; and the keys that the tape drew
+-- the session, if one is open; the moments of the platform; how many pages it has, and how many it can have; how many reads were made, of pages and of the cell; how often all pages were synced, or the cell changed; and the keys that the tape drew
 pub record World : Type 0 where
   pub session : Option Session
   pub history : History
   pub head : ℕ
   pub capacity : ℕ
   pub reads : ℕ
+  pub changes : ℕ
   pub drawn : Option (List (List ℕ))
 
-abbrev pub world : Option Session → History → ℕ → ℕ → ℕ → World
-world session history head capacity reads = record { session = session; history = history; head = head; capacity = capacity; reads = reads; drawn = None }
+abbrev pub world : Option Session → History → ℕ → ℕ → ℕ → ℕ → World
+world session history head capacity reads changes = record { session = session; history = history; head = head; capacity = capacity; reads = reads; changes = changes; drawn = None }
 
 -- the same of a platform, while nothing is told of a tape
 abbrev pub world_of : {S : Type 0} → Ghosts S → Option Session → S → World
-world_of P session platform = world session (P.history platform) (P.head platform) (P.capacity platform) (P.reads platform)
+world_of P session platform = world session (P.history platform) (P.head platform) (P.capacity platform) (P.reads platform) (P.changes platform)
 
 -- the same with a tape that drew these keys
 abbrev pub drew_by : Option (List (List ℕ)) → World → World

@@ -8,7 +8,7 @@ ghost use Rattle.script_lang.specs.Replies.{CanWrite, FitsBlock, said};
 ghost use Rattle.sdbt_base.specs.Counts.{counts};
 ghost use Rattle.session_calls.specs.Blame.{IsBlamed};
 ghost use Rattle.platform.specs.History.{During};
-ghost use Rattle.page_store.specs.Reading.{MayLook};
+ghost use Rattle.page_store.specs.Reading.{MayLookAndChange};
 ghost use Rattle.seizure.specs.Opened.{count_of_kind, count_of_nodes};
 ghost use Rattle.device_cli.specs.Causes.{AnswersAny};
 ghost use Rattle.device_cli.specs.Drawing.{DrewFor, Spends};
@@ -407,7 +407,7 @@ fn refuse_format<P: Platform>(platform: &mut P) -> Result<Reply, DeviceStop>
     ensures time { P.tells
         → During (P.history platform.old) (P.history platform.new) (λ image. image.cell ≡ (P.history platform.old).present.cell) }
     ensures pages { (P.head platform.new ≡ P.head platform.old) × (P.capacity platform.new ≡ P.capacity platform.old) }
-    ensures reads { P.tells → MayLook P.Platform platform.old platform.new }
+    ensures reads { P.tells → MayLookAndChange P.Platform 0 platform.old platform.new }
     ensures reply { IfOk result (λ reply. (buffer : List ℕ) → CanWrite (said reply buffer)) }
     ensures short { IfOk result FitsBlock }
     ensures count { P.faults platform.old ≤ P.faults platform.new }

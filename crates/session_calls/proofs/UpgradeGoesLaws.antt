@@ -5,11 +5,12 @@ use Rattle.sdbt_base.specs.Counts.{Counts, counts}
 use Rattle.sdbt_base.specs.declared.sinks.Sink.{Ghosts as SinkGhosts}
 use Rattle.sdbt_base.specs.declared.tapes.Tape.{Ghosts as TapeGhosts}
 use Rattle.platform.specs.declared.platforms.Platform.{Ghosts as PlatformGhosts}
+use Rattle.platform.specs.Counts.{MayRiseBy}
 use Rattle.platform.specs.History.{History}
 use Rattle.root_codec.specs.declared.root.Root.{Root}
 use Rattle.page_store.specs.Stands.{IsSound}
 use Rattle.device_terms.specs.Effects.{Discloses}
-use Rattle.device_core.specs.Upgrading.{Begins, CertifiesUpgrade, IsPartly, IsUpgradeCause, PutsUpgrade, needed_of_root}
+use Rattle.device_core.specs.Upgrading.{Begins, CertifiesUpgrade, IsPartly, IsUpgradeCause, PutsUpgrade, SpendsUpgrade, needed_of_root}
 use Rattle.device_core.specs.declared.refusals.UpgradeRefusal.{UpgradeRefusal}
 use Rattle.device_core.specs.declared.refusals.UpgradeRefusal.TheVariants as upgrade
 use Rattle.device_course.specs.Certified.{Certified}
@@ -101,14 +102,19 @@ Grows P T L platform platform_now tape tape_now ledger ledger_now =
     (P.head platform ≤ P.head platform_now) × (P.capacity platform_now ≡ P.capacity platform)
     × (P.faults platform ≤ P.faults platform_now) × (T.faults tape ≤ T.faults tape_now) × (L.faults ledger ≤ L.faults ledger_now)
 
+-- so often an upgrade syncs and changes the cell
+pub upgrade_changes : {S R : Type 0} (P : PlatformGhosts S) (T : TapeGhosts R) (platform platform_now : S) (tape tape_now : R) (Done : Type 0) → SpendsUpgrade P T platform platform_now tape tape_now Done → P.tells → MayRiseBy 2 (P.changes platform) (P.changes platform_now)
+upgrade_changes P T platform platform_now tape tape_now Done (inl idle) told = let same = idle.2 told in record { rises = omega (arith, same); at_most = omega (arith, same) }
+upgrade_changes P T platform platform_now tape tape_now Done (inr on) told = on.changes told
+
 pub refused_goes : {S R W : Type 0} (P : PlatformGhosts S) (T : TapeGhosts R) (L : SinkGhosts W) (platform platform_now : S) (tape tape_now : R) (ledger ledger_now : W) (refusal : UpgradeRefusal) (Then : List (List ℕ) → Type 0)
     → IsUpgradeCause P T platform platform_now tape tape_now (counts (P.faults platform) (T.faults tape) 0 0 (L.faults ledger)) (counts (P.faults platform_now) (T.faults tape_now) 0 0 (L.faults ledger_now)) (Err refusal)
     → Refuses refusal upgrade.PlatformFault ⊎ (Refuses refusal upgrade.LedgerFault ⊎ (L.written ledger_now ≡ L.written ledger))
     → Discloses P.tells (T.drawn tape) (T.drawn tape_now) (P.history platform) (P.history platform_now) (λ keys. IsSound (P.history platform).present) Then
     → CertifiesUpgrade P.tells (L.written ledger) (L.written ledger_now) (P.history platform) (P.history platform_now) (IsOk {T = ℕ} {E = UpgradeRefusal} (Err refusal))
-    → (P.tells → (there : S) → length (P.history there).present.recorded ≡ P.head there) → PutsUpgrade P platform platform_now ledger ledger_now → Grows P T L platform platform_now tape tape_now ledger ledger_now
+    → (P.tells → (there : S) → length (P.history there).present.recorded ≡ P.head there) → PutsUpgrade P platform platform_now ledger ledger_now → (P.tells → MayRiseBy 2 (P.changes platform) (P.changes platform_now)) → Grows P T L platform platform_now tape tape_now ledger ledger_now
     → UpgradeGoes P T L platform platform_now tape tape_now ledger ledger_now (answer_of_refusal refusal)
-refused_goes P T L platform platform_now tape tape_now ledger ledger_now refusal Then cause unput discloses certifies counted synced grows =
+refused_goes P T L platform platform_now tape tape_now ledger ledger_now refusal Then cause unput discloses certifies counted synced changes grows =
     let old : History = P.history platform in
     let new : History = P.history platform_now in
     let before : Counts = counts (P.faults platform) (T.faults tape) 0 0 (L.faults ledger) in
@@ -129,6 +135,7 @@ refused_goes P T L platform platform_now tape tape_now ledger ledger_now refusal
         cause = blamed.1;
       };
       synced = synced;
+      changes = changes;
       puts = puts;
     }
 
@@ -137,9 +144,9 @@ pub upgraded_goes : {S R W : Type 0} (P : PlatformGhosts S) (T : TapeGhosts R) (
     → counts (P.faults platform_now) (T.faults tape_now) 0 0 (L.faults ledger_now) ≡ counts (P.faults platform) (T.faults tape) 0 0 (L.faults ledger)
     → Discloses P.tells (T.drawn tape) (T.drawn tape_now) (P.history platform) (P.history platform_now) (λ keys. IsSound (P.history platform).present) Then
     → CertifiesUpgrade P.tells (L.written ledger) (L.written ledger_now) (P.history platform) (P.history platform_now) (IsOk {T = ℕ} {E = UpgradeRefusal} (Ok number))
-    → (P.tells → (there : S) → length (P.history there).present.recorded ≡ P.head there) → PutsUpgrade P platform platform_now ledger ledger_now → Grows P T L platform platform_now tape tape_now ledger ledger_now
+    → (P.tells → (there : S) → length (P.history there).present.recorded ≡ P.head there) → PutsUpgrade P platform platform_now ledger ledger_now → (P.tells → MayRiseBy 2 (P.changes platform) (P.changes platform_now)) → Grows P T L platform platform_now tape tape_now ledger ledger_now
     → UpgradeGoes P T L platform platform_now tape tape_now ledger ledger_now (Ok (replies.Upgraded number))
-upgraded_goes P T L platform platform_now tape tape_now ledger ledger_now number root Then begins adds quiet discloses certifies counted synced grows =
+upgraded_goes P T L platform platform_now tape tape_now ledger ledger_now number root Then begins adds quiet discloses certifies counted synced changes grows =
     let old : History = P.history platform in
     let new : History = P.history platform_now in
     record {
@@ -155,5 +162,6 @@ upgraded_goes P T L platform platform_now tape tape_now ledger ledger_now number
         cause = tt;
       };
       synced = synced;
+      changes = changes;
       puts = tt;
     }

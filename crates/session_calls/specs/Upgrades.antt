@@ -5,6 +5,7 @@ use Rattle.sdbt_base.specs.Counts.{counts}
 use Rattle.sdbt_base.specs.declared.sinks.Sink.{Ghosts as SinkGhosts}
 use Rattle.sdbt_base.specs.declared.tapes.Tape.{Ghosts as TapeGhosts}
 use Rattle.platform.specs.declared.platforms.Platform.{Ghosts as PlatformGhosts}
+use Rattle.platform.specs.Counts.{MayRiseBy}
 use Rattle.platform.specs.Image.{LeavesOnly}
 use Rattle.platform.specs.History.{During, Turns}
 use Rattle.root_codec.specs.declared.root.Root.{Root}
@@ -56,7 +57,7 @@ PutsFor written written_now (Err stops.BadRoot) = written_now ≡ written
 PutsFor written written_now (Err (stops.BadRecord addr)) = written_now ≡ written
 
 -- what an upgrade does to a run without a session, whatever its answer: it adds at most the pages that it needs; keys are kept, and the ledger gets what belongs to the root record that comes into the
--- cell, and a part of an entry only where it stops; a stop at a fault came where the count of that object rose; and the pages that it needs are added, and all pages synced, before the ledger gets anything
+-- cell, and a part of an entry only where it stops; a stop at a fault came where the count of that object rose; and the pages that it needs are added, and all pages synced, before the ledger gets anything; it syncs once and replaces the root record once, at most
 pub record UpgradeGoes {S R W : Type 0} (P : PlatformGhosts S) (T : TapeGhosts R) (L : SinkGhosts W) (platform platform_now : S) (tape tape_now : R) (ledger ledger_now : W) (result : Result UpgradeReply DeviceStop) : Type 0 where
   pub capacity : P.capacity platform_now ≡ P.capacity platform
   pub rises : P.head platform ≤ P.head platform_now
@@ -65,6 +66,7 @@ pub record UpgradeGoes {S R W : Type 0} (P : PlatformGhosts S) (T : TapeGhosts R
       (λ keys. IfOk result (λ reply. IsListed None (P.history platform_now).present keys))
   pub blame : IsBlamed (counts (P.faults platform) (T.faults tape) 0 0 (L.faults ledger)) (counts (P.faults platform_now) (T.faults tape_now) 0 0 (L.faults ledger_now)) result
   pub synced : PutsUpgrade P platform platform_now ledger ledger_now
+  pub changes : P.tells → MayRiseBy 2 (P.changes platform) (P.changes platform_now)
   pub puts : PutsFor (L.written ledger) (L.written ledger_now) result
 
 -- an upgrade of the root record that was in the cell, with the next number: the pages that it needs are added, and the one that came into the cell is of version 2 and speaks of all of them

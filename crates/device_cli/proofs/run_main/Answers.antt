@@ -57,7 +57,7 @@ returns-in-Ok-clause-forgets g c =
     let new = around g.P.Platform g.T.Tape g.L.Sink c.run.new.platform c.run.new.tape c.run.new.ledger in
     let was : World = world_of g.P.Platform None c.args.platform.now in
     let ran = c.in-Ok.ensures.ran in
-    let ended = ended_run g.P.Platform.tells _ old new _ was (g.T.Tape.drawn c.args.tape.now) (g.T.Tape.drawn c.run.new.tape) ran.0 _ (Ok tt) _ _ _ _ refl refl refl refl ran.1 c.in-Ok.ensures.keeps in
+    let ended = ended_run g.P.Platform.tells _ old new _ was (g.T.Tape.drawn c.args.tape.now) (g.T.Tape.drawn c.run.new.tape) ran.0 _ _ (Ok tt) _ _ _ _ refl refl refl refl ran.1 c.in-Ok.ensures.keeps in
     forgets g.P.Platform.tells old new _ ended
 
 pub returns-in-Ok-clause-ledger : goal.returns-in-Ok-clause-ledger
@@ -66,7 +66,7 @@ returns-in-Ok-clause-ledger g c =
     let new = around g.P.Platform g.T.Tape g.L.Sink c.run.new.platform c.run.new.tape c.run.new.ledger in
     let was : World = world_of g.P.Platform None c.args.platform.now in
     let ran = c.in-Ok.ensures.ran in
-    let ended = ended_run g.P.Platform.tells _ old new _ was (g.T.Tape.drawn c.args.tape.now) (g.T.Tape.drawn c.run.new.tape) ran.0 _ (Ok tt) _ _ _ _ refl refl refl refl ran.1 c.in-Ok.ensures.keeps in
+    let ended = ended_run g.P.Platform.tells _ old new _ was (g.T.Tape.drawn c.args.tape.now) (g.T.Tape.drawn c.run.new.tape) ran.0 _ _ (Ok tt) _ _ _ _ refl refl refl refl ran.1 c.in-Ok.ensures.keeps in
     keeps_ledger g.P.Platform.tells old new _ _ (λ zero. refl) ended
 
 pub returns-in-Err-clause-serves : goal.returns-in-Err-clause-serves
@@ -82,7 +82,7 @@ returns-in-Err-clause-forgets g c =
     let new = around g.P.Platform g.T.Tape g.L.Sink c.run.new.platform c.run.new.tape c.run.new.ledger in
     let was : World = world_of g.P.Platform None c.args.platform.now in
     let ran = c.in-Err.ensures.ran in
-    let ended = ended_run g.P.Platform.tells _ old new _ was (g.T.Tape.drawn c.args.tape.now) (g.T.Tape.drawn c.run.new.tape) ran.0 _ (Err c.in-Err.stop) _ _ _ _ refl refl refl refl ran.1 c.in-Err.ensures.keeps in
+    let ended = ended_run g.P.Platform.tells _ old new _ was (g.T.Tape.drawn c.args.tape.now) (g.T.Tape.drawn c.run.new.tape) ran.0 _ _ (Err c.in-Err.stop) _ _ _ _ refl refl refl refl ran.1 c.in-Err.ensures.keeps in
     forgets g.P.Platform.tells old new _ ended
 
 pub returns-in-Err-clause-ledger : goal.returns-in-Err-clause-ledger
@@ -91,7 +91,7 @@ returns-in-Err-clause-ledger g c =
     let new = around g.P.Platform g.T.Tape g.L.Sink c.run.new.platform c.run.new.tape c.run.new.ledger in
     let was : World = world_of g.P.Platform None c.args.platform.now in
     let ran = c.in-Err.ensures.ran in
-    let ended = ended_run g.P.Platform.tells _ old new _ was (g.T.Tape.drawn c.args.tape.now) (g.T.Tape.drawn c.run.new.tape) ran.0 _ (Err c.in-Err.stop) _ _ _ _ refl refl refl refl ran.1 c.in-Err.ensures.keeps in
+    let ended = ended_run g.P.Platform.tells _ old new _ was (g.T.Tape.drawn c.args.tape.now) (g.T.Tape.drawn c.run.new.tape) ran.0 _ _ (Err c.in-Err.stop) _ _ _ _ refl refl refl refl ran.1 c.in-Err.ensures.keeps in
     keeps_ledger g.P.Platform.tells old new _ _ (λ zero. absurd (never_zero c.in-Err.stop (sym c.status.ensures ∙ zero))) ended
 
 -- a stop before the first line, over a cell that can't be served
@@ -364,7 +364,7 @@ returns-in-Ok-work-clause-forgets g c =
     let new = around g.P.Platform g.T.Tape g.L.Sink c.work.new.platform c.work.new.tape c.work.new.ledger in
     let was : World = world_of g.P.Platform None c.args.platform.now in
     let worked = c.in-Ok-work.ensures.worked in
-    let ended = ended_work g.P.Platform.tells old new _ c.in-Some-Work.seed c.in-Some-Work.count was (g.T.Tape.drawn c.args.tape.now) (g.T.Tape.drawn c.work.new.tape) worked.0 _ _ _ _ refl refl refl refl (g.met.P.Platform.has_room c.work.new.platform) worked.1 c.in-Ok-work.ensures.keeps in
+    let ended = ended_work g.P.Platform.tells old new _ c.in-Some-Work.seed c.in-Some-Work.count was (g.T.Tape.drawn c.args.tape.now) (g.T.Tape.drawn c.work.new.tape) worked.0 _ _ _ _ _ refl refl refl refl (g.met.P.Platform.has_room c.work.new.platform) worked.1 c.in-Ok-work.ensures.keeps in
     forgets g.P.Platform.tells old new _ ended
 
 pub returns-in-Ok-work-clause-ledger : goal.returns-in-Ok-work-clause-ledger
@@ -373,7 +373,7 @@ returns-in-Ok-work-clause-ledger g c =
     let new = around g.P.Platform g.T.Tape g.L.Sink c.work.new.platform c.work.new.tape c.work.new.ledger in
     let was : World = world_of g.P.Platform None c.args.platform.now in
     let worked = c.in-Ok-work.ensures.worked in
-    let ended = ended_work g.P.Platform.tells old new _ c.in-Some-Work.seed c.in-Some-Work.count was (g.T.Tape.drawn c.args.tape.now) (g.T.Tape.drawn c.work.new.tape) worked.0 _ _ _ _ refl refl refl refl (g.met.P.Platform.has_room c.work.new.platform) worked.1 c.in-Ok-work.ensures.keeps in
+    let ended = ended_work g.P.Platform.tells old new _ c.in-Some-Work.seed c.in-Some-Work.count was (g.T.Tape.drawn c.args.tape.now) (g.T.Tape.drawn c.work.new.tape) worked.0 _ _ _ _ _ refl refl refl refl (g.met.P.Platform.has_room c.work.new.platform) worked.1 c.in-Ok-work.ensures.keeps in
     keeps_ledger g.P.Platform.tells old new _ _ (λ zero. refl) ended
 
 pub returns-in-Ok-work-clause-works : goal.returns-in-Ok-work-clause-works
@@ -398,7 +398,7 @@ returns-in-Err-work-clause-forgets g c =
     let new = around g.P.Platform g.T.Tape g.L.Sink c.work.new.platform c.work.new.tape c.work.new.ledger in
     let was : World = world_of g.P.Platform None c.args.platform.now in
     let worked = c.in-Err-work.ensures.worked in
-    let ended = ended_work g.P.Platform.tells old new _ c.in-Some-Work.seed c.in-Some-Work.count was (g.T.Tape.drawn c.args.tape.now) (g.T.Tape.drawn c.work.new.tape) worked.0 _ _ _ _ refl refl refl refl (g.met.P.Platform.has_room c.work.new.platform) worked.1 c.in-Err-work.ensures.keeps in
+    let ended = ended_work g.P.Platform.tells old new _ c.in-Some-Work.seed c.in-Some-Work.count was (g.T.Tape.drawn c.args.tape.now) (g.T.Tape.drawn c.work.new.tape) worked.0 _ _ _ _ _ refl refl refl refl (g.met.P.Platform.has_room c.work.new.platform) worked.1 c.in-Err-work.ensures.keeps in
     forgets g.P.Platform.tells old new _ ended
 
 pub returns-in-Err-work-clause-ledger : goal.returns-in-Err-work-clause-ledger
@@ -407,7 +407,7 @@ returns-in-Err-work-clause-ledger g c =
     let new = around g.P.Platform g.T.Tape g.L.Sink c.work.new.platform c.work.new.tape c.work.new.ledger in
     let was : World = world_of g.P.Platform None c.args.platform.now in
     let worked = c.in-Err-work.ensures.worked in
-    let ended = ended_work g.P.Platform.tells old new _ c.in-Some-Work.seed c.in-Some-Work.count was (g.T.Tape.drawn c.args.tape.now) (g.T.Tape.drawn c.work.new.tape) worked.0 _ _ _ _ refl refl refl refl (g.met.P.Platform.has_room c.work.new.platform) worked.1 c.in-Err-work.ensures.keeps in
+    let ended = ended_work g.P.Platform.tells old new _ c.in-Some-Work.seed c.in-Some-Work.count was (g.T.Tape.drawn c.args.tape.now) (g.T.Tape.drawn c.work.new.tape) worked.0 _ _ _ _ _ refl refl refl refl (g.met.P.Platform.has_room c.work.new.platform) worked.1 c.in-Err-work.ensures.keeps in
     keeps_ledger g.P.Platform.tells old new _ _ (λ zero. absurd (never_zero c.in-Err-work.stop (sym c.status-in-Err-work.ensures ∙ zero))) ended
 
 pub returns-in-Err-work-clause-works : goal.returns-in-Err-work-clause-works

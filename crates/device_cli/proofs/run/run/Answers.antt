@@ -32,7 +32,7 @@ returns-in-Err-clause-ran g c =
       None,
       Ran-ended P.tells _ old new (O.faults c.last_line.new.output ≡ O.faults c.args.output.now) (Rose (O.faults c.args.output.now) (O.faults c.last_line.new.output)) c.in-Err.stop c.last_line.result
           (g.I.Source.left c.args.input.now) (g.I.Source.left c.args.input.now) (written c.args.output.now) (written c.args.output.now) (written c.last_line.new.output)
-          (Ran-refused P.tells _ old new c.in-Err.stop (g.I.Source.left c.args.input.now) (written c.args.output.now) stops_at refl later c.check_cell.ensures.reads_cell.head (λ told. (c.check_cell.ensures.reads_cell.reads told).by_one) refl refl (λ told. (c.check_cell.ensures.reads_cell.time told).extends) c.check_cell.ensures.reads_cell.image
+          (Ran-refused P.tells _ old new c.in-Err.stop (g.I.Source.left c.args.input.now) (written c.args.output.now) stops_at refl later c.check_cell.ensures.reads_cell.head (λ told. ((c.check_cell.ensures.reads_cell.reads told).by_one, c.check_cell.ensures.reads_cell.changes told)) refl refl (λ told. (c.check_cell.ensures.reads_cell.time told).extends) c.check_cell.ensures.reads_cell.image
           (λ told entry rep. still_after old new entry refl (c.check_cell.ensures.reads_cell.image told) (c.check_cell.ensures.reads_cell.time told) c.check_cell.ensures.reads_cell.head rep)
           (λ told entry rep. sound_of c.in-Err.stop stops_at (λ e. c.in-Err.ensures.bad_root told (cc) rep.served)))
           c.last_line.ensures.stop,
@@ -52,7 +52,7 @@ returns-in-Device-clause-ran g c =
       Ran-ended P.tells _ old new (O.faults c.last_line-in-Device.new.output ≡ O.faults c.serve_input.new.output) (Rose (O.faults c.serve_input.new.output) (O.faults c.last_line-in-Device.new.output)) c.in-Device.stop c.last_line-in-Device.result
           (left c.args.input.now) (left c.serve_input.new.input) (written c.args.output.now) (written c.serve_input.new.output) (written c.last_line-in-Device.new.output)
           (Ran-begun P.tells _ old new no_line _ _ _ _ _ (Ran-after P.tells old mid new no_line (Err (stops.Device c.in-Device.stop)) (left c.args.input.now) (left c.serve_input.new.input) (written c.args.output.now) (written c.serve_input.new.output)
-          later c.check_cell.ensures.reads_cell.head (λ told. (c.check_cell.ensures.reads_cell.reads told).by_one) c.new-desk.ensures.session refl (λ told. (c.check_cell.ensures.reads_cell.time told).extends) c.check_cell.ensures.reads_cell.image
+          later c.check_cell.ensures.reads_cell.head (λ told. ((c.check_cell.ensures.reads_cell.reads told).by_one, c.check_cell.ensures.reads_cell.changes told)) c.new-desk.ensures.session refl (λ told. (c.check_cell.ensures.reads_cell.time told).extends) c.check_cell.ensures.reads_cell.image
           (λ told entry rep. still_after old mid entry c.new-desk.ensures.session (c.check_cell.ensures.reads_cell.image told) (c.check_cell.ensures.reads_cell.time told) c.check_cell.ensures.reads_cell.head rep)
           (rw c.in-Device.is at c.in-Err-serve_input.ensures.ran)))
           c.last_line-in-Device.ensures.stop,
@@ -71,7 +71,7 @@ returns-clause-ran g c =
       Ran-other P.tells _ old new (Err c.in-Err-serve_input.stop) (left c.args.input.now) (left c.serve_input.new.input) (written c.args.output.now) (written c.serve_input.new.output)
           (λ stop e. c.in_default-stop.not-Device stop (cc))
           (Ran-begun P.tells _ old new no_line _ _ _ _ _ (Ran-after P.tells old mid new no_line (Err c.in-Err-serve_input.stop) (left c.args.input.now) (left c.serve_input.new.input) (written c.args.output.now) (written c.serve_input.new.output)
-          later c.check_cell.ensures.reads_cell.head (λ told. (c.check_cell.ensures.reads_cell.reads told).by_one) c.new-desk.ensures.session refl (λ told. (c.check_cell.ensures.reads_cell.time told).extends) c.check_cell.ensures.reads_cell.image
+          later c.check_cell.ensures.reads_cell.head (λ told. ((c.check_cell.ensures.reads_cell.reads told).by_one, c.check_cell.ensures.reads_cell.changes told)) c.new-desk.ensures.session refl (λ told. (c.check_cell.ensures.reads_cell.time told).extends) c.check_cell.ensures.reads_cell.image
           (λ told entry rep. still_after old mid entry c.new-desk.ensures.session (c.check_cell.ensures.reads_cell.image told) (c.check_cell.ensures.reads_cell.time told) c.check_cell.ensures.reads_cell.head rep)
           c.in-Err-serve_input.ensures.ran)),
     )
@@ -89,7 +89,7 @@ returns-in_default-clause-ran g c =
       Ran-other P.tells _ old new (Ok tt) (left c.args.input.now) (left c.serve_input.new.input) (written c.args.output.now) (written c.serve_input.new.output)
           (λ stop e. cc)
           (Ran-begun P.tells _ old new no_line _ _ _ _ _ (Ran-after P.tells old mid new no_line (Ok tt) (left c.args.input.now) (left c.serve_input.new.input) (written c.args.output.now) (written c.serve_input.new.output)
-          later c.check_cell.ensures.reads_cell.head (λ told. (c.check_cell.ensures.reads_cell.reads told).by_one) c.new-desk.ensures.session refl (λ told. (c.check_cell.ensures.reads_cell.time told).extends) c.check_cell.ensures.reads_cell.image
+          later c.check_cell.ensures.reads_cell.head (λ told. ((c.check_cell.ensures.reads_cell.reads told).by_one, c.check_cell.ensures.reads_cell.changes told)) c.new-desk.ensures.session refl (λ told. (c.check_cell.ensures.reads_cell.time told).extends) c.check_cell.ensures.reads_cell.image
           (λ told entry rep. still_after old mid entry c.new-desk.ensures.session (c.check_cell.ensures.reads_cell.image told) (c.check_cell.ensures.reads_cell.time told) c.check_cell.ensures.reads_cell.head rep)
           c.in_default.ensures.ran)),
     )

@@ -19,7 +19,7 @@ use Rattle.device_cli.proofs.desk.Desk.commit.Goals as goal
 pub returns-in_default-clause-answered : goal.returns-in_default-clause-answered
 returns-in_default-clause-answered g c told entry rep =
     let P = g.P.Platform in
-    serves_unmounted c.args.self.now.session c.take.new.self (P.history c.args.platform.now) (P.head c.args.platform.now) (P.capacity c.args.platform.now) (P.reads c.args.platform.now) entry Commit
+    serves_unmounted c.args.self.now.session c.take.new.self (P.history c.args.platform.now) (P.head c.args.platform.now) (P.capacity c.args.platform.now) (P.reads c.args.platform.now) (P.changes c.args.platform.now) entry Commit
     (sym c.take.ensures.value ∙ c.in_default.is) c.take.ensures.after (λ full there. gives_unmounted_commit full there) rep
 
 pub returns-in_default-clause-keeps : goal.returns-in_default-clause-keeps

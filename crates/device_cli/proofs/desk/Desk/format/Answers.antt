@@ -167,6 +167,7 @@ returns-in-Ok-clause-after g c = record {
   bad_root = search rules;
   capacity = search rules;
   rises = search rules;
+  changes = search rules;
   added = search rules;
   full = search rules;
 }

@@ -18,7 +18,7 @@ returns-then-is_none-clause-answered g c told entry rep =
     let P = g.P.Platform in
     let held = c.args.self.now.session in
     let none : held ≡ None = grind (arith, common_steps, c.is_none.ensures, c.if-is_none.true) in
-    serves_unmounted held held (P.history c.args.platform.now) (P.head c.args.platform.now) (P.capacity c.args.platform.now) (P.reads c.args.platform.now) entry commands.Drop none none
+    serves_unmounted held held (P.history c.args.platform.now) (P.head c.args.platform.now) (P.capacity c.args.platform.now) (P.reads c.args.platform.now) (P.changes c.args.platform.now) entry commands.Drop none none
     (λ full there. gives_unmounted_drop full there) rep
 
 pub returns-clause-answered : goal.returns-clause-answered
@@ -28,7 +28,7 @@ returns-clause-answered g c told entry rep =
     let old : World = world_of P held c.args.platform.now in
     let new : World = world_of P c.close.new.self.session c.args.platform.now in
     some_of held (λ none. grind (arith, common_steps, none, c.is_none.ensures, c.if-is_none.false)) (Serves old new entry commands.Drop (Ok replies.Dropped))
-    (λ session some. serves_drop held c.close.new.self.session (P.history c.args.platform.now) (P.head c.args.platform.now) (P.capacity c.args.platform.now) (P.reads c.args.platform.now) entry session some c.close.ensures.session rep)
+    (λ session some. serves_drop held c.close.new.self.session (P.history c.args.platform.now) (P.head c.args.platform.now) (P.capacity c.args.platform.now) (P.reads c.args.platform.now) (P.changes c.args.platform.now) entry session some c.close.ensures.session rep)
 
 pub returns-clause-enough : goal.returns-clause-enough
 returns-clause-enough g c updates enough = enough_none c.close.new.self.session updates c.close.ensures.session

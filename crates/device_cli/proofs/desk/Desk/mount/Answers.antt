@@ -22,7 +22,7 @@ returns-then-is_some-clause-answered g c told entry rep =
     let P = g.P.Platform in
     let old : World = world_of P c.args.self.now.session c.args.platform.now in
     some_of c.args.self.now.session (λ none. grind (arith, common_steps, none, c.is_some.ensures, c.if-is_some.true)) (Serves old old entry commands.Mount (Ok replies.AlreadyMounted))
-    (λ session some. serves_already c.args.self.now.session (P.history c.args.platform.now) (P.head c.args.platform.now) (P.capacity c.args.platform.now) (P.reads c.args.platform.now) entry session some rep)
+    (λ session some. serves_already c.args.self.now.session (P.history c.args.platform.now) (P.head c.args.platform.now) (P.capacity c.args.platform.now) (P.reads c.args.platform.now) (P.changes c.args.platform.now) entry session some rep)
 
 pub returns-then-is_some-clause-keeps : goal.returns-then-is_some-clause-keeps
 returns-then-is_some-clause-keeps g c = λ drawn written. on_start _ drawn written c.args.self.now.session _ _

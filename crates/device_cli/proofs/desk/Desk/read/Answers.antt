@@ -10,14 +10,14 @@ use Rattle.script_lang.specs.Replies.{Reply}
 use Rattle.script_lang.specs.Commands.{Read}
 use Rattle.script_lang.specs.Replies as replies
 use Rattle.device_cli.specs.Causes.{IsLookedUp, LeavesHeld, MayReply}
-use Rattle.device_cli.specs.Looks.{IsWarmFor}
+use Rattle.device_cli.specs.Looks.{IsWarmFor, most_changes}
 use Rattle.device_cli.specs.Pages.{updates_after}
 use Rattle.device_cli.specs.Parts.{added_by}
 use Rattle.device_cli.specs.Replied.{Serves}
 use Rattle.device_cli.specs.World.{AreEnough, World, is_full, needed_of, world_of}
 use Rattle.device_cli.proofs.CallLaws.{after_stopped, halts_led, mounted_has, mounted_held, no_draw, no_root, on_held, past_device, room_held, read_sound, read_stops, serves_led, within_device}
 use Rattle.device_cli.proofs.EnoughLaws.{enough_less}
-use Rattle.device_cli.proofs.LookLaws.{has_room, open_there, read_cost, warm_after, warm_there}
+use Rattle.device_cli.proofs.LookLaws.{has_room, open_there, read_cost, warm_after, warm_there, changed_not}
 use Rattle.device_cli.proofs.ReplyLaws.{held_has}
 use Rattle.device_cli.proofs.ServedLaws.{gives_unmounted_read, gives_content, gives_read_range}
 use Rattle.device_cli.proofs.ServingLaws.{keeps_same, serves_unmounted}
@@ -28,7 +28,7 @@ pub returns-in_default-clause-answered : goal.returns-in_default-clause-answered
 returns-in_default-clause-answered g c told entry rep =
     let P = g.P.Platform in
     let none : c.args.self.now.session ≡ None = grind (arith, common_steps, c.in_default.is) in
-    serves_unmounted c.args.self.now.session c.args.self.now.session (P.history c.args.platform.now) (P.head c.args.platform.now) (P.capacity c.args.platform.now) (P.reads c.args.platform.now) entry (Read c.args.block) none none
+    serves_unmounted c.args.self.now.session c.args.self.now.session (P.history c.args.platform.now) (P.head c.args.platform.now) (P.capacity c.args.platform.now) (P.reads c.args.platform.now) (P.changes c.args.platform.now) entry (Read c.args.block) none none
     (λ full there. gives_unmounted_read full there c.args.block) rep
 
 pub returns-in_default-clause-keeps : goal.returns-in_default-clause-keeps
@@ -63,6 +63,7 @@ returns-clause-after g c =
       bad_root = λ told e. cc;
       capacity = along.capacity;
       rises = along.rises;
+      changes = λ told. changed_not (most_changes _) _ _ (along.changes told);
       added = tt;
       full = search rules;
     }
@@ -117,7 +118,7 @@ stopped g c = let p = err_from_is_err_and c.from_residual.result c.from_residual
 pub returns-in_err-read_block-clause-after : goal.returns-in_err-read_block-clause-after
 returns-in_err-read_block-clause-after g c =
     let goes = c.in_err-read_block.ensures.goes (no_draw None) in
-    rw (stopped g c) (after_stopped g.P.Platform _ _ _ _ (Read c.args.block) c.in_err-read_block.field-0.0 (no_root _ goes.stops) goes.along.capacity goes.along.rises (omega (arith, goes.along.adds)))
+    rw (stopped g c) (after_stopped g.P.Platform _ _ _ _ (Read c.args.block) c.in_err-read_block.field-0.0 (no_root _ goes.stops) goes.along.capacity goes.along.rises goes.along.changes (omega (arith, goes.along.adds)))
 
 pub returns-in_err-read_block-clause-blame : goal.returns-in_err-read_block-clause-blame
 returns-in_err-read_block-clause-blame g c =

@@ -13,13 +13,13 @@ pub returns-in-Some-clause-answered : goal.returns-in-Some-clause-answered
 returns-in-Some-clause-answered g c told entry rep =
     let P = g.P.Platform in
     let head = P.head c.args.platform.now in
-    serves_stat c.args.self.now.session (P.history c.args.platform.now) head (P.capacity c.args.platform.now) (P.reads c.args.platform.now) entry c.in-Some.session c.mapped.result c.number.result c.in-Some.is
+    serves_stat c.args.self.now.session (P.history c.args.platform.now) head (P.capacity c.args.platform.now) (P.reads c.args.platform.now) (P.changes c.args.platform.now) entry c.in-Some.session c.mapped.result c.number.result c.in-Some.is
     (λ d t holds. (c.mapped.ensures ∙ mapped_len c.in-Some.session (P.history c.args.platform.now).present d t.contents holds, c.number.ensures ∙ holds.stands.number)) rep
 
 pub returns-in-None-clause-answered : goal.returns-in-None-clause-answered
 returns-in-None-clause-answered g c told entry rep =
     let P = g.P.Platform in
-    serves_unmounted c.args.self.now.session c.args.self.now.session (P.history c.args.platform.now) (P.head c.args.platform.now) (P.capacity c.args.platform.now) (P.reads c.args.platform.now) entry commands.Stat c.in-None.is c.in-None.is
+    serves_unmounted c.args.self.now.session c.args.self.now.session (P.history c.args.platform.now) (P.head c.args.platform.now) (P.capacity c.args.platform.now) (P.reads c.args.platform.now) (P.changes c.args.platform.now) entry commands.Stat c.in-None.is c.in-None.is
     (λ full there. gives_unmounted_stat full there) rep
 
 pub returns-in-Some-clause-looks : goal.returns-in-Some-clause-looks

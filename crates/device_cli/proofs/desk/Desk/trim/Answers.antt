@@ -10,9 +10,9 @@ use Rattle.script_lang.specs.Commands.{Trim}
 use Rattle.script_lang.specs.Replies as replies
 use Rattle.device_cli.specs.World.{World, is_full, world_of}
 use Rattle.device_cli.proofs.CallLaws.{after_stopped, halts_led, mounted_has, mounted_held, no_draw, no_root, on_held, past_device, room_held, serves_led, trim_sound, trim_stops, within_device}
-use Rattle.device_cli.specs.Looks.{IsWarmFor}
+use Rattle.device_cli.specs.Looks.{IsWarmFor, most_changes}
 use Rattle.device_cli.proofs.EnoughLaws.{enough_more}
-use Rattle.device_cli.proofs.LookLaws.{still_warm, update_cost}
+use Rattle.device_cli.proofs.LookLaws.{still_warm, update_cost, changed_not}
 use Rattle.device_cli.proofs.ReplyLaws.{held_has}
 use Rattle.device_cli.proofs.ServedLaws.{gives_unmounted_trim, gives_trimmed, gives_trim_range}
 use Rattle.device_cli.proofs.ServingLaws.{keeps_same, serves_unmounted}
@@ -23,7 +23,7 @@ pub returns-in_default-clause-answered : goal.returns-in_default-clause-answered
 returns-in_default-clause-answered g c told entry rep =
     let P = g.P.Platform in
     let none : c.args.self.now.session ≡ None = grind (arith, common_steps, c.in_default.is) in
-    serves_unmounted c.args.self.now.session c.args.self.now.session (P.history c.args.platform.now) (P.head c.args.platform.now) (P.capacity c.args.platform.now) (P.reads c.args.platform.now) entry (Trim c.args.block) none none
+    serves_unmounted c.args.self.now.session c.args.self.now.session (P.history c.args.platform.now) (P.head c.args.platform.now) (P.capacity c.args.platform.now) (P.reads c.args.platform.now) (P.changes c.args.platform.now) entry (Trim c.args.block) none none
     (λ full there. gives_unmounted_trim full there c.args.block) rep
 
 pub returns-in_default-clause-keeps : goal.returns-in_default-clause-keeps
@@ -58,6 +58,7 @@ returns-clause-after g c =
       bad_root = λ told e. cc;
       capacity = along.capacity;
       rises = along.rises;
+      changes = λ told. changed_not (most_changes _) _ _ (along.changes told);
       added = tt;
       full = λ e. cc;
     }
@@ -103,7 +104,7 @@ stopped g c = let p = err_from_is_err_and c.from_residual.result c.from_residual
 pub returns-in_err-trim_block-clause-after : goal.returns-in_err-trim_block-clause-after
 returns-in_err-trim_block-clause-after g c =
     let goes = c.in_err-trim_block.ensures.goes (no_draw None) in
-    rw (stopped g c) (after_stopped g.P.Platform _ _ _ _ (Trim c.args.block) c.in_err-trim_block.field-0.0 (no_root _ goes.stops) goes.along.capacity goes.along.rises (omega (arith, c.in_err-trim_block.ensures.head)))
+    rw (stopped g c) (after_stopped g.P.Platform _ _ _ _ (Trim c.args.block) c.in_err-trim_block.field-0.0 (no_root _ goes.stops) goes.along.capacity goes.along.rises goes.along.changes (omega (arith, c.in_err-trim_block.ensures.head)))
 
 pub returns-in_err-trim_block-clause-blame : goal.returns-in_err-trim_block-clause-blame
 returns-in_err-trim_block-clause-blame g c =

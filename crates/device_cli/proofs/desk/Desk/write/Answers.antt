@@ -10,9 +10,9 @@ use Rattle.script_lang.specs.Commands.{Write}
 use Rattle.script_lang.specs.Replies as replies
 use Rattle.device_cli.specs.World.{World, is_full, world_of}
 use Rattle.device_cli.proofs.CallLaws.{after_stopped, halts_led, mounted_has, mounted_held, no_root, on_held, past_device, room_held, serves_led, within_device, write_added, write_kept, write_sound, write_stops}
-use Rattle.device_cli.specs.Looks.{IsWarmFor}
+use Rattle.device_cli.specs.Looks.{IsWarmFor, most_changes}
 use Rattle.device_cli.proofs.EnoughLaws.{enough_more}
-use Rattle.device_cli.proofs.LookLaws.{still_warm, update_cost}
+use Rattle.device_cli.proofs.LookLaws.{still_warm, update_cost, changed_not}
 use Rattle.page_store.proofs.KeepingLaws.{drew_none}
 use Rattle.device_cli.proofs.ReplyLaws.{held_has}
 use Rattle.device_cli.proofs.ServedLaws.{gives_unmounted_write, gives_write_full, gives_write_range, gives_written, is_full_false, is_full_true}
@@ -25,7 +25,7 @@ returns-in_default-clause-answered g c told entry rep =
     let P = g.P.Platform in
     let bytes : List ℕ = take c.args.count c.args.self.now.buffer in
     let none : c.args.self.now.session ≡ None = grind (arith, common_steps, c.in_default.is) in
-    serves_unmounted c.args.self.now.session c.args.self.now.session (P.history c.args.platform.now) (P.head c.args.platform.now) (P.capacity c.args.platform.now) (P.reads c.args.platform.now) entry (Write c.args.block bytes) none none
+    serves_unmounted c.args.self.now.session c.args.self.now.session (P.history c.args.platform.now) (P.head c.args.platform.now) (P.capacity c.args.platform.now) (P.reads c.args.platform.now) (P.changes c.args.platform.now) entry (Write c.args.block bytes) none none
     (λ full there. gives_unmounted_write full there c.args.block bytes) rep
 
 pub returns-in_default-clause-keeps : goal.returns-in_default-clause-keeps
@@ -76,6 +76,7 @@ returns-clause-after g c =
       bad_root = λ told e. cc;
       capacity = along.capacity;
       rises = along.rises;
+      changes = λ told. changed_not (most_changes _) _ _ (along.changes told);
       added = tt;
       full = λ e. cc;
     }
@@ -129,7 +130,7 @@ pub returns-in_err-write_block-clause-after : goal.returns-in_err-write_block-cl
 returns-in_err-write_block-clause-after g c =
     let bytes : List ℕ = take c.args.count c.args.self.now.buffer in
     let goes = c.in_err-write_block.ensures.goes in
-    rw (stopped g c) (after_stopped g.P.Platform _ _ _ _ (Write c.args.block bytes) c.in_err-write_block.field-0.0 (no_root _ goes.stops) goes.along.capacity goes.along.rises
+    rw (stopped g c) (after_stopped g.P.Platform _ _ _ _ (Write c.args.block bytes) c.in_err-write_block.field-0.0 (no_root _ goes.stops) goes.along.capacity goes.along.rises goes.along.changes
     (write_added g.P.Platform g.T.Tape _ _ _ _ c.args.block bytes _ c.in_err-write_block.field-0.0 goes.along.adds c.in_err-write_block.ensures.adds))
 
 pub returns-in_err-write_block-clause-blame : goal.returns-in_err-write_block-clause-blame
