@@ -128,6 +128,7 @@ after_stopped P before desk old new command stop none capacity rises same added 
   mounted = λ told. tt;
   reply = tt;
   short = tt;
+  wiped = tt;
   bad_root = λ told. none;
   capacity = capacity;
   rises = rises;

@@ -1,19 +1,17 @@
 -- What an exit status says, by how the order ended that the words give.
 use Rattle.std.proofs.Common.{◌≡◌, ◌≤◌, ◌<◌, ◌^◌, ◌⊎◌, ◌↔◌, ℕ, List, [], Option, Result, Ok, Err, inl, inr, length, refl, sym, ◌∙◌, subst, arith}
-use Rattle.std.specs.Prelude.{IfErr, OnOk}
 use Rattle.sdbt_base.specs.Counts.{Counts, NoneFell}
 use Rattle.sdbt_base.specs.Told.{Gave}
 use Rattle.platform.specs.Image.{Image}
-use Rattle.ledger_check.specs.Judging.{IsWhole}
 use Rattle.session_calls.specs.Handed.{IsBlamedAt}
 use Rattle.line_run.specs.Stops.{Ending, HasCause, IsBlamedOn, TookUntil, exit_of, status_of}
 use Rattle.line_run.proofs.StopLaws.{ArePart, IsPart, cause_wide, done_wide}
 use Rattle.device_cli.specs.Checks.{Checks, IsSaid, status_at}
 use Rattle.device_cli.specs.Handed.{Handed}
-use Rattle.device_cli.specs.Program.{Exits, IsStatusOf}
+use Rattle.device_cli.specs.Program.{Exits}
 use Rattle.device_cli.specs.Run.{IsStatus, Took}
 use Rattle.device_cli.specs.Seizing.{Seizes}
-use Rattle.device_cli.specs.Words.{AreWords, AreRunWords, AreCheckWords, AreSeizeWords, AreSomeWorkWords, AreWorkWords}
+use Rattle.device_cli.specs.Words.{AreWords, AreRunWords, AreCheckWords, AreSeizeWords, AreWorkWords}
 use Rattle.device_cli.specs.Working.{IsIdle, Worked}
 use Rattle.device_cli.specs.World.{World}
 use Rattle.device_cli.specs.declared.checking.Finding.{Finding}

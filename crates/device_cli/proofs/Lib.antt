@@ -14,6 +14,7 @@ pub mod RepliedLaws
 pub mod Serving
 pub mod RanLaws
 pub mod StillLaws
+pub mod WipedLaws
 pub mod ScriptLaws
 pub mod CompleteLaws
 pub mod ServedLaws

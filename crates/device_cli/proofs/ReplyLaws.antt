@@ -4,13 +4,13 @@ use Rattle.std.specs.Prelude.{◌≢◌, ◌⊎◌, IfSome, IfOk, IfErr}
 use Rattle.std.proofs.lemmas.Bool.{cases_Bool}
 use Rattle.platform.specs.Image.{Image}
 use Rattle.platform.specs.History.{History, Extends, image_at, moment}
-use Rattle.platform.proofs.Moments.{image_at-now, Extends-refl, Extends-trans}
+use Rattle.platform.proofs.Moments.{image_at-now, Extends-trans}
 use Rattle.root_codec.specs.RootRecord.{FitsRoot}
 use Rattle.device_session.specs.Open.{IsOpen, is_touched, number_of, root_of}
 use Rattle.device_session.specs.Sessions.{Session}
-use Rattle.script_lang.specs.Grammar.{Spells, IsBad}
+use Rattle.script_lang.specs.Grammar.{Spells}
 use Rattle.script_lang.specs.Commands.{Command, Format}
-use Rattle.script_lang.specs.Replies.{Reply, Bad, said}
+use Rattle.script_lang.specs.Replies.{Reply, said}
 use Rattle.script_lang.specs.Arrays.{in_limits}
 use Rattle.script_lang.specs.declared.replies.Reply.{Reply as Given}
 use Rattle.script_lang.specs.declared.replies.Reply.TheVariants as given

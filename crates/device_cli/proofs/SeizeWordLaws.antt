@@ -1,19 +1,22 @@
 -- What follows of the word `seize`, by its exit status.
 use Rattle.std.proofs.Common.{◌≡◌, ℕ, zero, suc, ◌<◌, ◌+◌, List, [], ◌∷◌, ◌++◌, Option, None, Some, Ok, Err, ◌⊎◌, inl, inr, length, take, drop, get_or, refl, sym, ◌∙◌, subst, ap, arith, append_assoc, append-nil}
-use Rattle.std.specs.Prelude.{IfErr, flat_map}
+use Rattle.std.specs.Prelude.{◌≢◌, IfErr, flat_map}
 use Rattle.sdbt_base.specs.Told.{Got, GotPart}
 use Rattle.sdbt_base.proofs.ToldLaws.{Got-then, GotPart-then}
 use Rattle.platform.specs.Image.{Image}
-use Rattle.page_store.specs.Roots.{IsBadCell}
+use Rattle.page_store.specs.Roots.{IsBadCell, IsRootWithin}
 use Rattle.seizure.specs.Reads.{ReadsFew}
-use Rattle.seizure.specs.Report.{Begins, Seized}
+use Rattle.seizure.specs.Report.{Begins, BeginsSome, Holds, Seized, roots_of}
+use Rattle.seizure.proofs.SearchLaws.{given_some}
+use Rattle.root_codec.specs.declared.root.Root.{Root}
+use Rattle.root_codec.specs.RootRecord.{root_bytes}
 use Rattle.device_terms.specs.Served.{IsServedCell}
 use Rattle.seizure.specs.declared.opened.Opened.{Opened}
 use Rattle.line_run.specs.Stops.{Ending, IsSound, exit_of, HasCause}
 use Rattle.line_run.specs.Puts.{HasPut, damage_line}
 use Rattle.sdbt_base.specs.Counts.{Counts, NoneRose}
 use Rattle.device_cli.specs.Given.{AreGiven, HasBadRecord}
-use Rattle.device_cli.specs.Seizing.{IsReportOf, IsRefused, ReadsFewFor, Seizes, opened_line}
+use Rattle.device_cli.specs.Seizing.{HasKeys, IsReportOf, IsRefused, ReadsFewFor, Seizes, opened_line}
 use Rattle.session_calls.specs.declared.stops.DeviceStop.{DeviceStop}
 use Rattle.session_calls.specs.declared.stops.DeviceStop.TheVariants as device
 use Rattle.line_run.specs.declared.stop.Stop.TheVariants as stops
@@ -27,10 +30,37 @@ pub not_bad : (cell : Option (List ℕ)) (pages : ℕ) → IsServedCell cell pag
 not_bad None pages served bad = bad.full refl
 not_bad (Some bytes) pages (root, served, is) bad = bad.bad root served (ap Some is)
 
--- nor is one from whose key chains begin
+-- nor is one that is empty, or holds the root record of a root within the pages
+pub held_not_bad : (head : ℕ) (cell : Option (List ℕ)) → (root : Option Root) × Holds head cell root → IsBadCell head cell → ⊥
+held_not_bad head cell (None, holds) bad = bad.full holds
+held_not_bad head cell (Some root, holds) bad = bad.bad root holds.0 holds.1
+
+-- nor one from whose key chains begin
 begun_not_bad : (head : ℕ) (cell : Option (List ℕ)) (keys roots : List (List ℕ)) → Begins head cell keys roots → IsBadCell head cell → ⊥
-begun_not_bad head cell keys roots (None, holds, is) bad = bad.full holds
-begun_not_bad head cell keys roots (Some root, holds, is) bad = bad.bad root holds.0 holds.1
+begun_not_bad head cell keys roots (root, holds, is) bad = held_not_bad head cell (root, holds) bad
+
+some_not_bad : (head : ℕ) (cell : Option (List ℕ)) (keys : List (List ℕ)) → BeginsSome head cell keys → IsBadCell head cell → ⊥
+some_not_bad head cell keys (roots, begins, some) bad = begun_not_bad head cell keys roots begins bad
+
+-- where no key is given, chains begin with that of the root record in the cell
+pub root_begun : (head : ℕ) (cell : Option (List ℕ)) → BeginsSome head cell [] → (root : Root) × IsRootWithin head root × (cell ≡ Some (root_bytes root))
+root_begun head cell (roots, (None, holds, is), some) = absurd (some is)
+root_begun head cell (roots, (Some root, holds, is), some) = (root, holds.0, holds.1)
+
+-- where keys are given, with these, over a cell that is good
+words_begin : (head : ℕ) (cell : Option (List ℕ)) (keys : List (List ℕ)) → keys ≢ [] → (root : Option Root) × Holds head cell root → BeginsSome head cell keys
+words_begin head cell keys some (root, holds) = (roots_of keys root, (root, holds, refl), given_some keys root some)
+
+-- with some key, behind the first look at the cell, over the same image
+pub begins_for : (head head_then : ℕ) (image image_then : Image) (keys keys_then : List (List ℕ)) → head_then ≡ head → image_then ≡ image → keys_then ≡ keys
+    → (root : Option Root) × Holds head image.cell root → (keys_then ≢ []) ⊎ BeginsSome head_then image_then.cell keys_then → BeginsSome head image.cell keys
+begins_for head head_then image image_then keys keys_then there same these good either =
+    let at_head = subst (λ (h : ℕ). (keys_then ≢ []) ⊎ BeginsSome h image_then.cell keys_then) there either in
+    let at_image = subst (λ (i : Image). (keys_then ≢ []) ⊎ BeginsSome head i.cell keys_then) same at_head in
+    elim (subst (λ (ks : List (List ℕ)). (ks ≢ []) ⊎ BeginsSome head image.cell ks) these at_image) [
+      | inl some ↦ words_begin head image.cell keys some good
+      | inr begins ↦ begins
+    ]
 
 -- a cell that can be served is not what a seizure is refused for, but for a word
 pub only_word : (head : ℕ) (image : Image) (records : List (List ℕ)) → IsServedCell image.cell head → IsRefused head image records → HasBadRecord head records
@@ -41,6 +71,11 @@ only_word head image records served (inr bad) = bad
 reported_not_refused : (tells : Type 0) (head : ℕ) (image : Image) (records : List (List ℕ)) (seized : Seized) → IsReportOf tells head image records seized → tells → IsRefused head image records → ⊥
 reported_not_refused tells head image records seized (keys, given, report) told (inl bad) = begun_not_bad head image.cell keys (report told).0 (report told).1 bad
 reported_not_refused tells head image records seized (keys, given, report) told (inr bad) = given_not_bad head records keys given bad
+
+-- nor where chains begin with some key
+keys_not_refused : (head : ℕ) (image : Image) (records : List (List ℕ)) → HasKeys head image records → IsRefused head image records → ⊥
+keys_not_refused head image records (keys, given, begins) (inl bad) = some_not_bad head image.cell keys begins bad
+keys_not_refused head image records (keys, given, begins) (inr bad) = given_not_bad head records keys given bad
 
 -- ---- the exit status
 
@@ -70,7 +105,7 @@ bad_status tells head image records written now (Err (stops.Device device.Tape))
 bad_status tells head image records written now (Err (stops.Device device.Ledger)) h told bad = absurd h
 bad_status tells head image records written now (Err (stops.Device device.BadRoot)) h told bad = inl refl
 bad_status tells head image records written now (Err (stops.Device (device.BadRecord addr))) h told bad = absurd h
-bad_status tells head image records written now (Err (stops.Device device.Memory)) h told bad = absurd (h.0 told bad)
+bad_status tells head image records written now (Err (stops.Device device.Memory)) h told bad = absurd (keys_not_refused head image records (h.0 told) bad)
 
 -- else it is 0, unless something failed or no memory was given
 pub complete_seizure : (tells : Type 0) (head : ℕ) (image : Image) (records : List (List ℕ)) (before now : Counts) (written written_now : Option (List ℕ)) (ending : Ending) → Seizes tells head image records written written_now ending
@@ -158,11 +193,11 @@ no_record addr (inr (inr e)) = cc
 
 -- its last line was put, if it has one
 pub stopped_whole : (tells : Type 0) (head : ℕ) (image : Image) (records : List (List ℕ)) (written written_now : Option (List ℕ)) (stop : DeviceStop)
-    → (tells → stop ≡ device.BadRoot → IsRefused head image records) → (tells → stop ≡ device.Memory → IsRefused head image records → ⊥) → IsWhy stop
+    → (tells → stop ≡ device.BadRoot → IsRefused head image records) → (tells → stop ≡ device.Memory → HasKeys head image records) → IsWhy stop
     → Got written (damage_line stop) written_now → Seizes tells head image records written written_now (Err (stops.Device stop))
 unfolding damage_line
 stopped_whole tells head image records written now device.BadRoot bad memory why got = (λ told. bad told refl, got)
-stopped_whole tells head image records written now device.Memory bad memory why got = (λ told cell. memory told refl cell, got_none written now got)
+stopped_whole tells head image records written now device.Memory bad memory why got = (λ told. memory told refl, got_none written now got)
 stopped_whole tells head image records written now device.Platform bad memory why got = got_none written now got
 stopped_whole tells head image records written now device.Tape bad memory why got = absurd (no_tape why)
 stopped_whole tells head image records written now device.Ledger bad memory why got = absurd (no_ledger why)

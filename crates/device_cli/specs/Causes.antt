@@ -4,7 +4,7 @@ use Rattle.platform.specs.Image.{Image}
 use Rattle.platform.specs.History.{History, Extends, image_at, moment}
 use Rattle.root_codec.specs.declared.root.Root.{Root}
 use Rattle.root_codec.specs.RootRecord.{FitsRoot, root_bytes}
-use Rattle.page_store.specs.Roots.{IsBadCell, IsRootWithin}
+use Rattle.page_store.specs.Roots.{IsRootWithin}
 use Rattle.device_core.specs.Upgrading.{Begins}
 use Rattle.sdbt_base.specs.Arrays.{padded}
 use Rattle.device_session.specs.Damage.{HasPut, HasTaken}
@@ -79,8 +79,8 @@ CallsPlatform tells held image commands.Stat = ⊥
 CallsPlatform tells held image _ = Unit {0}
 
 -- memory may lack at the command: none of its refusals comes before that. The numbers of a format are those of a device, and the cell is empty; a mount has no session, and the root record in the cell can be
--- served; an update is of a block of the device; a commit is of changes; an upgrade has no session, and the root record in the cell is of version 1, with as many pages free as it needs; the cell can be
--- seized; and where a page is wanted, one is free. No other command takes memory
+-- served; an update is of a block of the device; a commit is of changes; an upgrade has no session, and the root record in the cell is of version 1, with as many pages free as it needs; a seizure has a root
+-- record in the cell to begin with; and where a page is wanted, one is free. No other command takes memory
 abbrev pub LacksMemory : Type 0 → Option Session → Image → ℕ → ℕ → Command → Type 0
 LacksMemory tells held image head capacity (commands.Format blocks order) = (in_limits blocks order ≡ true) × (head < capacity) × (tells → image.cell ≡ None)
 LacksMemory tells held image head capacity commands.Mount = (held ≡ None) × (tells → (root : Root) × IsRootWithin head root × (image.cell ≡ Some (root_bytes root)))
@@ -88,7 +88,7 @@ LacksMemory tells held image head capacity (commands.Write block content) = (hea
 LacksMemory tells held image head capacity (commands.Trim block) = OnMounted tells image held (λ session. block < blocks_of session)
 LacksMemory tells held image head capacity commands.Commit = (head < capacity) × OnMounted tells image held (λ session. is_touched session ≡ true)
 LacksMemory tells held image head capacity commands.Upgrade = (held ≡ None) × (root : Root) × Begins tells image head capacity root
-LacksMemory tells held image head capacity commands.Seize = tells → IsBadCell head image.cell → ⊥
+LacksMemory tells held image head capacity commands.Seize = tells → (root : Root) × IsRootWithin head root × (image.cell ≡ Some (root_bytes root))
 LacksMemory tells held image head capacity _ = ⊥
 
 -- the device may stop so at the command, behind which there is this image, with so many pages of so many

@@ -1,9 +1,10 @@
 -- What a run may rely on between lines.
-use Rattle.std.specs.Prelude.{◌≡◌, ◌≤◌, ℕ, Result, IfSome, IfOk, IfErr, OnOk, IsErrOf}
+use Rattle.std.specs.Prelude.{◌≡◌, ◌≢◌, ◌≤◌, ℕ, None, Result, IfSome, IfOk, IfErr, OnOk, IsErrOf, replicate}
 use Rattle.platform.specs.Counts.{MayRiseBy}
 use Rattle.platform.specs.declared.platforms.Platform.{Ghosts}
 use Rattle.device_cli.specs.Looks.{most_changes}
 use Rattle.device_terms.specs.Served.{IsServedImage}
+use Rattle.script_lang.specs.Lines.{blank_line}
 use Rattle.script_lang.specs.Replies.{CanWrite, FitsBlock, said}
 use Rattle.script_lang.specs.declared.replies.Reply.{Reply as Given}
 use Rattle.script_lang.specs.declared.replies.Reply.TheVariants as given
@@ -28,6 +29,19 @@ IsReady desk head = IfSome desk.session (λ session. IsOpen session head)
 abbrev pub HasRoom : Desk → Type 0
 HasRoom desk = IfSome desk.session (λ session. room_of session ≡ 256)
 
+-- its buffers have nothing of what was written and read
+pub record IsWiped (desk : Desk) : Type 0 where
+  pub buffer : desk.buffer ≡ replicate 4096 0
+  pub line : desk.writer.line ≡ blank_line
+
+-- so it is behind a reply that the session was dropped or the device erased
+abbrev pub IsWipedAt : Given → Desk → Type 0
+IsWipedAt reply desk = (reply ≡ given.Dropped → IsWiped desk) × (reply ≡ given.Erased → IsWiped desk)
+
+-- where a session was open and is over, nothing is left in the buffer
+abbrev pub IsWipedBehind : Desk → Desk → Type 0
+IsWipedBehind before desk = before.session ≢ None → desk.session ≡ None → desk.buffer ≡ replicate 4096 0
+
 -- what each command may rely on: the session is open, with room for 256 nodes, and on the root record in the cell, which can be served
 pub record Before {S : Type 0} (P : Ghosts S) (desk : Desk) (platform : S) : Type 0 where
   pub ready : IsReady desk (P.head platform)
@@ -35,13 +49,14 @@ pub record Before {S : Type 0} (P : Ghosts S) (desk : Desk) (platform : S) : Typ
   pub cell : P.tells → IsServedImage (P.history platform).present
   pub mounted : P.tells → IfSome desk.session (IsMounted (P.history platform).present)
 
--- what a command leaves for the next one. Its reply can be put; a stop left no more pages than it may; and a reply that too few pages were free is true
+-- what a command leaves for the next one. Its reply can be put; nothing is left in the buffers behind a session that was dropped and a device that was erased; a stop left no more pages than it may; and a reply that too few pages were free is true
 pub record After {S : Type 0} (P : Ghosts S) (before desk : Desk) (old new : S) (command : Command) (result : Result Given DeviceStop) : Type 0 where
   pub ready : OnOk result (IsReady desk (P.head new))
   pub room : OnOk result (HasRoom desk)
   pub mounted : P.tells → OnOk result (IfSome desk.session (IsMounted (P.history new).present))
   pub reply : IfOk result (λ reply. CanWrite (said reply desk.buffer))
   pub short : IfOk result FitsBlock
+  pub wiped : IfOk result (λ reply. IsWipedAt reply desk)
   pub bad_root : P.tells → IsErrOf result stops.BadRoot → ⊥
   pub capacity : P.capacity new ≡ P.capacity old
   pub rises : P.head old ≤ P.head new

@@ -9,7 +9,7 @@ use Rattle.page_store.specs.Roots.{IsBadCell}
 use Rattle.seizure.specs.declared.opened.Opened.{Opened}
 use Rattle.seizure.specs.Opened.{count_of_kind, count_of_nodes, is_node_kind}
 use Rattle.seizure.specs.Reads.{ReadsFew}
-use Rattle.seizure.specs.Report.{Seized, IsSeizure, Begins}
+use Rattle.seizure.specs.Report.{Seized, IsSeizure, Begins, BeginsSome}
 use Rattle.device_cli.specs.Given.{AreGiven, HasBadRecord}
 use Rattle.line_run.specs.Stops.{Ending, exit_of}
 use Rattle.line_run.specs.Puts.{damage_line}
@@ -54,6 +54,10 @@ IsReportOf tells head image records seized =
 abbrev pub IsRefused : ℕ → Image → List (List ℕ) → Type 0
 IsRefused head image records = IsBadCell head image.cell ⊎ HasBadRecord head records
 
+-- chains begin with some key: the cell and these words are not refused, and a root record stands in the cell or in a word
+abbrev pub HasKeys : ℕ → Image → List (List ℕ) → Type 0
+HasKeys head image records = (keys : List (List ℕ)) × AreGiven head records keys × BeginsSome head image.cell keys
+
 -- one read was made at most; or the seizure isn't refused, and behind one look at the cell it was looked at once more, and each page read once at most, and
 -- once more for each key by which a chain ends at it, from the key of the root record in the cell and those of the root records that these words are
 abbrev pub ReadsFewFor : ℕ → Image → List (List ℕ) → ℕ → ℕ → Type 0
@@ -62,7 +66,7 @@ ReadsFewFor head image records reads reads_now =
     × ReadsFew head image.cell keys image.readable (reads + 1) reads_now)
 
 -- the text of the report was put; or the seizure is refused, and the line that says so was put; or, where the output failed, a first part of
--- the one or the other; or nothing was, and without memory only where it isn't refused
+-- the one or the other; or nothing was, and without memory only where there is a key to begin with
 abbrev pub Seizes : Type 0 → ℕ → Image → List (List ℕ) → Option (List ℕ) → Option (List ℕ) → Ending → Type 0
 Seizes tells head image records written written_now (Ok done) =
     (seized : Seized) × IsReportOf tells head image records seized × Got written (report_text seized) written_now
@@ -73,7 +77,7 @@ Seizes tells head image records written written_now (Err stops.Sink) =
     ⊎ ((tells → IsRefused head image records) × GotPart written (damage_line device.BadRoot) written_now)
 Seizes tells head image records written written_now (Err (stops.Device device.Platform)) = written_now ≡ written
 Seizes tells head image records written written_now (Err (stops.Device device.Memory)) =
-    (tells → IsRefused head image records → ⊥) × (written_now ≡ written)
+    (tells → HasKeys head image records) × (written_now ≡ written)
 Seizes tells head image records written written_now (Err _) = ⊥
 
 -- a seizure with the root records that these words are: no key is drawn, nothing taken, no entry put, no page added, few are read, and the image is as

@@ -1,9 +1,8 @@
 //! What a run keeps between lines, and the answer to each command.
-ghost use Rattle.std.specs.Prelude.{◌≡◌, ◌≢◌, ◌<◌, ◌≤◌, ◌⊎◌, ℕ, List, Option, true, false, IfOk, IfErr, None, Some, Ok, replicate, take};
+ghost use Rattle.std.specs.Prelude.{◌≡◌, ◌≢◌, ◌<◌, ◌≤◌, ◌⊎◌, ℕ, List, Option, true, false, IfOk, IfErr, None, Some, Ok, take};
 ghost use Rattle.sdbt_base.specs.Faults.{Tells};
 ghost use Rattle.script_lang.specs.Commands as commands;
 ghost use Rattle.script_lang.specs.Commands.{FitsBlock as FitsCommand, asked};
-ghost use Rattle.script_lang.specs.Lines.{blank_line};
 ghost use Rattle.script_lang.specs.Replies.{CanWrite, FitsBlock, said};
 ghost use Rattle.sdbt_base.specs.Counts.{counts};
 ghost use Rattle.session_calls.specs.Blame.{IsBlamed};
@@ -41,7 +40,7 @@ pub(crate) struct Desk {
 }
 
 impl Desk {
-    ghost use Rattle.device_cli.specs.Desk.{IsReady, Before, After};
+    ghost use Rattle.device_cli.specs.Desk.{IsReady, IsWiped, IsWipedAt, Before, After};
     ghost use Rattle.device_cli.specs.Parts.{AddsPages, Keeps, KeepsFrom, KeepsStill, LooksFew, SeesAny, ServesAny, StaysEnough};
 
     /// No session.
@@ -265,6 +264,7 @@ impl Desk {
         ensures session { self.new.session ≡ None }
         ensures reply { IfOk result (λ reply. CanWrite (said reply self.new.buffer)) }
         ensures short { IfOk result FitsBlock }
+        ensures wiped { IfOk result (λ reply. IsWipedAt reply self.new) }
         ensures full { IfOk result (λ reply. reply ≡ Reply.Full → ⊥) }
         ensures any { AnswersAny P.tells (world_of P.Platform self.old.session platform.now) (world_of P.Platform self.new.session platform.now) commands.Drop (outcome result self.new.buffer) }
         ensures stop { IfErr result (λ stop. ⊥) }
@@ -354,8 +354,7 @@ impl Desk {
     /// Ends the session, if there is one, and leaves nothing in its buffers, nor in those that each line uses.
     fn close(&mut self)
         ensures session { self.new.session ≡ None }
-        ensures buffer { self.new.buffer ≡ replicate 4096 0 }
-        ensures line { self.new.writer.line ≡ blank_line }
+        ensures wiped { IsWiped self.new }
     {
         if let Some(mut session) = self.session.take() {
             session.wipe();
@@ -369,6 +368,7 @@ impl Desk {
         requires ready { IsReady self.now (P.head platform.now) }
         ensures reply { IfOk result (λ reply. CanWrite (said reply self.now.buffer)) }
         ensures short { IfOk result FitsBlock }
+        ensures wiped { IfOk result (λ reply. IsWipedAt reply self.now) }
         ensures full { IfOk result (λ reply. reply ≡ Reply.Full → ⊥) }
         ensures any { AnswersAny P.tells (world_of P.Platform self.now.session platform.now) (world_of P.Platform self.now.session platform.now) commands.Stat (outcome result self.now.buffer) }
         ensures stop { IfErr result (λ stop. ⊥) }

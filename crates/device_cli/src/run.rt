@@ -7,7 +7,7 @@ ghost use Rattle.script_lang.specs.Commands.{FitsBlock as FitsCommand, asked};
 ghost use Rattle.script_lang.specs.Replies.{CanWrite, FitsBlock, line_of, said};
 ghost use Rattle.device_terms.specs.Served.{IsServedImage};
 ghost use Rattle.device_session.specs.Sessions.{Session};
-ghost use Rattle.device_cli.specs.Desk.{Before, AfterLine};
+ghost use Rattle.device_cli.specs.Desk.{IsWipedBehind, Before, AfterLine};
 ghost use Rattle.device_cli.specs.World.{start_by, world_by};
 ghost use Rattle.device_cli.specs.Run.{IsRefusal};
 ghost use Rattle.line_run.specs.Stops.{IsBlamedOn, status_of, IsSound};
@@ -187,6 +187,8 @@ fn answer<P: Platform, T: Tape, O: Sink, L: Sink>(
     ensures handled { (text : List ℕ) → IsPending (option_copied line.entry) text → Handled P.tells ⊥ (world_by P.Platform T.Tape desk.old.session platform.old tape.old)
         (world_by P.Platform T.Tape desk.new.session platform.new tape.new)
         no_line result (text ∷ []) (O.written output.old) (O.written output.new) }
+    // A line that ends a session leaves nothing of what was written and read.
+    ensures wiped { OnOk result (IsWipedBehind desk.old desk.new) }
 {
     let Some(command) = read_line(line, &mut desk.buffer) else {
         return put_reply(&mut desk.writer, &Reply::Bad, &desk.buffer, output);

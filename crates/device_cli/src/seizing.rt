@@ -1,15 +1,17 @@
 //! The word `seize`: tells what an adversary would open now.
-ghost use Rattle.std.specs.Prelude.{◌≡◌, ◌≤◌, ◌⊎◌, ◌+◌, IfErr, IfOk, OnOk, IsErrOf, flat_map, length, map, string_bytes};
+ghost use Rattle.std.specs.Prelude.{◌≡◌, ◌≢◌, ◌≤◌, ◌⊎◌, ◌+◌, [], Option, IfErr, IfOk, OnOk, OnErr, IsErrOf, flat_map, length, map, string_bytes};
 ghost use Rattle.sdbt_base.specs.Faults.{Rose, TellsOf};
 ghost use Rattle.platform.specs.History.{Steps};
 ghost use Rattle.page_store.specs.Reading.{MayLook};
 ghost use Rattle.page_store.specs.Roots.{IsBadCell};
 ghost use Rattle.seizure.specs.Looks.{Looks};
 ghost use Rattle.seizure.specs.Reads.{ReadsFew};
+ghost use Rattle.seizure.specs.Report.{BeginsSome, Holds};
+ghost use Rattle.root_codec.specs.declared.root.Root.{Root};
 ghost use Rattle.line_run.specs.Stops.{IsBlamedOn};
 ghost use Rattle.sdbt_base.specs.Counts.{counts};
 ghost use Rattle.line_run.specs.Puts.{HasPut, TellsPut};
-ghost use Rattle.device_cli.specs.Seizing.{IsReport, IsReportOf, IsRefused, ReadsFewFor, Seizes, opened_line, counts_line, report_text};
+ghost use Rattle.device_cli.specs.Seizing.{HasKeys, IsReport, IsReportOf, IsRefused, ReadsFewFor, Seizes, opened_line, counts_line, report_text};
 
 use crate::given::keys_given;
 use arrayvec::ArrayVec;
@@ -66,7 +68,7 @@ fn find<P: Platform>(
     ensures bad_root { P.tells → IsErrOf result DeviceStop.BadRoot →
         IsRefused (P.head platform.old) (P.history platform.old).present (map string_bytes records.now) }
     ensures memory { P.tells → IsErrOf result DeviceStop.Memory →
-        IsRefused (P.head platform.old) (P.history platform.old).present (map string_bytes records.now) → ⊥ }
+        HasKeys (P.head platform.old) (P.history platform.old).present (map string_bytes records.now) }
     ensures stops { IfErr result (λ stop. (stop ≡ DeviceStop.BadRoot) ⊎ (stop ≡ DeviceStop.Memory) ⊎ (stop ≡ DeviceStop.Platform)) }
     ensures cause { TellsOf DeviceStop.Platform result (P.faults platform.old) (P.faults platform.new) }
     ensures looks { Looks P.Platform platform.old platform.new }
@@ -92,6 +94,8 @@ fn open_all<P: Platform>(
     ensures found { P.tells → IfOk result (IsReport (P.head platform.old) (P.history platform.old).present keys.now) }
     ensures bad_root { P.tells → IsErrOf result DeviceStop.BadRoot →
         IsBadCell (P.head platform.old) (P.history platform.old).present.cell }
+    ensures memory { P.tells → IsErrOf result DeviceStop.Memory → (keys.now ≢ []) ⊎
+        BeginsSome (P.head platform.old) (P.history platform.old).present.cell keys.now }
     ensures stops { IfErr result (λ stop. (stop ≡ DeviceStop.BadRoot) ⊎ (stop ≡ DeviceStop.Memory) ⊎ (stop ≡ DeviceStop.Platform)) }
     ensures cause { TellsOf DeviceStop.Platform result (P.faults platform.old) (P.faults platform.new) }
     ensures looks { Looks P.Platform platform.old platform.new }
@@ -111,7 +115,8 @@ fn open_all<P: Platform>(
 
 /// A list of these keys.
 fn listed(alloc: Global, keys: &[Key]) -> Result<KeyList, Memory>
-    ensures { IfOk result (λ list. list ≡ keys.now) }
+    ensures same { IfOk result (λ list. list ≡ keys.now) }
+    ensures memory { OnErr result (keys.now ≢ []) }
 {
     let mut list = KeyList::new(alloc);
     for key in keys {
@@ -122,7 +127,8 @@ fn listed(alloc: Global, keys: &[Key]) -> Result<KeyList, Memory>
 
 /// Refuses a cell that is full, and not with the root record of a root within the pages that there are.
 fn check_root<P: Platform>(platform: &mut P) -> Result<(), DeviceStop>
-    ensures good { P.tells → OnOk result (IsBadCell (P.head platform.old) (P.history platform.old).present.cell → ⊥) }
+    ensures good { P.tells → OnOk result ((root : Option Root) ×
+        Holds (P.head platform.old) (P.history platform.old).present.cell root) }
     ensures bad_root { P.tells → IsErrOf result DeviceStop.BadRoot →
         IsBadCell (P.head platform.old) (P.history platform.old).present.cell }
     ensures stops { IfErr result (λ stop. (stop ≡ DeviceStop.BadRoot) ⊎ (stop ≡ DeviceStop.Platform)) }

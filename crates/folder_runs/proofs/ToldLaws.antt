@@ -110,7 +110,7 @@ told_lacks tells held image head capacity (commands.Trim block) told h = told_mo
 told_lacks tells held image head capacity commands.Commit told h = (h.0, told_mounted tells image held (λ (s : Session). is_touched s ≡ true) told h.1)
 told_lacks tells held image head capacity commands.Upgrade told h =
     (h.0, h.1, record { on = record { within = h.2.on.within; cell = λ _. h.2.on.cell told }; version = h.2.version; room = h.2.room })
-told_lacks tells held image head capacity commands.Seize told h = λ _ bad. h told bad
+told_lacks tells held image head capacity commands.Seize told h = λ _. h told
 told_lacks tells held image head capacity (commands.Read block) told h = absurd h
 told_lacks tells held image head capacity commands.Drop told h = absurd h
 told_lacks tells held image head capacity commands.Erase told h = absurd h

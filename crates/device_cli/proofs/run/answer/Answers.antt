@@ -13,6 +13,7 @@ use Rattle.device_cli.proofs.ReplyLaws.{so_there, so_line}
 use Rattle.page_store.proofs.KeepingLaws.{drew_none}
 use Rattle.device_cli.proofs.DrawingLaws.{until_line, until_none, until_cut}
 use Rattle.device_cli.proofs.LookLaws.{looks_bad, looks_line}
+use Rattle.device_cli.proofs.WipedLaws.{ended_wiped}
 use Rattle.device_course.proofs.KeysLaws.{on_start, on_done}
 use Rattle.device_cli.proofs.Choices.{on_ok}
 use Rattle.device_cli.proofs.run.answer.Goals as goal
@@ -91,3 +92,15 @@ returns-in-Ok-clause-keeps g c = on_done _ _ _ _ _ c.args.desk.now.session _ _ _
 
 pub returns-in-Err-clause-keeps : goal.returns-in-Err-clause-keeps
 returns-in-Err-clause-keeps g c = on_done _ _ _ _ _ c.args.desk.now.session _ _ _ _ _ _ c.serve.ensures.keeps (λ never. absurd cc) (λ keys h. tt)
+
+pub returns-in_default-clause-wiped : goal.returns-in_default-clause-wiped
+returns-in_default-clause-wiped g c = on_ok c.put_reply.result _ (λ mounted over. absurd (mounted over))
+
+pub returns-in-Ok-clause-wiped : goal.returns-in-Ok-clause-wiped
+returns-in-Ok-clause-wiped g c =
+    let P = g.P.Platform in
+    let old : World = world_of P c.args.desk.now.session c.args.platform.now in
+    let new : World = world_of P c.serve.new.self.session c.serve.new.platform in
+    let command = asked c.in-Some.command c.read_line.new.buffer in
+    on_ok c.put_reply-in-Ok.result _
+    (λ mounted over. (ended_wiped P.tells old new command c.in-Ok.reply c.serve.new.self c.in-Ok.ensures.any c.in-Ok.ensures.after.wiped mounted over).buffer)

@@ -1,6 +1,6 @@
 use Rattle.std.proofs.Common.{◌≡◌, ℕ, List, Err, inl, inr, ap, sym, subst}
 use Rattle.std.specs.Prelude.{map, string_bytes}
-use Rattle.device_cli.specs.Seizing.{IsRefused, Seizes}
+use Rattle.device_cli.specs.Seizing.{HasKeys, IsRefused, Seizes}
 use Rattle.session_calls.specs.declared.stops.DeviceStop.{DeviceStop}
 use Rattle.session_calls.specs.declared.stops.DeviceStop.TheVariants as device
 use Rattle.line_run.specs.declared.stop.Stop.{Stop}
@@ -17,7 +17,7 @@ returns-in-Err-clause-seizes g c =
     let now = g.O.Sink.written c.last_line.new.output in
     let Ends : Stop → Type 0 = λ last. Seizes P.tells head image records written now (Err last) in
     let bad : P.tells → c.in-Err.stop ≡ device.BadRoot → IsRefused head image records = λ told e. c.in-Err.ensures.bad_root told (ap (λ (stop : DeviceStop). Err stop) e) in
-    let memory : P.tells → c.in-Err.stop ≡ device.Memory → IsRefused head image records → ⊥ = λ told e. c.in-Err.ensures.memory told (ap (λ (stop : DeviceStop). Err stop) e) in
+    let memory : P.tells → c.in-Err.stop ≡ device.Memory → HasKeys head image records = λ told e. c.in-Err.ensures.memory told (ap (λ (stop : DeviceStop). Err stop) e) in
     elim c.last_line.ensures.stop as (λ s. Ends c.last_line.result) [
       | inl whole ↦ subst Ends (sym whole.0) (stopped_whole P.tells head image records written now c.in-Err.stop bad memory c.in-Err.ensures.stops whole.1)
       | inr part ↦ subst Ends (sym part.0) (stopped_part P.tells head image records written now c.in-Err.stop bad c.in-Err.ensures.stops part.3 part.2)

@@ -164,6 +164,7 @@ returns-in-Ok-clause-after g c = record {
   mounted = search rules;
   reply = search rules;
   short = search rules;
+  wiped = search rules;
   bad_root = search rules;
   capacity = search rules;
   rises = search rules;

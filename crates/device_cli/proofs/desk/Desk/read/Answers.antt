@@ -1,9 +1,8 @@
-use Rattle.std.proofs.Common.{◌≡◌, ◌+◌, ◌<◌, ◌≤◌, ℕ, Option, None, Some, Ok, Err, refl, sym, ◌∙◌, ap, subst, rules, arith}
-use Rattle.std.specs.Prelude.{IfSome}
+use Rattle.std.proofs.Common.{◌≡◌, ◌+◌, ◌<◌, ◌≤◌, Option, None, Some, Ok, Err, refl, sym, ◌∙◌, ap, subst, rules, arith}
 use Rattle.std.proofs.lemmas.Result.{err_from_is_err_and}
 use Rattle.std.proofs.lemmas.Grind.{common_steps}
 use Rattle.device_course.proofs.KeysLaws.{on_start}
-use Rattle.device_session.specs.Open.{IsOpen, blocks_of}
+use Rattle.device_session.specs.Open.{blocks_of}
 use Rattle.device_session.specs.Sessions.{Session}
 use Rattle.script_lang.specs.Arrays.{content_reply, trimmed}
 use Rattle.script_lang.specs.Replies.{Reply}
@@ -60,6 +59,7 @@ returns-clause-after g c =
       mounted = λ told. along.mounted told (mounted_held _ c.in-Some.session _ c.in-Some.is (c.requires.mounted told));
       reply = search rules;
       short = search rules;
+      wiped = search rules;
       bad_root = λ told e. cc;
       capacity = along.capacity;
       rises = along.rises;

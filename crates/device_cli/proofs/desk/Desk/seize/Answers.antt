@@ -1,9 +1,11 @@
-use Rattle.std.proofs.Common.{◌≡◌, ℕ, Ok, Err, refl, sym, subst, ap}
+use Rattle.std.proofs.Common.{◌≡◌, ℕ, Some, Ok, Err, refl, sym, subst, ap}
 use Rattle.platform.specs.Image.{Image}
 use Rattle.platform.specs.History.{History, Steps, CellStays, moment}
 use Rattle.platform.proofs.Moments.{During-step}
 use Rattle.device_terms.specs.Served.{IsServedCell}
-use Rattle.page_store.specs.Roots.{IsBadCell}
+use Rattle.page_store.specs.Roots.{IsRootWithin}
+use Rattle.root_codec.specs.declared.root.Root.{Root}
+use Rattle.root_codec.specs.RootRecord.{root_bytes}
 use Rattle.seizure.specs.Opened.{count_of_kind, count_of_nodes}
 use Rattle.script_lang.specs.Replies.{said}
 use Rattle.script_lang.specs.declared.replies.Reply.{Reply as Given}
@@ -14,7 +16,7 @@ use Rattle.session_calls.specs.declared.stops.DeviceStop.TheVariants as device
 use Rattle.device_cli.proofs.ServedLaws.{halts_still}
 use Rattle.device_cli.proofs.ServingLaws.{serves_seized}
 use Rattle.device_cli.proofs.SeizingLaws.{counted_of, saw_seized}
-use Rattle.device_cli.proofs.SeizeWordLaws.{not_bad}
+use Rattle.device_cli.proofs.SeizeWordLaws.{not_bad, root_begun}
 use Rattle.device_course.proofs.KeysLaws.{on_look, listed_image}
 use Rattle.device_cli.specs.Causes.{LeavesHeld, MayReply}
 use Rattle.device_cli.specs.Replied.{Serves}
@@ -94,10 +96,15 @@ returns-in-Ok-clause-any g c =
     subst (λ (r : Given). MayReply P.tells (P.history c.args.platform.now).present (P.history c.seize.new.platform).present c.args.self.now.session c.args.self.now.session commands.Seize (said r c.args.self.now.buffer) × LeavesHeld c.args.self.now.session c.args.self.now.session (said r c.args.self.now.buffer)) (sym c.reply_with_counts.ensures)
     ((tt, λ told. counted_of (P.history c.args.platform.now).present (P.head c.args.platform.now) c.in-Ok.report (g.met.P.Platform.counts_pages told c.args.platform.now) (c.in-Ok.ensures.report told)), refl)
 
+-- the cell has the root record of a root within the pages
+abbrev HasRoot : ℕ → Image → Type 0
+HasRoot head image = (root : Root) × IsRootWithin head root × (image.cell ≡ Some (root_bytes root))
+
 pub returns-in-Err-Memory-clause-any : goal.returns-in-Err-Memory-clause-any
-returns-in-Err-Memory-clause-any g c told bad =
+returns-in-Err-Memory-clause-any g c told =
     let P = g.P.Platform in
     let before = (P.history c.args.platform.now).present in
-    not_bad before.cell (P.head c.args.platform.now) (subst (λ (n : ℕ). IsServedCell before.cell n) (g.met.P.Platform.counts_pages told c.args.platform.now) (c.requires.cell told))
-    (subst (λ (image : Image). IsBadCell (P.head c.args.platform.now) image.cell) (c.seize.ensures.looks.image told)
-    (subst (λ (n : ℕ). IsBadCell n (P.history c.seize.new.platform).present.cell) c.seize.ensures.looks.head bad))
+    let head = P.head c.args.platform.now in
+    let begun : HasRoot head before = root_begun head before.cell ((rw c.in-Err-Memory.field-0-is at c.in-Err-Memory.ensures.memory) told refl) in
+    let at_image = subst (HasRoot head) (sym (c.seize.ensures.looks.image told)) begun in
+    subst (λ (n : ℕ). HasRoot n (P.history c.seize.new.platform).present) (sym c.seize.ensures.looks.head) at_image

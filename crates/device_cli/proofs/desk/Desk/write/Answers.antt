@@ -1,4 +1,4 @@
-use Rattle.std.proofs.Common.{◌≡◌, ◌<◌, ◌≤◌, ◌⊎◌, true, List, [], ◌∷◌, ℕ, Option, None, Some, Err, refl, take, ◌∙◌, ap, rules, arith, subst, sym}
+use Rattle.std.proofs.Common.{◌≡◌, ◌<◌, ◌≤◌, List, [], ◌∷◌, ℕ, Option, None, Some, Err, refl, take, ◌∙◌, ap, rules, arith, subst, sym}
 use Rattle.std.proofs.lemmas.Grind.{common_steps}
 use Rattle.std.proofs.lemmas.Result.{err_from_is_err_and}
 use Rattle.sdbt_base.specs.Arrays.{padded, written}
@@ -73,6 +73,7 @@ returns-clause-after g c =
       mounted = λ told. along.mounted told (mounted_held _ c.in-Some.session _ c.in-Some.is (c.requires.before.mounted told));
       reply = search rules;
       short = search rules;
+      wiped = (λ e. cc, λ e. cc);
       bad_root = λ told e. cc;
       capacity = along.capacity;
       rises = along.rises;
