@@ -8,7 +8,8 @@ ghost use Rattle.power_loss.specs.Loss.{Tore};
 use platform::{MemPlatform, Platform};
 
 /// The power is lost: the pages of the list that may be torn read as zero bytes from now on. Those that are synced, and those that
-/// there are not, stay as they are. A new history begins with what is left, and of the platform no list and no count changes.
+/// there are not, stay as they are. A new history begins with what is left, and with it the count of changes; of the platform no list and no
+/// other count changes.
 pub fn lose_power(platform: &mut MemPlatform, torn: &[u64])
     ensures left { Tore torn.now (image_of_now platform.old) (image_of_now platform.new) }
     ensures capacity { capacity_of platform.new ≡ capacity_of platform.old }

@@ -10,7 +10,7 @@ use Rattle.power_loss.proofs.lose_power.Goals as goal
 pub loop-addr-init : goal.loop-addr-init
 loop-addr-init c = record {
   left = Tore-none (image_of_now c.args.platform.now) (image_of_now c.power_cut.new.self) c.power_cut.ensures.left (λ addr. c.power_cut.ensures.torn.other_pages addr (none_among addr));
-  past = c.power_cut.ensures.past;
+  past = c.power_cut.ensures.past.0;
   failures = c.power_cut.ensures.failures;
   calls = c.power_cut.ensures.calls;
   rest = c.power_cut.ensures.rest;
