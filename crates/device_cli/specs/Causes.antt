@@ -17,7 +17,7 @@ use Rattle.script_lang.specs.Commands.{Command}
 use Rattle.script_lang.specs.Commands as commands
 use Rattle.script_lang.specs.Replies.{Reply}
 use Rattle.script_lang.specs.Replies as given
-use Rattle.session_calls.specs.Damage.{IsMounted, IsWrongPage, IsWrongPlace, IsWrongStep}
+use Rattle.session_calls.specs.Damage.{IsDamagedAt, IsMounted, IsWrongPlace, IsWrongStep}
 use Rattle.session_calls.specs.declared.stops.DeviceStop.{DeviceStop}
 use Rattle.session_calls.specs.declared.stops.DeviceStop.TheVariants as device
 use Rattle.device_cli.specs.Seen.{IsCounted}
@@ -47,13 +47,13 @@ JudgesRoot commands.Upgrade = Unit {0}
 JudgesRoot commands.Seize = Unit {0}
 JudgesRoot _ = ⊥
 
--- it comes to the record at this address, which doesn't fit: a read and an upgrade to a place below the root record in the cell, and a write and a trim to a node's place, and never to that of
--- a data record; or all but a read to the root node of a tree that is miscounted
+-- it comes to the record at this address, which doesn't fit: a read to a place below the root record in the cell, and a write and a trim to a node's place, and never to that of a data record, or
+-- to the root node of a tree that is miscounted; and an upgrade to the first one that it meets, or to the root node, where all nodes fit and list another number of blocks
 abbrev pub MeetsRecord : Type 0 → Image → Command → ℕ → Type 0
 MeetsRecord tells image (commands.Read block) addr = tells → IsWrongPlace image addr
 MeetsRecord tells image (commands.Write block content) addr = tells → IsWrongStep image addr
 MeetsRecord tells image (commands.Trim block) addr = tells → IsWrongStep image addr
-MeetsRecord tells image commands.Upgrade addr = tells → IsWrongPage image addr
+MeetsRecord tells image commands.Upgrade addr = tells → IsDamagedAt image addr
 MeetsRecord tells image _ addr = ⊥
 
 -- there is a session, and it has this
