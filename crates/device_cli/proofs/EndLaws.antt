@@ -71,7 +71,7 @@ serves_at tells status old new session ending alone then_alone untold is ran cau
     let now = new.world in
     let Serves : World → ℕ → Type 0 = λ there n. (script : AnswersScript tells old.world there n old.left new.left old.written new.written) × DrewUntil old.drawn script.lines script.replies new.drawn
     × (n ≡ 5 → (new.input ≡ old.input) ⊎ IfNext script.replies script.lines (IsOf (HasCalled tells there.history.present))) in
-    let same : world None now.history now.head now.capacity now.reads ≡ now =
+    let same : world None now.history now.head now.capacity now.reads now.changes ≡ now =
     ap (λ (d : Option (List (List ℕ))). record now { session = None; drawn = d }) (sym untold) ∙ ap (λ (s : Option Session). record now { session = s }) (sym then_alone) in
     let script = answers_with tells (new.input ≡ old.input) old.world old.drawn new.drawn session now.history now.head now.capacity now.reads now.changes ending old.left new.left old.written new.written alone ran in
     let here : Serves now (exit_of ending) = subst (λ (there : World). Serves there (exit_of ending)) same (script.0, script.2, script.3) in

@@ -192,7 +192,7 @@ serves_work tells seed count old new session ending alone then_alone untold w =
     let text : Option (List ℕ) = Some (script_of seed count) in
     let now = new.world in
     let script = answers_with tells (w.left ≡ text) old.world old.drawn new.drawn session now.history now.head now.capacity now.reads now.changes w.serving text w.left (Some []) w.told alone w.ran in
-    let same : world None now.history now.head now.capacity now.reads ≡ now =
+    let same : world None now.history now.head now.capacity now.reads now.changes ≡ now =
     ap (λ (d : Option (List (List ℕ))). record now { session = None; drawn = d }) (sym untold) ∙ ap (λ (s : Option Session). record now { session = s }) (sym then_alone) in
     let Answered : World → Type 0 = λ there. (s : AnswersScript tells old.world there (exit_of w.serving) text w.left (Some []) w.told) × (s.replies ≡ w.ran.handled.replied.replies) × DrewUntil old.drawn s.lines s.replies new.drawn
     × (exit_of w.serving ≡ 5 → (w.left ≡ text) ⊎ IfNext s.replies s.lines (IsOf (HasCalled tells there.history.present))) in

@@ -9,7 +9,7 @@ use Rattle.script_lang.specs.Replies.{Reply}
 use Rattle.script_lang.specs.Commands.{Read}
 use Rattle.script_lang.specs.Replies as replies
 use Rattle.device_cli.specs.Causes.{IsLookedUp, LeavesHeld, MayReply}
-use Rattle.device_cli.specs.Looks.{IsWarmFor, most_changes}
+use Rattle.device_cli.specs.Looks.{IsWarmFor}
 use Rattle.device_cli.specs.Pages.{updates_after}
 use Rattle.device_cli.specs.Parts.{added_by}
 use Rattle.device_cli.specs.Replied.{Serves}
@@ -63,7 +63,7 @@ returns-clause-after g c =
       bad_root = λ told e. cc;
       capacity = along.capacity;
       rises = along.rises;
-      changes = λ told. changed_not (most_changes _) _ _ (along.changes told);
+      changes = λ told. changed_not 0 _ _ (along.changes told);
       added = tt;
       full = search rules;
     }

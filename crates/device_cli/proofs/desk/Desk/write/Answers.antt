@@ -10,7 +10,7 @@ use Rattle.script_lang.specs.Commands.{Write}
 use Rattle.script_lang.specs.Replies as replies
 use Rattle.device_cli.specs.World.{World, is_full, world_of}
 use Rattle.device_cli.proofs.CallLaws.{after_stopped, halts_led, mounted_has, mounted_held, no_root, on_held, past_device, room_held, serves_led, within_device, write_added, write_kept, write_sound, write_stops}
-use Rattle.device_cli.specs.Looks.{IsWarmFor, most_changes}
+use Rattle.device_cli.specs.Looks.{IsWarmFor}
 use Rattle.device_cli.proofs.EnoughLaws.{enough_more}
 use Rattle.device_cli.proofs.LookLaws.{still_warm, update_cost, changed_not}
 use Rattle.page_store.proofs.KeepingLaws.{drew_none}
@@ -77,7 +77,7 @@ returns-clause-after g c =
       bad_root = λ told e. cc;
       capacity = along.capacity;
       rises = along.rises;
-      changes = λ told. changed_not (most_changes _) _ _ (along.changes told);
+      changes = λ told. changed_not 0 _ _ (along.changes told);
       added = tt;
       full = λ e. cc;
     }
