@@ -15,6 +15,7 @@ looks_none P at = record {
   head = refl;
   capacity = refl;
   reads = λ told. omega arith;
+  changes = λ told. refl;
   faults = omega arith;
 }
 
@@ -30,6 +31,7 @@ looks_then P a b c one other = record {
   head = other.head ∙ one.head;
   capacity = other.capacity ∙ one.capacity;
   reads = λ told. omega (arith, one.reads told, other.reads told);
+  changes = λ told. other.changes told ∙ one.changes told;
   faults = omega (arith, one.faults, other.faults);
 }
 
