@@ -1,6 +1,6 @@
 -- What the calls of the platform that change something tell, and how often the record says that something was changed.
-use Rattle.std.proofs.Common.{◌≡◌, inl, inr, ℕ, ◌+◌, Bool, true, false, if◌then◌else◌, List, Option, Some, None, Result, Ok, Err, is_ok, length, refl, sym, ◌∙◌, ap, subst, arith}
-use Rattle.std.specs.Prelude.{OnOk, IfOk}
+use Rattle.std.proofs.Common.{◌≡◌, inl, inr, ℕ, ◌+◌, Bool, true, false, if◌then◌else◌, List, [], ◌∷◌, ◌++◌, Option, Some, None, Result, Ok, Err, is_ok, length, refl, sym, ◌∙◌, ap, subst, arith}
+use Rattle.std.specs.Prelude.{◌↔◌, OnOk, IfOk, IsTrue, IsSome, slice_get}
 use Rattle.std.proofs.lemmas.List.{length_push}
 use Rattle.sdbt_base.specs.Bytes.{IsBytes}
 use Rattle.sdbt_base.specs.declared.limits.TheConstants.{ROOT}
@@ -8,10 +8,11 @@ use Rattle.platform.specs.Counts.{MayRiseByOne, CountsOnce}
 use Rattle.platform.specs.Image.{Image, with_page, with_cell, all_synced, IsEither, MayHavePage}
 use Rattle.platform.specs.History.{Steps}
 use Rattle.folder_platform.specs.Files.{Files, zero_page}
-use Rattle.folder_platform.specs.Events.{Event, all_done, page_written, media_synced}
-use Rattle.folder_platform.specs.Model.{replay}
-use Rattle.folder_platform.specs.Told.{now_of, reads_of, page_reads_of, changes_of, IsTold, told_by}
-use Rattle.folder_platform.specs.Sequences.{Renames, Unlinks, Replaces, Clears, Makes, Asks}
+use Rattle.folder_platform.specs.Events.{Event, all_done, page_read, page_written, media_synced, root_read}
+use Rattle.folder_platform.specs.Model.{NamedFile, bytes_of, replay}
+use Rattle.folder_platform.specs.Honest.{IsHonest}
+use Rattle.folder_platform.specs.Told.{cell_of, cell_with, past_of, now_of, reads_of, page_reads_of, changes_of, IsTold, told_by}
+use Rattle.folder_platform.specs.Sequences.{Renames, Unlinks, Replaces, Clears, Makes, Asks, NotesPage, NotesCell}
 use Rattle.folder_platform.specs.Loss.{Settled}
 use Rattle.folder_platform.proofs.Telling.{whole-told, with_page_of, kept_sync, believed_now, steps_to, steps_none}
 use Rattle.folder_platform.proofs.Changing.{Changes, changes_replaced, changes_cleared, changes_time}
@@ -121,6 +122,40 @@ pub record DoesAppend {T E : Type 0} (files files' : Files) (old new : List Even
   pub reads : AreUnread old new
   pub changes : changes_of new ≡ changes_of old
 
+-- what a look tells
+pub record DoesLook {T E : Type 0} (files files' : Files) (old new : List Event) (told : IsTold files old) (told' : IsTold files' new) (result : Result T E) : Type 0 where
+  pub image : now_of files' new ≡ now_of files old
+  pub time : Steps (told_by files old told) (told_by files' new told')
+  pub recorded : length (replay files' new).recorded ≡ length (replay files old).recorded
+  pub answered : OnOk result (reads_of new ≡ reads_of old + 1)
+  pub reads : MayRiseByOne (reads_of old) (reads_of new)
+  pub changes : changes_of new ≡ changes_of old
+
+-- what a read of a page tells
+pub record DoesRead {T E : Type 0} (files files' : Files) (old new : List Event) (told : IsTold files old) (told' : IsTold files' new) (addr : ℕ) (page : List ℕ) (result : Result T E) : Type 0 where
+  pub look : DoesLook files files' old new told told' result
+  pub page_reads : page_reads_of new + reads_of old ≡ page_reads_of old + reads_of new
+  pub found : IsHonest files' new → OnOk result (slice_get (now_of files old).readable addr ≡ Some page)
+
+-- whether the cell is full, and what it holds
+abbrev pub HoldsAsTold : Option (List ℕ) → List ℕ → Bool → Type 0
+HoldsAsTold cell into full = (IsTrue full ↔ IsSome cell) × (IsTrue full → cell ≡ Some into)
+
+-- what a look at the cell tells
+pub record DoesLoad {E : Type 0} (files files' : Files) (old new : List Event) (told : IsTold files old) (told' : IsTold files' new) (into : List ℕ) (result : Result Bool E) : Type 0 where
+  pub look : DoesLook files files' old new told told' result
+  pub page_reads : page_reads_of new ≡ page_reads_of old
+  pub cell : IsHonest files' new → IfOk result (HoldsAsTold (now_of files old).cell into)
+
+-- the cell is what the bytes of `root` make it
+cell_of_bytes : (file : NamedFile) → cell_of file ≡ cell_with (bytes_of file)
+cell_of_bytes None = refl
+cell_of_bytes (Some file) = refl
+
+answered_root : (files : Files) (old : List Event) (root : Option (List ℕ)) → IsHonest files (root_read root ∷ old) → all_done old ≡ true → bytes_of (replay files old).root ≡ root
+answered_root files old None honest was = honest.0 was
+answered_root files old (Some bytes) honest was = honest.0 was
+
 module _ (files files' : Files) (old new : List Event) (told : IsTold files old) (told' : IsTold files' new) (same : files' ≡ files) where
   now_same : new ≡ old → now_of files' new ≡ now_of files old
   now_same is = ap (λ (f : Files). now_of f new) same ∙ ap (λ (es : List Event). now_of files es) is
@@ -143,6 +178,82 @@ module _ (files files' : Files) (old new : List Event) (told : IsTold files old)
       → (all_done old ≡ true → Calls (is_ok result) old new → Does files files' old new told told' after result) → Asks Calls result old new → Does files files' old new told told' after result
   asked Calls after result true is does asks = does is (asks.makes is)
   asked Calls after result false is does asks = let none = asks.refuses is in does_none after result none.0 none.1
+
+  look_none : {T E : Type 0} (result : Result T E) → is_ok result ≡ false → new ≡ old → DoesLook files files' old new told told' result
+  look_none result failed is = record {
+    image = now_same is;
+    time = steps_none files files' old new told told' same is;
+    recorded = recorded_same is;
+    answered = on_ok result (reads_of new ≡ reads_of old + 1) (λ yes. cc);
+    reads = none_more (reads_of old) (reads_of new) (ap reads_of is);
+    changes = ap changes_of is;
+  }
+
+  look_one : {T E : Type 0} (result : Result T E) (e : Event) → new ≡ e ∷ old → now_of files (e ∷ old) ≡ now_of files old → past_of files (e ∷ old) ≡ past_of files old ++ now_of files old ∷ []
+      → reads_of (e ∷ old) ≡ reads_of old + 1 → changes_of (e ∷ old) ≡ changes_of old → DoesLook files files' old new told told' result
+  look_one result e is shows adds reads changes =
+      let image : now_of files' new ≡ now_of files old = ap (λ (f : Files). now_of f new) same ∙ ap (λ (es : List Event). now_of files es) is ∙ shows in
+      record {
+        image = image;
+        time = steps_to files files' e old new told told' same is adds;
+        recorded = ap (λ (image : Image). length image.recorded) image;
+        answered = on_ok result (reads_of new ≡ reads_of old + 1) (λ yes. ap reads_of is ∙ reads);
+        reads = one_more (reads_of old) (reads_of new) (ap reads_of is ∙ reads);
+        changes = ap changes_of is ∙ changes;
+      }
+
+  read_none : {T E : Type 0} (addr : ℕ) (page : List ℕ) (result : Result T E) → is_ok result ≡ false → new ≡ old → DoesRead files files' old new told told' addr page result
+  read_none addr page result failed is = record {
+    look = look_none result failed is;
+    page_reads = rw is refl;
+    found = λ honest. on_ok result (slice_get (now_of files old).readable addr ≡ Some page) (λ yes. cc);
+  }
+
+  read_asked : {T E : Type 0} (addr : ℕ) (page : List ℕ) (result : Result T E) (done : Bool) → all_done old ≡ done → Asks (λ done. NotesPage result addr page) result old new → DoesRead files files' old new told told' addr page result
+  read_asked addr page (Ok answer) true was asks =
+      let is = asks.makes was in
+      record {
+        look = look_one (Ok answer) (page_read addr page) is refl refl refl refl;
+        page_reads = rw is (omega arith);
+        found = λ honest. subst (λ (f : Files). slice_get (now_of f old).readable addr ≡ Some page) same ((subst (λ (es : List Event). IsHonest files' es) is honest).0 was);
+      }
+  read_asked addr page (Err fault) true was asks = read_none addr page (Err fault) refl (asks.makes was)
+  read_asked addr page result false was asks = let none = asks.refuses was in read_none addr page result none.0 none.1
+
+  pub asked_read : {T E : Type 0} (addr : ℕ) (page : List ℕ) (result : Result T E) → Asks (λ done. NotesPage result addr page) result old new → DoesRead files files' old new told told' addr page result
+  asked_read addr page result = read_asked addr page result (all_done old) refl
+
+  held_cell : (into : List ℕ) (full : Bool) (root : Option (List ℕ)) → all_done old ≡ true → new ≡ root_read root ∷ old → (IsTrue full ↔ IsSome (cell_with root)) → (IsTrue full → cell_with root ≡ Some into) → IsHonest files' new
+      → HoldsAsTold (now_of files old).cell into full
+  held_cell into full root was is holds is_into honest =
+      let bytes : bytes_of (replay files' old).root ≡ root = answered_root files' old root (subst (λ (es : List Event). IsHonest files' es) is honest) was in
+      let cell : (now_of files old).cell ≡ cell_with root = ap (λ (f : Files). (now_of f old).cell) (sym same) ∙ cell_of_bytes (replay files' old).root ∙ ap cell_with bytes in
+      subst (λ (held : Option (List ℕ)). HoldsAsTold held into full) (sym cell) (holds, is_into)
+
+  load_none : {E : Type 0} (into : List ℕ) (result : Result Bool E) → is_ok result ≡ false → new ≡ old → DoesLoad files files' old new told told' into result
+  load_none into (Ok full) failed is = cc
+  load_none into (Err fault) failed is = record { look = look_none (Err fault) refl is; page_reads = ap page_reads_of is; cell = λ honest. tt }
+
+  load_one : {E : Type 0} (into : List ℕ) (full : Bool) (root : Option (List ℕ)) → new ≡ root_read root ∷ old → all_done old ≡ true → (IsTrue full ↔ IsSome (cell_with root)) → (IsTrue full → cell_with root ≡ Some into)
+      → DoesLoad {E = E} files files' old new told told' into (Ok full)
+  load_one into full None is was holds is_into = record {
+    look = look_one (Ok full) (root_read None) is refl refl refl refl;
+    page_reads = ap page_reads_of is;
+    cell = λ honest. held_cell into full None was is holds is_into honest;
+  }
+  load_one into full (Some bytes) is was holds is_into = record {
+    look = look_one (Ok full) (root_read (Some bytes)) is refl refl refl refl;
+    page_reads = ap page_reads_of is;
+    cell = λ honest. held_cell into full (Some bytes) was is holds is_into honest;
+  }
+
+  load_asked : {E : Type 0} (into : List ℕ) (result : Result Bool E) (done : Bool) → all_done old ≡ done → Asks (λ done. NotesCell result into) result old new → DoesLoad files files' old new told told' into result
+  load_asked into (Ok full) true was asks = let all = asks.makes was in load_one into full all.0 all.1 was all.2 all.3
+  load_asked into (Err fault) true was asks = load_none into (Err fault) refl (asks.makes was)
+  load_asked into result false was asks = let none = asks.refuses was in load_none into result none.0 none.1
+
+  pub asked_load : {E : Type 0} (into : List ℕ) (result : Result Bool E) → Asks (λ done. NotesCell result into) result old new → DoesLoad files files' old new told told' into result
+  asked_load into result = load_asked into result (all_done old) refl
 
   module _ (settled : all_done old ≡ true → Settled (replay files old)) where
     does_sync : {T E : Type 0} (result : Result T E) → all_done old ≡ true → Makes media_synced (is_ok result) old new → Does files files' old new told told' (all_synced (now_of files old)) result

@@ -1,7 +1,7 @@
 -- Which calls on files a call of the platform consists of.
 use Rattle.std.specs.Prelude.{◌≡◌, ◌⊎◌, ◌↔◌, ◌+◌, if◌then◌else◌, ℕ, Bool, true, false, List, [], ◌∷◌, ◌++◌, Option, Some, None, Result, Ok, Err, is_ok, take, IsTrue, IsSome}
 use Rattle.folder_platform.specs.Files.{Files}
-use Rattle.folder_platform.specs.Events.{Event, all_done, pages_counted, media_synced, folder_synced, root_read, root_synced, root_removed, new_removed, new_made, new_synced, new_renamed, cell_synced, replaced_in_place, cleared_in_place}
+use Rattle.folder_platform.specs.Events.{Event, all_done, pages_counted, page_read, media_synced, folder_synced, root_read, root_synced, root_removed, new_removed, new_made, new_synced, new_renamed, cell_synced, replaced_in_place, cleared_in_place}
 use Rattle.folder_platform.specs.Told.{cell_with}
 use Rattle.folder_platform.specs.declared.file_call.FileCall.{FileCall}
 use Rattle.folder_platform.specs.declared.file_call.FileCall.TheVariants.{CountPages}
@@ -31,8 +31,7 @@ Clears done old new = Unlinks done old new ⊎ (new ≡ cleared_in_place done �
 abbrev pub Makes : (Bool → Event) → Bool → List Event → List Event → Type 0
 Makes call done old new = new ≡ call done ∷ old
 
--- A call of the platform that changes something makes these calls, and is done where they all are. It makes none, and fails, where one
--- that changes something has failed before, and only there.
+-- A call of the platform makes these calls, done or not. Only where one that changes something has failed before it makes none, and fails.
 pub record Asks {T E : Type 0} (Calls : Bool → List Event → List Event → Type 0) (result : Result T E) (old new : List Event) : Type 0 where
   pub makes : all_done old ≡ true → Calls (is_ok result) old new
   pub refuses : all_done old ≡ false → (is_ok result ≡ false) × (new ≡ old)
@@ -65,6 +64,11 @@ abbrev pub NotesRoot : {E : Type 0} → Result (Option ℕ) E → List ℕ → L
 NotesRoot (Ok None) into old new = new ≡ root_read None ∷ old
 NotesRoot (Ok (Some n)) into old new = new ≡ root_read (Some (take n into)) ∷ old
 NotesRoot (Err _) into old new = new ≡ old
+
+-- the page at this address is in the buffer
+abbrev pub NotesPage : {T E : Type 0} → Result T E → ℕ → List ℕ → List Event → List Event → Type 0
+NotesPage (Ok _) addr into old new = new ≡ page_read addr into ∷ old
+NotesPage (Err _) addr into old new = new ≡ old
 
 -- whether the cell is full, and then what it holds, by one look at it
 abbrev pub NotesCell : {E : Type 0} → Result Bool E → List ℕ → List Event → List Event → Type 0

@@ -6,7 +6,7 @@ ghost use Rattle.folder_platform.specs.Events.{all_done, page_written, media_syn
 ghost use Rattle.folder_platform.specs.Model.{replay};
 ghost use Rattle.folder_platform.specs.Loss.{Settled, MayHold, AreLeft, AllSafe, opened};
 ghost use Rattle.folder_platform.specs.Refusals.{ShowsCause, TellsLast};
-ghost use Rattle.folder_platform.specs.Sequences.{IsOpening, Makes, Replaces, Clears, Asks, opening, counted};
+ghost use Rattle.folder_platform.specs.Sequences.{IsOpening, Makes, Replaces, Clears, Asks, NotesPage, NotesCell, opening, counted};
 ghost use Rattle.folder_platform.specs.Told.{IsTold, now_of};
 
 use crate::refusals::pages_told;
@@ -136,11 +136,15 @@ impl<C: CellCalls + Drop> Platform for FolderPlatform<C> {
         Ok(addr)
     }
 
-    fn read(&mut self, addr: u64, into: &mut [u8]) -> Result<(), PlatformFault> {
-        if self.is_stuck {
-            return fault(&mut self.faults);
-        }
-        if self.calls.read_page(addr, into).is_err() {
+    fn read(&mut self, addr: u64, into: &mut [u8]) -> Result<(), PlatformFault>
+        requires size { length into.old ≡ RECORD }
+        requires within { addr < self.old.head }
+        ensures files { C.PageCalls.start self.new.calls ≡ C.PageCalls.start self.old.calls }
+        ensures asks { Asks (λ done. NotesPage result addr into.new) result (C.PageCalls.events self.old.calls) (C.PageCalls.events self.new.calls) }
+        ensures faults { self.old.faults ≤ self.new.faults }
+        ensures cause { Tells result self.old.faults self.new.faults }
+    {
+        if self.is_stuck || self.calls.read_page(addr, into).is_err() {
             return fault(&mut self.faults);
         }
         Ok(())
@@ -162,7 +166,13 @@ impl<C: CellCalls + Drop> Platform for FolderPlatform<C> {
         Ok(())
     }
 
-    fn load_root(&mut self, into: &mut [u8]) -> Result<bool, PlatformFault> {
+    fn load_root(&mut self, into: &mut [u8]) -> Result<bool, PlatformFault>
+        requires size { length into.old ≡ ROOT }
+        ensures files { C.PageCalls.start self.new.calls ≡ C.PageCalls.start self.old.calls }
+        ensures asks { Asks (λ done. NotesCell result into.new) result (C.PageCalls.events self.old.calls) (C.PageCalls.events self.new.calls) }
+        ensures faults { self.old.faults ≤ self.new.faults }
+        ensures cause { Tells result self.old.faults self.new.faults }
+    {
         if self.is_stuck {
             return fault(&mut self.faults);
         }

@@ -1,6 +1,7 @@
 -- The clauses of the trait follow from the calls that each method asks.
 use Rattle.std.proofs.Common.{◌≡◌, ◌+◌, refl, sym, ◌∙◌}
-use Rattle.folder_platform.proofs.Asking.{if_ok_also, same_cell, cell_with_page, calm_where_done, asked_append, asked_sync, asked_replace, asked_clear}
+use Rattle.std.proofs.lemmas.Result.{IfOk-weaker}
+use Rattle.folder_platform.proofs.Asking.{if_ok_also, same_cell, cell_with_page, calm_where_done, asked_append, asked_read, asked_load, asked_sync, asked_replace, asked_clear}
 use Rattle.folder_platform.proofs.folder_platform.FolderPlatformPlatform.TheImpl.Goals as goal
 
 pub append-tells : goal.append-tells
@@ -22,6 +23,25 @@ append-tells g c =
       cause = c.ensures.cause;
     }
 
+pub read-tells : goal.read-tells
+read-tells g c =
+    let old = c.args.self.now in
+    let new = c.new.self.now in
+    let does = asked_read _ _ _ _ old.told new.told c.ensures.files c.args.addr c.new.into.now c.result c.ensures.asks in
+    record {
+      page = λ told. does.found (told (g.C.PageCalls.start new.calls) (g.C.PageCalls.events new.calls) (g.met.C.PageCalls.occurred new.calls));
+      image = λ told. does.look.image;
+      time = λ told. does.look.time;
+      head = sym new.recorded ∙ does.look.recorded ∙ old.recorded;
+      capacity = refl;
+      reads_ok = λ told. does.look.answered;
+      reads = λ told. does.look.reads;
+      page_reads = λ told. does.page_reads;
+      changes = λ told. does.look.changes;
+      faults = c.ensures.faults;
+      cause = c.ensures.cause;
+    }
+
 pub sync-tells : goal.sync-tells
 sync-tells g c =
     let old = c.args.self.now in
@@ -36,6 +56,25 @@ sync-tells g c =
       capacity = refl;
       reads = λ told. does.reads;
       changes = λ told. does.changes;
+      faults = c.ensures.faults;
+      cause = c.ensures.cause;
+    }
+
+pub load_root-tells : goal.load_root-tells
+load_root-tells g c =
+    let old = c.args.self.now in
+    let new = c.new.self.now in
+    let does = asked_load _ _ _ _ old.told new.told c.ensures.files c.new.into.now c.result c.ensures.asks in
+    record {
+      full = λ told. IfOk-weaker c.result _ _ (λ full is. is.0) (does.cell (told (g.C.PageCalls.start new.calls) (g.C.PageCalls.events new.calls) (g.met.C.PageCalls.occurred new.calls)));
+      bytes = λ told. IfOk-weaker c.result _ _ (λ full is. is.1) (does.cell (told (g.C.PageCalls.start new.calls) (g.C.PageCalls.events new.calls) (g.met.C.PageCalls.occurred new.calls)));
+      image = λ told. does.look.image;
+      time = λ told. does.look.time;
+      head = sym new.recorded ∙ does.look.recorded ∙ old.recorded;
+      capacity = refl;
+      reads_ok = λ told. does.look.answered;
+      reads = λ told. (does.look.reads, does.page_reads);
+      changes = λ told. does.look.changes;
       faults = c.ensures.faults;
       cause = c.ensures.cause;
     }

@@ -4,8 +4,8 @@ use Rattle.folder_platform.proofs.Safety.{safe_answer}
 use Rattle.folder_platform.proofs.Telling.{kept_answer, done_answer}
 use Rattle.folder_platform.proofs.folder_platform.FolderPlatformPlatform.read.Goals as goal
 
-pub invariant_of-self-else-is_err : goal.invariant_of-self-else-is_err
-invariant_of-self-else-is_err g c =
+pub invariant_of-self : goal.invariant_of-self
+invariant_of-self g c =
     let old = c.args.self.now in
     let e = c.read_page.ensures in
     let all = kept_answer _ _ _ _ c.args.addr c.read_page.new.into c.read_page.result e.start e.noted old.told in
