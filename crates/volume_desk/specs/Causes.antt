@@ -2,9 +2,10 @@
 use Rattle.std.specs.Prelude.{◌≡◌, ◌≤◌, ◌<◌, ◌-◌, ◌⊎◌, ℕ, List, Option, None, Some, Result, Ok, Err}
 use Rattle.platform.specs.Image.{Image}
 use Rattle.platform.specs.History.{History, moment}
+use Rattle.device_session.specs.Damage.{IsAtLimit}
 use Rattle.device_session.specs.Open.{needed_by}
 use Rattle.device_session.specs.Sessions.{Session}
-use Rattle.session_calls.specs.Damage.{IsMounted, IsWrongPlace, IsWrongStep}
+use Rattle.session_calls.specs.Damage.{IsMiscountedAt, IsMounted, IsWrongNode, IsWrongPlace}
 use Rattle.session_calls.specs.declared.stops.DeviceStop.{DeviceStop}
 use Rattle.session_calls.specs.declared.stops.DeviceStop.TheVariants as stops
 use Rattle.volume_table.specs.Tables.{Lacks}
@@ -106,42 +107,59 @@ abbrev pub Changes : Line → Type 0
 Changes (Read name block) = ⊥
 Changes _ = Unit {0}
 
--- an update that stops at a record which doesn't fit names such a one
-abbrev pub MeetsNode : Image → DeviceStop → Type 0
-MeetsNode image (stops.BadRecord addr) = IsWrongStep image addr
-MeetsNode image _ = Unit {0}
+-- an update stops at a node's place that doesn't fit, or, only where this holds, at the root node of a tree that is miscounted
+abbrev pub IsStepAt : Type 0 → Image → ℕ → Type 0
+IsStepAt Bound image addr = IsWrongNode image addr ⊎ (IsMiscountedAt image addr × Bound)
+
+-- and that is what it names
+abbrev pub MeetsNode : Type 0 → Image → DeviceStop → Type 0
+MeetsNode Bound image (stops.BadRecord addr) = IsStepAt Bound image addr
+MeetsNode Bound image _ = Unit {0}
+
+-- no block more can be mapped; or fewer are counted than so many that are trimmed behind a write of the table
+abbrev pub IsNearBound : Session → ℕ → Type 0
+IsNearBound session count = IsAtLimit session ⊎ (session.mapped < count)
+
+-- the session's count of mapped blocks is, or comes to be, at a bound at which such a line stops: a write where no block more can be mapped, a trim where none is counted, and a line that writes the table and
+-- trims the blocks of a volume at the one or the other
+abbrev pub IsBounded : Session → List Volume → Line → Type 0
+IsBounded session table (Create name count) = IsNearBound session count
+IsBounded session table (Write name block content) = IsAtLimit session
+IsBounded session table (Trim name block) = session.mapped ≡ 0
+IsBounded session table (Destroy name) = (v : Volume) × IsNamed table name v × IsNearBound session v.count
+IsBounded session table _ = ⊥
 
 -- it comes to the record at this address, which doesn't fit, where this is known: a read to a place of the tree, and each other line to a node's, or to a root node, since it only updates blocks
-abbrev pub MeetsRecord : Type 0 → Image → Line → ℕ → Type 0
-MeetsRecord Known image (Read name block) addr = Known → IsWrongPlace image addr
-MeetsRecord Known image Commit addr = ⊥
-MeetsRecord Known image _ addr = Known → IsWrongStep image addr
+abbrev pub MeetsRecord : Type 0 → Image → Session → List Volume → Line → ℕ → Type 0
+MeetsRecord Known image session table (Read name block) addr = Known → IsWrongPlace image addr
+MeetsRecord Known image session table Commit addr = ⊥
+MeetsRecord Known image session table it addr = Known → IsStepAt (IsBounded session table it) image addr
 
--- such a line may stop so, behind which there is this image
-abbrev pub MayStop : Type 0 → Image → Line → DeviceStop → Type 0
-MayStop Known image it stops.Platform = Unit {0}
-MayStop Known image it stops.Tape = Draws it
-MayStop Known image it stops.Ledger = Commits it
-MayStop Known image it stops.Memory = Changes it
-MayStop Known image it (stops.BadRecord addr) = MeetsRecord Known image it addr
-MayStop Known image it stops.BadRoot = ⊥
+-- such a line, over this session and table, may stop so, behind which there is this image
+abbrev pub MayStop : Type 0 → Image → Session → List Volume → Line → DeviceStop → Type 0
+MayStop Known image session table it stops.Platform = Unit {0}
+MayStop Known image session table it stops.Tape = Draws it
+MayStop Known image session table it stops.Ledger = Commits it
+MayStop Known image session table it stops.Memory = Changes it
+MayStop Known image session table it (stops.BadRecord addr) = MeetsRecord Known image session table it addr
+MayStop Known image session table it stops.BadRoot = ⊥
 
 -- and it is one that is not refused
-abbrev pub StopsAny : Type 0 → Image → ℕ → List Volume → Line → DeviceStop → Type 0
-StopsAny Known image blocks table it stop = MayStop Known image it stop × ((next : List Volume) × IsAccepted blocks table it next)
+abbrev pub StopsAny : Type 0 → Image → Session → ℕ → List Volume → Line → DeviceStop → Type 0
+StopsAny Known image session blocks table it stop = MayStop Known image session table it stop × ((next : List Volume) × IsAccepted blocks table it next)
 
 -- ---- answers
 
 -- the one table of a line's answers on any pages: which replies it may have, and what it did where this is known; or which stops, behind which there is this image
-abbrev pub AnswersAny : Type 0 → ((Image → Session → Image → Session → Type 0) → Type 0) → ((Image → Session → Image → Session → Type 0) → Type 0) → Image → Sizes → ℕ → ℕ → List Volume → List Volume → Line → List ℕ → Result Given DeviceStop → Type 0
-AnswersAny Known Did HadLeft image here needed behind table table_now it buffer (Ok reply) =
+abbrev pub AnswersAny : Type 0 → ((Image → Session → Image → Session → Type 0) → Type 0) → ((Image → Session → Image → Session → Type 0) → Type 0) → Image → Session → Sizes → ℕ → ℕ → List Volume → List Volume → Line → List ℕ → Result Given DeviceStop → Type 0
+AnswersAny Known Did HadLeft image session here needed behind table table_now it buffer (Ok reply) =
     TurnsTable here needed behind table it (said reply buffer) table_now × DoesAny (λ Claim. Known → Did Claim) (λ Claim. Known → HadLeft Claim) table (said reply buffer) it table_now
-AnswersAny Known Did HadLeft image here needed behind table table_now it buffer (Err stop) = StopsAny Known image here.blocks table it stop
+AnswersAny Known Did HadLeft image session here needed behind table table_now it buffer (Err stop) = StopsAny Known image session here.blocks table it stop
 
 -- those of calls for blocks: what it did is so of the session and the image from before, and of those behind
 abbrev pub AnswersOver : Type 0 → Image → Image → Session → Session → Sizes → List Volume → List Volume → Line → List ℕ → Result Given DeviceStop → Type 0
 AnswersOver tells before image session now here table table_now it buffer result =
-    AnswersAny (tells × IsMounted before session) (Across before session image now) (Across before session image now) image here (needed_by session) (needed_by now) table table_now it buffer result
+    AnswersAny (tells × IsMounted before session) (Across before session image now) (Across before session image now) image session here (needed_by session) (needed_by now) table table_now it buffer result
 
 -- what a commit of the session needs that goes on, if one does
 abbrev pub needed_behind : Option Session → ℕ
@@ -151,7 +169,7 @@ needed_behind (Some now) = needed_by now
 -- those of a line, behind which this session goes on: what it did is so of that one; and what it left before a commit was so at a moment of the line
 abbrev pub AnswersAlong : Type 0 → History → History → Session → Option Session → Sizes → List Volume → List Volume → Line → List ℕ → Result Given DeviceStop → Type 0
 AnswersAlong tells old new session after here table table_now it buffer result =
-    AnswersAny tells (AcrossIf old.present session new.present after) (λ Claim. WasOver (moment old) (moment new) new (Claim old.present session)) new.present here (needed_by session) (needed_behind after) table table_now it buffer result
+    AnswersAny tells (AcrossIf old.present session new.present after) (λ Claim. WasOver (moment old) (moment new) new (Claim old.present session)) new.present session here (needed_by session) (needed_behind after) table table_now it buffer result
 
 -- the answer of which that speaks
 abbrev pub answer_in : Result Answered DeviceStop → Result Given DeviceStop

@@ -1,5 +1,5 @@
 //! Writes a table, and trims the blocks of a volume.
-ghost use Rattle.std.specs.Prelude.{◌≡◌, ◌≢◌, ◌+◌, ◌*◌, ◌≤◌, Some, IfErr, OnOk};
+ghost use Rattle.std.specs.Prelude.{◌≡◌, ◌≢◌, ◌+◌, ◌*◌, ◌<◌, ◌≤◌, Some, IfErr, OnOk};
 ghost use Rattle.sdbt_base.specs.Arrays.{Device, Session as OpenSession, mounted, written};
 ghost use Rattle.byte_arrays.specs.Ranges.{blocks_from};
 ghost use Rattle.device_course.specs.States.{IsAt};
@@ -8,7 +8,7 @@ ghost use Rattle.device_course.specs.Held.{trim_all};
 ghost use Rattle.session_calls.specs.Along.{Drawn, drawn_by};
 ghost use Rattle.session_calls.specs.Damage.{IsMounted};
 ghost use Rattle.volume_table.specs.Tables.{IsInside, table_bytes};
-ghost use Rattle.volume_desk.specs.Causes.{MeetsNode};
+ghost use Rattle.volume_desk.specs.Causes.{IsNearBound, MeetsNode};
 ghost use Rattle.volume_desk.specs.Done.{HasCleared, HasTrimmed};
 ghost use Rattle.volume_desk.specs.Drawing.{DrewOne, tally};
 ghost use Rattle.volume_desk.specs.Turns.{ChangesTo};
@@ -36,7 +36,7 @@ pub(crate) fn change<P: Platform, T: Tape>(
     ensures drew { OnOk result (DrewOne (tally (T.drawn tape.old) (P.head platform.old)) (tally (T.drawn tape.new) (P.head platform.new))) }
     ensures leads { P.tells → (device : Device) (array : OpenSession) → IsAt (P.history platform.old).present (Some session.old) (mounted device array)
         → ChangesTo (P.history platform.new).present session.new device (trim_all (written array 0 (table_bytes table.now)) (blocks_from volume.now.start volume.now.count)) result }
-    ensures damage { P.tells → IsMounted (P.history platform.old).present session.old → IfErr result (MeetsNode (P.history platform.new).present) }
+    ensures damage { P.tells → IsMounted (P.history platform.old).present session.old → IfErr result (MeetsNode (IsNearBound session.old volume.now.count) (P.history platform.new).present) }
     // On any pages: none of the blocks is left, and block 0 has the table.
     ensures left { P.tells → IsMounted (P.history platform.old).present session.old → OnOk result (HasCleared (P.history platform.old).present session.old (P.history platform.new).present session.new volume.now table.now) }
 {
@@ -60,7 +60,7 @@ fn trim_range<P: Platform>(
     ensures head { P.head platform.new ≡ P.head platform.old }
     ensures leads { P.tells → (device : Device) (array : OpenSession) → IsAt (P.history platform.old).present (Some session.old) (mounted device array)
         → ChangesTo (P.history platform.new).present session.new device (trim_all array (blocks_from volume.now.start volume.now.count)) result }
-    ensures damage { P.tells → IsMounted (P.history platform.old).present session.old → IfErr result (MeetsNode (P.history platform.new).present) }
+    ensures damage { P.tells → IsMounted (P.history platform.old).present session.old → IfErr result (MeetsNode (session.old.mapped < volume.now.count) (P.history platform.new).present) }
     // On any pages: none of the blocks is left, and each other one is as it was.
     ensures gone { P.tells → IsMounted (P.history platform.old).present session.old
         → OnOk result (HasTrimmed (P.history platform.old).present.readable (P.history platform.new).present.readable session.old session.new volume.now.start volume.now.count) }

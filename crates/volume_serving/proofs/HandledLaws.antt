@@ -425,7 +425,7 @@ stop_ends new capacity table entry text it ahead (device.BadRecord addr) spelled
 
 -- the device stopped at it
 pub line_stop : (tells : Type 0) (blocks : ℕ) (old new : World) (session : Session) (text : List ℕ) (it : Line) (stop : DeviceStop) (a : Option (List ℕ)) → old.session ≡ Some session → Spells text it
-    → StopsAny tells new.outside.history.present blocks old.table it stop → IsLater old.outside new.outside → (tells → Extends old.outside.history new.outside.history) → DrewUntil (tally_of old.outside) (text ∷ []) [] (tally_of new.outside)
+    → StopsAny tells new.outside.history.present session blocks old.table it stop → IsLater old.outside new.outside → (tells → Extends old.outside.history new.outside.history) → DrewUntil (tally_of old.outside) (text ∷ []) [] (tally_of new.outside)
     → (tells → new.outside.reads ≤ old.outside.reads + reads_for old.table it)
     → (tells → (entry : Held) → IsHeld old.outside.history.present old.outside.head session old.table entry → Stopped old.outside new.outside old.table entry it stop)
     → Handled tells blocks old new (Err (stops.Device stop)) (text ∷ []) a a
@@ -438,7 +438,10 @@ line_stop tells blocks old new session text it stop a going spelled may later ex
     put_is = refl;
     behind = refl;
     many = omega arith;
-    tables = λ held is. record { last = paused old.outside held old.table; extends = extends; turns = refl; going = tt; reads = λ told. inr (it, spelled, few told); stopped = (it, spelled, may) };
+    tables = λ held is.
+        let same : session ≡ held = same_held old session held going is in
+        let may_held = subst (λ (s : Session). StopsAny tells new.outside.history.present s blocks old.table it stop) same may in
+        record { last = paused old.outside held old.table; extends = extends; turns = refl; going = tt; reads = λ told. inr (it, spelled, few told); stopped = (it, spelled, may_held) };
     drew = drew;
     later = later;
     led = λ told entry on.

@@ -167,7 +167,7 @@ tables_then tells blocks start between after table_mid table_now old mid new lin
       turns = turns_then here DidSo start one.last two.last lines more replies others same first (subst (λ (p : Pause). AreTurnsOn here DidSo p more others two.last) (sym one.going.2) two.turns);
       going = two.going;
       reads = λ told. reads_behind new.reads two.last lines more replies others same (two.reads told);
-      stopped = if_stopped_behind (λ (stop : DeviceStop) (it : Line). StopsAny tells new.history.present blocks two.last.table it stop) lines more replies others ending same two.stopped;
+      stopped = if_stopped_behind (λ (stop : DeviceStop) (it : Line). StopsAny tells new.history.present two.last.session blocks two.last.table it stop) lines more replies others ending same two.stopped;
     }
 
 pub tables_longer : (tells : Type 0) (blocks : ℕ) (start : Pause) (after : Option Session) (table_now : List Volume) (old new : Outside) (lines more : List (List ℕ)) (replies : List Reply) (stop : Stop) → IsOfLine stop → OnTables tells blocks start after table_now old new lines replies (Err stop)
@@ -178,7 +178,7 @@ tables_longer tells blocks start after table_now old new lines more replies stop
   turns = turns_longer (sizes blocks new.head new.capacity) (Did tells blocks new.capacity new.history) start on.last lines more replies on.turns;
   going = tt;
   reads = λ told. reads_longer new.reads on.last lines more replies (on.reads told);
-  stopped = if_stopped_longer (λ (stop : DeviceStop) (it : Line). StopsAny tells new.history.present blocks on.last.table it stop) lines more replies stop line on.stopped;
+  stopped = if_stopped_longer (λ (stop : DeviceStop) (it : Line). StopsAny tells new.history.present on.last.session blocks on.last.table it stop) lines more replies stop line on.stopped;
 }
 
 -- from an earlier moment on

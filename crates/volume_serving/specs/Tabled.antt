@@ -86,4 +86,4 @@ pub record OnTables (tells : Type 0) (blocks : ℕ) (start : Pause) (after : Opt
   pub turns : AreTurnsOn (sizes blocks new.head new.capacity) (Did tells blocks new.capacity new.history) start lines replies last
   pub going : OnOk ending (IsNow new after table_now last)
   pub reads : tells → ReadsOn new.reads last lines replies
-  pub stopped : IfStopped (λ stop it. StopsAny tells new.history.present blocks last.table it stop) lines replies ending
+  pub stopped : IfStopped (λ stop it. StopsAny tells new.history.present last.session blocks last.table it stop) lines replies ending

@@ -66,6 +66,6 @@ returns-in-Ok-read_block-clause-any g c =
 
 pub returns-in-Err-read_block-clause-any : goal.returns-in-Err-read_block-clause-any
 returns-in-Err-read_block-clause-any g c = (
-  read_may _ (g.P.Platform.history c.args.platform.now).present (g.P.Platform.history c.read_block.new.platform).present c.args.session.now c.in-Ok.at c.read_block.new.out c.args.name.now c.args.block c.in-Err-read_block.stop c.in-Err-read_block.ensures.any,
+  read_may _ (g.P.Platform.history c.args.platform.now).present (g.P.Platform.history c.read_block.new.platform).present c.args.session.now c.in-Ok.at c.read_block.new.out c.args.name.now c.args.block c.in-Err-read_block.stop c.args.table.now c.in-Err-read_block.ensures.any,
   (c.args.table.now, (has_block c.args.table.now c.args.name.now c.args.block c.in-Ok.at c.in-Ok.ensures.found, refl)),
 )

@@ -56,7 +56,7 @@ returns-in-Ok-trim_block-clause-any g c buffer = (
 
 pub returns-in-Err-trim_block-clause-any : goal.returns-in-Err-trim_block-clause-any
 returns-in-Err-trim_block-clause-any g c buffer = (
-  trim_may _ (g.P.Platform.history c.args.platform.now).present (g.P.Platform.history c.trim_block.new.platform).present c.args.session.now c.in-Ok.at c.args.name.now c.args.block c.in-Err-trim_block.stop c.in-Err-trim_block.ensures.any,
+  trim_may _ (g.P.Platform.history c.args.platform.now).present (g.P.Platform.history c.trim_block.new.platform).present c.args.session.now c.in-Ok.at c.args.name.now c.args.block c.in-Err-trim_block.stop c.args.table.now c.in-Err-trim_block.ensures.any,
   (c.args.table.now, (has_block c.args.table.now c.args.name.now c.args.block c.in-Ok.at c.in-Ok.ensures.found, refl)),
 )
 

@@ -76,7 +76,7 @@ returns-in-Ok-write_block-clause-any g c buffer = (
 
 pub returns-in-Err-write_block-clause-any : goal.returns-in-Err-write_block-clause-any
 returns-in-Err-write_block-clause-any g c buffer = (
-  write_may _ (g.P.Platform.history c.args.platform.now).present (g.P.Platform.history c.write_block.new.platform).present c.args.session.now c.in-Ok.at c.args.name.now c.args.block c.args.content.now c.in-Err-write_block.stop c.in-Err-write_block.ensures.any,
+  write_may _ (g.P.Platform.history c.args.platform.now).present (g.P.Platform.history c.write_block.new.platform).present c.args.session.now c.in-Ok.at c.args.name.now c.args.block c.args.content.now c.in-Err-write_block.stop c.args.table.now c.in-Err-write_block.ensures.any,
   (c.args.table.now, (has_block c.args.table.now c.args.name.now c.args.block c.in-Ok.at c.in-Ok.ensures.found, refl)),
 )
 

@@ -1,4 +1,4 @@
-use Rattle.std.proofs.Common.{Err, ◌≡◌, ◌+◌, ◌*◌, ℕ, List, length, subst, sym, ◌∙◌, arith}
+use Rattle.std.proofs.Common.{Err, ◌≡◌, ◌+◌, ◌*◌, ◌<◌, ◌≤◌, inl, inr, ℕ, List, length, subst, sym, ◌∙◌, arith}
 use Rattle.sdbt_base.specs.Arrays.{written}
 use Rattle.byte_arrays.specs.Ranges.{blocks_from}
 use Rattle.device_course.specs.Held.{trim_all}
@@ -6,7 +6,9 @@ use Rattle.session_calls.specs.Along.{drawn_by}
 use Rattle.volume_table.specs.Tables.{IsInside}
 use Rattle.volume_desk.specs.Turns.{ChangesTo}
 use Rattle.session_calls.proofs.CallLaws.{calls_stopped, calls_then, platform_quiet, tape_quiet}
-use Rattle.volume_desk.proofs.CauseLaws.{write_names}
+use Rattle.device_session.specs.Damage.{IsAtLimit}
+use Rattle.volume_desk.specs.Causes.{IsNearBound}
+use Rattle.volume_desk.proofs.CauseLaws.{names_all, names_where, write_names}
 use Rattle.volume_desk.proofs.DeskLaws.{ok_follows, on_ok, write_sound}
 use Rattle.volume_desk.proofs.DoneLaws.{cleared}
 use Rattle.volume_desk.proofs.DrawingLaws.{one_then}
@@ -34,7 +36,11 @@ returns-in-Ok-clause-leads g c told device array at =
     c.encode.ensures (c.trim_range.ensures.leads told device _ (c.in-Ok.ensures.leads told device array at))
 
 pub returns-in-Ok-clause-damage : goal.returns-in-Ok-clause-damage
-returns-in-Ok-clause-damage g c told mounted = c.trim_range.ensures.damage told (c.in-Ok.ensures.goes.along.mounted told mounted)
+returns-in-Ok-clause-damage g c told mounted =
+    let put = c.in-Ok.ensures.written told mounted in
+    let more : c.args.session.now.mapped ≤ c.write_block.new.session.mapped = elim put.counts [ inl still ↦ (let same = still.1 in omega (arith, same)) | inr one ↦ (let next = one.2 in omega (arith, next)) ] in
+    names_all (c.write_block.new.session.mapped < c.args.volume.now.count) (IsNearBound c.args.session.now c.args.volume.now.count) (g.P.Platform.history c.trim_range.new.platform).present c.trim_range.result (λ less. inr (omega (arith, more, less)))
+    (c.trim_range.ensures.damage told (c.in-Ok.ensures.goes.along.mounted told mounted))
 
 pub returns-in-Err-clause-calls : goal.returns-in-Err-clause-calls
 returns-in-Err-clause-calls g c =
@@ -45,7 +51,9 @@ pub returns-in-Err-clause-leads : goal.returns-in-Err-clause-leads
 returns-in-Err-clause-leads g c told device array at = write_sound (g.P.Platform.history c.write_block.new.platform).present c.write_block.new.session device array 0 c.encode.new.out c.in-Err.stop (c.in-Err.ensures.leads told device array at)
 
 pub returns-in-Err-clause-damage : goal.returns-in-Err-clause-damage
-returns-in-Err-clause-damage g c told mounted = write_names _ (g.P.Platform.history c.args.platform.now).present (g.P.Platform.history c.write_block.new.platform).present c.args.session.now 0 c.in-Err.stop c.in-Err.ensures.any (told, mounted)
+returns-in-Err-clause-damage g c told mounted =
+    names_where (IsAtLimit c.args.session.now) (IsNearBound c.args.session.now c.args.volume.now.count) (g.P.Platform.history c.write_block.new.platform).present c.in-Err.stop inl
+    (write_names _ (g.P.Platform.history c.args.platform.now).present (g.P.Platform.history c.write_block.new.platform).present c.args.session.now 0 c.in-Err.stop c.in-Err.ensures.any (told, mounted))
 
 pub returns-in-Ok-clause-left : goal.returns-in-Ok-clause-left
 returns-in-Ok-clause-left g c told mounted =

@@ -1,4 +1,4 @@
-use Rattle.std.proofs.Common.{Err, ◌≡◌, ◌+◌, ◌*◌, ℕ, Some, ap, refl, subst, sym, ◌∙◌, arith}
+use Rattle.std.proofs.Common.{Err, ◌≡◌, ◌+◌, ◌*◌, ◌<◌, inl, inr, ℕ, Some, ap, refl, subst, sym, ◌∙◌, arith}
 use Rattle.sdbt_base.specs.Arrays.{Session as OpenSession, mounted}
 use Rattle.sdbt_base.specs.Counts.{counts}
 use Rattle.byte_arrays.specs.Ranges.{blocks_from}
@@ -10,7 +10,7 @@ use Rattle.session_calls.specs.Along.{Along}
 use Rattle.session_calls.proofs.AlongLaws.{along_start, along_then}
 use Rattle.session_calls.proofs.CallLaws.{along_more, calls_stopped, calls_then, no_draw, platform_quiet}
 use Rattle.volume_desk.specs.Done.{HasTrimmed}
-use Rattle.volume_desk.proofs.CauseLaws.{trim_names}
+use Rattle.volume_desk.proofs.CauseLaws.{names_where, trim_names}
 use Rattle.volume_desk.proofs.DeskLaws.{trim_sound}
 use Rattle.volume_desk.proofs.DoneLaws.{trimmed_more, trimmed_none}
 use Rattle.volume_desk.proofs.ReadLaws.{along_block, calls_block}
@@ -23,6 +23,7 @@ loop-i-init g c = record {
   head = refl;
   gone = λ told mounted. trimmed_none (g.P.Platform.history c.args.platform.now).present.readable c.args.session.now c.args.volume.now.start;
   quiet = refl;
+  fewer = λ told mounted. omega arith;
 }
 
 pub loop-i-preserved : goal.loop-i-preserved
@@ -42,6 +43,10 @@ loop-i-preserved g c =
           trimmed_more (P.history c.args.platform.now).present.readable (P.history c.loop-i.platform).present.readable (P.history c.trim_block.new.platform).present.readable c.args.session.now c.loop-i.session c.trim_block.new.session first c.loop-i.i (so_far.along no_draw).blocks
           (omega (arith, c.requires.inside.within, c.loop-i-test.true)) (so_far.gone told mounted) (c.in-Ok.ensures.taken told ((so_far.along no_draw).mounted told mounted));
       quiet = platform_quiet _ _ (c.in-Ok.ensures.goes no_draw).quiet ∙ so_far.quiet;
+      fewer = λ told mounted.
+          let few = so_far.fewer told mounted in
+          let taken = c.in-Ok.ensures.taken told ((so_far.along no_draw).mounted told mounted) in
+          elim taken.counts [ inl still ↦ (let same = still.1 in omega (arith, few, same)) | inr one ↦ (let less = one.1 in omega (arith, few, less)) ];
     }
 
 pub trim_block-requires-clause-open : goal.trim_block-requires-clause-open
@@ -65,7 +70,10 @@ pub returns-in-Err-clause-leads : goal.returns-in-Err-clause-leads
 returns-in-Err-clause-leads g c told device array at = trim_sound (g.P.Platform.history c.trim_block.new.platform).present c.trim_block.new.session device (trim_all array (blocks_from c.args.volume.now.start c.loop-i.i)) (c.args.volume.now.start + c.loop-i.i) c.in-Err.stop (c.in-Err.ensures.leads told device _ (c.loop-i.invariant.trims told device array at))
 
 pub returns-in-Err-clause-damage : goal.returns-in-Err-clause-damage
-returns-in-Err-clause-damage g c told mounted = trim_names _ (g.P.Platform.history c.loop-i.platform).present (g.P.Platform.history c.trim_block.new.platform).present c.loop-i.session (c.args.volume.now.start + c.loop-i.i) c.in-Err.stop c.in-Err.ensures.any (told, (c.loop-i.invariant.along no_draw).mounted told mounted)
+returns-in-Err-clause-damage g c told mounted =
+    let few = c.loop-i.invariant.fewer told mounted in
+    names_where (c.loop-i.session.mapped ≡ 0) (c.args.session.now.mapped < c.args.volume.now.count) (g.P.Platform.history c.trim_block.new.platform).present c.in-Err.stop (λ none. omega (arith, none, few, c.loop-i-test.true))
+    (trim_names _ (g.P.Platform.history c.loop-i.platform).present (g.P.Platform.history c.trim_block.new.platform).present c.loop-i.session (c.args.volume.now.start + c.loop-i.i) c.in-Err.stop c.in-Err.ensures.any (told, (c.loop-i.invariant.along no_draw).mounted told mounted))
 
 pub returns-clause-calls : goal.returns-clause-calls
 returns-clause-calls g c drawn =

@@ -1,4 +1,4 @@
-use Rattle.std.specs.Prelude.{◌≡◌, ◌*◌, Some}
+use Rattle.std.specs.Prelude.{◌≡◌, ◌*◌, ◌+◌, ◌≤◌, Some}
 use Rattle.sdbt_base.specs.Arrays.{Device, Session as OpenSession, mounted}
 use Rattle.byte_arrays.specs.Ranges.{blocks_from}
 use Rattle.device_course.specs.States.{IsAt}
@@ -18,4 +18,5 @@ invariant-loop-i g l =
       head : P.head l.platform ≡ P.head l.fn.platform;
       gone : P.tells → IsMounted (P.history l.fn.platform).present l.fn.session → HasTrimmed (P.history l.fn.platform).present.readable (P.history l.platform).present.readable l.fn.session l.session l.volume.start l.i;
       quiet : P.faults l.platform ≡ P.faults l.fn.platform;
+      fewer : P.tells → IsMounted (P.history l.fn.platform).present l.fn.session → l.fn.session.mapped ≤ l.session.mapped + l.i;
     }

@@ -48,7 +48,7 @@ returns-in-Ok-clause-any g c table buffer =
     (λ needed free is. short_pages g.P.Platform c.args.platform.now c.commit_session.new.platform c.args.tape.now c.commit_session.new.tape c.args.ledger.now c.commit_session.new.ledger c.args.session c.in-Ok.done.session c.in-Ok.done.reply needed free is c.in-Ok.ensures.answers)
 
 pub returns-in-Err-clause-any : goal.returns-in-Err-clause-any
-returns-in-Err-clause-any g c table buffer = (commit_may g.P.Platform.tells (g.P.Platform.history c.commit_session.new.platform).present Commit c.args.ledger.now c.commit_session.new.ledger c.in-Err.stop tt tt tt c.in-Err.ensures.goes.unput, (table, refl))
+returns-in-Err-clause-any g c table buffer = (commit_may g.P.Platform.tells (g.P.Platform.history c.commit_session.new.platform).present Commit c.args.session table c.args.ledger.now c.commit_session.new.ledger c.in-Err.stop tt tt tt c.in-Err.ensures.goes.unput, (table, refl))
 
 pub returns-in-Ok-clause-spends : goal.returns-in-Ok-clause-spends
 returns-in-Ok-clause-spends g c table buffer =

@@ -77,7 +77,7 @@ returns-in-Some-clause-any g c buffer =
 
 pub returns-in-Err-clause-any : goal.returns-in-Err-clause-any
 returns-in-Err-clause-any g c buffer =
-    stops_known (g.P.Platform.tells × IsMounted (g.P.Platform.history c.args.platform.now).present c.args.first) g.P.Platform.tells (g.P.Platform.history c.take_out.new.platform).present (blocks_of c.args.first) c.args.table.now (Destroy c.args.name.now) c.in-Err.stop (λ told. (told, c.requires.ready.mounted told)) (c.in-Err.ensures.any buffer)
+    stops_known (g.P.Platform.tells × IsMounted (g.P.Platform.history c.args.platform.now).present c.args.first) g.P.Platform.tells (g.P.Platform.history c.take_out.new.platform).present c.args.first (blocks_of c.args.first) c.args.table.now (Destroy c.args.name.now) c.in-Err.stop (λ told. (told, c.requires.ready.mounted told)) (c.in-Err.ensures.any buffer)
 
 pub returns-in-Ok-commit_session-clause-any : goal.returns-in-Ok-commit_session-clause-any
 returns-in-Ok-commit_session-clause-any g c buffer =
@@ -102,7 +102,7 @@ returns-in-Ok-commit_session-clause-any g c buffer =
 pub returns-in-Err-commit_session-clause-any : goal.returns-in-Err-commit_session-clause-any
 returns-in-Err-commit_session-clause-any g c buffer =
     let taken = takes_none_any g.P.Platform.tells (g.P.Platform.history c.args.platform.now).present (g.P.Platform.history c.take_out.new.platform).present c.args.first c.take_out.new.session (sizes (blocks_of c.args.first) (g.P.Platform.head c.take_out.new.platform) (g.P.Platform.capacity c.take_out.new.platform)) c.args.table.now c.take_out.new.table c.args.name.now buffer c.in-Ok.refused c.in_default.is (c.in-Ok.ensures.any buffer) in (
-      commit_may _ _ (Destroy c.args.name.now) c.args.ledger.now c.commit_session.new.ledger c.in-Err-commit_session.stop tt tt tt c.in-Err-commit_session.ensures.goes.unput,
+      commit_may _ _ (Destroy c.args.name.now) c.args.first c.args.table.now c.args.ledger.now c.commit_session.new.ledger c.in-Err-commit_session.stop tt tt tt c.in-Err-commit_session.ensures.goes.unput,
       (c.take_out.new.table, taken.0),
     )
 

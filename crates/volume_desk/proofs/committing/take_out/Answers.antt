@@ -6,7 +6,8 @@ use Rattle.session_calls.specs.Along.{drawn_by}
 use Rattle.session_calls.specs.Damage.{IsMounted}
 use Rattle.volume_lines.specs.Lines.{Destroy}
 use Rattle.volume_desk.proofs.DoneLaws.{keeps_all}
-use Rattle.volume_desk.proofs.CauseLaws.{call_may}
+use Rattle.volume_desk.specs.Causes.{IsBounded, IsNearBound}
+use Rattle.volume_desk.proofs.CauseLaws.{call_may, names_where}
 use Rattle.volume_terms.proofs.TableLaws.{inside_of}
 use Rattle.session_calls.proofs.CallLaws.{calls_done, calls_none, calls_stopped}
 use Rattle.volume_desk.proofs.DeskLaws.{changed_none, held_changed, named_at}
@@ -99,7 +100,11 @@ returns-in-Ok-clause-any g c buffer =
 pub returns-in-Err-clause-any : goal.returns-in-Err-clause-any
 returns-in-Err-clause-any g c buffer =
     let found = c.in-Some.ensures.found in
-    let may = call_may (g.P.Platform.tells × IsMounted (g.P.Platform.history c.args.platform.now).present c.args.session.now) _ (Destroy c.args.name.now) c.in-Err.stop tt tt (λ addr met. met) c.in-Err.ensures.calls.stops (λ known. c.in-Err.ensures.damage known.0 known.1) in
+    let image = (g.P.Platform.history c.change.new.platform).present in
+    let near : Type 0 = IsNearBound c.args.session.now c.in-Some.volume.count in
+    let bounded : Type 0 = IsBounded c.args.session.now c.args.table.now (Destroy c.args.name.now) in
+    let may = call_may (g.P.Platform.tells × IsMounted (g.P.Platform.history c.args.platform.now).present c.args.session.now) image c.args.session.now c.args.table.now (Destroy c.args.name.now) c.in-Err.stop tt tt (λ addr met. met) c.in-Err.ensures.calls.stops
+    (λ known. names_where near bounded image c.in-Err.stop (λ bound. (c.in-Some.volume, named_at c.args.table.now c.args.name.now c.in-Some.at c.in-Some.volume found.0 found.1, bound)) (c.in-Err.ensures.damage known.0 known.1)) in
     (may, (c.remove.new.self, (c.in-Some.volume, found.1, (c.in-Some.at, found.0, c.remove.ensures.removed))))
 
 pub returns-in_default-clause-drew : goal.returns-in_default-clause-drew

@@ -8,6 +8,7 @@ use Rattle.volume_terms.specs.Volumes.{IsCount, changed}
 use Rattle.volume_terms.proofs.TableLaws.{placed_has}
 use Rattle.session_calls.proofs.CallLaws.{calls_done, calls_none, calls_stopped}
 use Rattle.volume_desk.proofs.DoneLaws.{keeps_all}
+use Rattle.volume_desk.specs.Causes.{IsNearBound, MeetsNode}
 use Rattle.volume_desk.proofs.CauseLaws.{call_may}
 use Rattle.volume_desk.proofs.DeskLaws.{changed_none, held_changed, is_new, no_room, out_of_range}
 use Rattle.volume_desk.proofs.DrawingLaws.{seals_none}
@@ -129,7 +130,8 @@ returns-in-Err-clause-any g c buffer =
     let placed = c.in-Some.ensures.placed in
     let new = is_new (blocks_of c.args.session.now) c.blocks-3.result c.args.count c.args.table.now c.duplicate-next.result c.put.new.self c.args.name.now c.in-Some.volume c.blocks-3.ensures c.duplicate-next.ensures placed.0 placed.1 placed.2
     c.in-Some.ensures.inserted c.in-Some.ensures.table in
-    let may = call_may (g.P.Platform.tells × IsMounted (g.P.Platform.history c.args.platform.now).present c.args.session.now) _ (Create c.args.name.now c.args.count) c.in-Err.stop tt tt (λ addr met. met) c.in-Err.ensures.calls.stops (λ known. c.in-Err.ensures.damage known.0 known.1) in
+    let may = call_may (g.P.Platform.tells × IsMounted (g.P.Platform.history c.args.platform.now).present c.args.session.now) _ c.args.session.now c.args.table.now (Create c.args.name.now c.args.count) c.in-Err.stop tt tt (λ addr met. met) c.in-Err.ensures.calls.stops
+    (λ known. subst (λ (n : ℕ). MeetsNode (IsNearBound c.args.session.now n) (g.P.Platform.history c.change.new.platform).present c.in-Err.stop) placed.1 (c.in-Err.ensures.damage known.0 known.1)) in
     (may, (c.put.new.self, (c.if-has_volume.ensures.lacks refl, fits, c.in-Some.volume, new)))
 
 pub returns-then-has_volume-clause-drew : goal.returns-then-has_volume-clause-drew

@@ -56,7 +56,7 @@ returns-in-Ok-clause-any g c =
 
 pub returns-in-Err-clause-any : goal.returns-in-Err-clause-any
 returns-in-Err-clause-any g c =
-    stops_known (g.P.Platform.tells × IsMounted (g.P.Platform.history c.args.platform.now).present c.args.first) g.P.Platform.tells (g.P.Platform.history c.serve_blocks.new.platform).present (blocks_of c.args.first) c.args.desk.now.table (asked c.args.line.now c.args.desk.now.buffer) c.in-Err.stop
+    stops_known (g.P.Platform.tells × IsMounted (g.P.Platform.history c.args.platform.now).present c.args.first) g.P.Platform.tells (g.P.Platform.history c.serve_blocks.new.platform).present c.args.first (blocks_of c.args.first) c.args.desk.now.table (asked c.args.line.now c.args.desk.now.buffer) c.in-Err.stop
     (λ told. (told, c.requires.ready.mounted told)) c.in-Err.ensures.any
 
 pub returns-in-Commit-clause-spends : goal.returns-in-Commit-clause-spends

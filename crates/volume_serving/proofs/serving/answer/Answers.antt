@@ -59,4 +59,4 @@ pub returns-in-Ok-clause-carries : goal.returns-in-Ok-clause-carries
 returns-in-Ok-clause-carries g c = carries_told _ _ _ c.args.session c.in-Ok.done.session _ c.tell-in-Ok.result refl c.tell-in-Ok.ensures.session c.in-Ok.ensures.carries
 
 pub returns-in-Err-clause-damage : goal.returns-in-Err-clause-damage
-returns-in-Err-clause-damage g c told = may_meets g.P.Platform.tells _ (asked c.in-Some.line c.read_line.new.buffer) c.in-Err.stop c.in-Err.ensures.any.0 told
+returns-in-Err-clause-damage g c told = may_meets g.P.Platform.tells _ c.args.session c.args.desk.now.table (asked c.in-Some.line c.read_line.new.buffer) c.in-Err.stop c.in-Err.ensures.any.0 told
