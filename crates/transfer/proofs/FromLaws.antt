@@ -237,5 +237,6 @@ clears_nothing P platform Done never = clears_look P platform platform Done neve
   time = λ told. still (P.history platform);
   head = refl;
   capacity = refl;
+  changes = λ told. refl;
   faults = omega arith;
 })

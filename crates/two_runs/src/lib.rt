@@ -6,7 +6,7 @@ ghost use Rattle.sdbt_base.specs.Arrays.{Device};
 ghost use Rattle.device_terms.specs.Served.{IsServedImage};
 ghost use Rattle.device_course.specs.Fitting.{LeavesFitting};
 ghost use Rattle.device_cli.specs.Represents.{StandsFor};
-ghost use Rattle.platform.specs.Mem.{mem_history, image_of_now, capacity_of, answered_of, faults_of};
+ghost use Rattle.platform.specs.Mem.{mem_history, image_of_now, capacity_of, answered_of, changes_of, faults_of};
 ghost use Rattle.sdbt_base.specs.Counts.{counts};
 ghost use Rattle.device_cli.specs.World.{world};
 ghost use Rattle.two_runs.specs.TwoRuns.{TwoRuns, HaveCauses};
@@ -34,8 +34,8 @@ pub fn run_twice<T: Tape, I: Source, O: Sink, L: Sink>(
     torn: &[u64],
 ) -> (u8, u8)
     ensures runs { TwoRuns torn.now (T.drawn tape.old) (T.drawn tape.new)
-        (world None (mem_history platform.old) (length (image_of_now platform.old).recorded) (capacity_of platform.old) (answered_of platform.old))
-        (world None (mem_history platform.new) (length (image_of_now platform.new).recorded) (capacity_of platform.new) (answered_of platform.new))
+        (world None (mem_history platform.old) (length (image_of_now platform.old).recorded) (capacity_of platform.old) (answered_of platform.old) (changes_of platform.old))
+        (world None (mem_history platform.new) (length (image_of_now platform.new).recorded) (capacity_of platform.new) (answered_of platform.new) (changes_of platform.new))
         result.0 result.1 (I.left first.old) (I.left first.new) (I.left second.old) (I.left second.new)
         (O.written output.old) (O.written output.new) }
     // A ledger that the checker accepted at the start is accepted, with the entries of both runs, for all that is left at the end.
