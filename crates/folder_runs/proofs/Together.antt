@@ -98,6 +98,7 @@ told_answers tells old new status left left_now written written_now told run = r
   full = run.full;
   so = λ _. (let so = run.so told in (so.0, so.1, told_so tells new.history (moment old.history) None run.lines run.replies so.0 so.1 told so.2));
   looks = λ _. run.looks told;
+  changes = λ _. run.changes told;
   answered = λ _. run.answered told;
 }
 
