@@ -28,7 +28,8 @@ use Rattle.script_lang.specs.Replies.{AlreadyUpgraded, Committed, Full, NoDevice
 use Rattle.script_lang.specs.declared.replies.Reply.{Reply as Given}
 use Rattle.std.specs.Prelude.{◌⊎◌, IfSome, IsErrOf}
 use Rattle.session_calls.specs.Along.{Drawn}
-use Rattle.session_calls.specs.Damage.{IsMounted, ReadsAny, TrimsAny, WritesAny}
+use Rattle.device_session.specs.Damage.{IsAtLimit, IsPastLimit, IsUncounted}
+use Rattle.session_calls.specs.Damage.{IsMiscountedAt, IsMounted, IsWrongNode, ReadsAny, TrimsAny, WritesAny}
 use Rattle.session_calls.specs.Blame.{IsOfCall}
 use Rattle.session_calls.specs.Commits.{CommitLeads, HasNumber, IsShort, ReplyLeads, StopsAt}
 use Rattle.session_calls.specs.Mounts.{IsMountStop, MountLeads}
@@ -167,28 +168,34 @@ read_stops tells Known held image now session block bytes stops.Tape known withi
 read_stops tells Known held image now session block bytes stops.Ledger known within any = absurd any
 read_stops tells Known held image now session block bytes stops.BadRoot known within any = absurd any
 
--- a wrong node, or the root node
-wrong_one : {A B C : Type 0} → A ⊎ (B × C) → A ⊎ B
-wrong_one (inl node) = inl node
-wrong_one (inr counted) = inr counted.0
+-- a wrong node, or the root node where the count is met
+wrong_at_limit : {A B : Type 0} (pages : List (List ℕ)) (session : Session) (block addr : ℕ) → A ⊎ (B × IsPastLimit pages session block addr) → A ⊎ (B × IsAtLimit session)
+wrong_at_limit pages session block addr (inl node) = inl node
+wrong_at_limit pages session block addr (inr counted) = inr (counted.0, counted.1.1)
 
-pub write_stops : (tells Known : Type 0) (held : Option Session) (image : Image) (now : World) (session : Session) (block : ℕ) (content : List ℕ) (stop : DeviceStop) → (tells → Known)
+wrong_uncounted : {A B : Type 0} (pages : List (List ℕ)) (session : Session) (block addr : ℕ) → A ⊎ (B × IsUncounted pages session block addr) → A ⊎ (B × (session.mapped ≡ 0))
+wrong_uncounted pages session block addr (inl node) = inl node
+wrong_uncounted pages session block addr (inr counted) = inr (counted.0, counted.1.1)
+
+pub write_stops : (tells Known : Type 0) (held : Option Session) (image : Image) (now : World) (session : Session) (block : ℕ) (content : List ℕ) (stop : DeviceStop) → held ≡ Some session → (tells → Known)
     → OnMounted tells now.history.present held (λ s. block < blocks_of s) → (stop ≡ stops.Memory → now.head < now.capacity) → WritesAny Known image now.history.present session block (Err stop) → MayStop tells held now.history.present now.head now.capacity (Write block content) stop
-write_stops tells Known held image now session block content stops.Platform known within lacks any = within
-write_stops tells Known held image now session block content (stops.BadRecord addr) known within lacks any = λ told. wrong_one (any (known told))
-write_stops tells Known held image now session block content stops.Memory known within lacks any = (lacks refl, within)
-write_stops tells Known held image now session block content stops.Tape known within lacks any = tt
-write_stops tells Known held image now session block content stops.Ledger known within lacks any = absurd any
-write_stops tells Known held image now session block content stops.BadRoot known within lacks any = absurd any
+write_stops tells Known held image now session block content stops.Platform same known within lacks any = within
+write_stops tells Known held image now session block content (stops.BadRecord addr) same known within lacks any =
+    held_has held session (λ (s : Session). tells → IsWrongNode now.history.present addr ⊎ (IsMiscountedAt now.history.present addr × IsAtLimit s)) same (λ told. wrong_at_limit image.readable session block addr (any (known told)))
+write_stops tells Known held image now session block content stops.Memory same known within lacks any = (lacks refl, within)
+write_stops tells Known held image now session block content stops.Tape same known within lacks any = tt
+write_stops tells Known held image now session block content stops.Ledger same known within lacks any = absurd any
+write_stops tells Known held image now session block content stops.BadRoot same known within lacks any = absurd any
 
-pub trim_stops : (tells Known : Type 0) (held : Option Session) (image : Image) (now : World) (session : Session) (block : ℕ) (stop : DeviceStop) → (tells → Known)
+pub trim_stops : (tells Known : Type 0) (held : Option Session) (image : Image) (now : World) (session : Session) (block : ℕ) (stop : DeviceStop) → held ≡ Some session → (tells → Known)
     → OnMounted tells now.history.present held (λ s. block < blocks_of s) → TrimsAny Known image now.history.present session block (Err stop) → MayStop tells held now.history.present now.head now.capacity (Trim block) stop
-trim_stops tells Known held image now session block stops.Platform known within any = within
-trim_stops tells Known held image now session block (stops.BadRecord addr) known within any = λ told. wrong_one (any (known told))
-trim_stops tells Known held image now session block stops.Memory known within any = within
-trim_stops tells Known held image now session block stops.Tape known within any = absurd any
-trim_stops tells Known held image now session block stops.Ledger known within any = absurd any
-trim_stops tells Known held image now session block stops.BadRoot known within any = absurd any
+trim_stops tells Known held image now session block stops.Platform same known within any = within
+trim_stops tells Known held image now session block (stops.BadRecord addr) same known within any =
+    held_has held session (λ (s : Session). tells → IsWrongNode now.history.present addr ⊎ (IsMiscountedAt now.history.present addr × (s.mapped ≡ 0))) same (λ told. wrong_uncounted image.readable session block addr (any (known told)))
+trim_stops tells Known held image now session block stops.Memory same known within any = within
+trim_stops tells Known held image now session block stops.Tape same known within any = absurd any
+trim_stops tells Known held image now session block stops.Ledger same known within any = absurd any
+trim_stops tells Known held image now session block stops.BadRoot same known within any = absurd any
 
 -- a mount without a session
 pub mount_stops : (tells : Type 0) (held : Option Session) (image : Image) (pages : ℕ) (now : World) (stop : DeviceStop) → held ≡ None → (tells → now.history.present ≡ image) → now.head ≡ pages

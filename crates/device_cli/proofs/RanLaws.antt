@@ -13,12 +13,12 @@ use Rattle.device_cli.specs.Represents.{Stood}
 use Rattle.device_cli.proofs.RepliedLaws.{made_idle, Replied-idle, Handled-then, count-then}
 use Rattle.device_cli.proofs.PassLaws.{AreMarks-none}
 use Rattle.device_cli.proofs.DrawingLaws.{until_none}
-use Rattle.device_cli.proofs.ReplyLaws.{so_idle}
+use Rattle.device_cli.proofs.ReplyLaws.{so_idle, so_ended}
 use Rattle.script_lang.specs.Replies.{line_of, Reply}
 use Rattle.device_cli.specs.Run.{Took}
 use Rattle.line_run.specs.Stops.{TookUntil, Ending, IsSound, exit_of}
 use Rattle.device_cli.specs.Pages.{Standing, standing}
-use Rattle.device_cli.specs.Replied.{IsEndingAt, IsAhead, Answered}
+use Rattle.device_cli.specs.Replied.{IsEndingAt, IsAhead, Answered, MeetsWith}
 use Rattle.line_run.specs.Puts.{IsBehind, no_line, damage_line}
 use Rattle.device_cli.specs.Ran.{Ran}
 use Rattle.line_run.specs.declared.stop.Stop.{Stop}
@@ -163,7 +163,7 @@ Ran-cut tells Before old new stop left left_now a b c r (n, got) damaged = let p
       many = p.many;
       stopped = tt;
       drew = p.drew;
-      so = p.so;
+      so = so_ended tells old.history new.history old.session new.session r.lines p.replies _ _ (λ held met. tt) p.so;
       later = p.later;
       full = p.full;
       enough = p.enough;
@@ -206,7 +206,7 @@ Ran-refused tells Before old new stop left written which before later same unrea
       many = omega arith;
       stopped = early_end stop which;
       drew = until_none old.drawn new.drawn [] undrawn;
-      so = so_idle tells old.history new.history old.session new.session extends kept held;
+      so = so_idle tells old.history new.history old.session new.session _ extends kept held (early_met stop which);
       later = later;
       full = λ updates enough. tt;
       enough = λ updates enough. tt;
@@ -228,6 +228,14 @@ Ran-refused tells Before old new stop left written which before later same unrea
   prompt = record { before = []; last = []; parts = refl; piece = omega arith; served = omega arith };
 }
   where
+    early_met : (s : DeviceStop) → IsEarly s → MeetsWith tells new (Err (stops.Device s)) [] [] old.session
+    early_met device.BadRoot w = tt
+    early_met device.Platform w = tt
+    early_met device.Memory w = absurd w
+    early_met device.Tape w = absurd w
+    early_met device.Ledger w = absurd w
+    early_met (device.BadRecord addr) w = absurd w
+
     early_end : (s : DeviceStop) → IsEarly s → IsEndingAt tells Before new [] [] (Err (stops.Device s))
     early_end device.BadRoot w = tt
     early_end device.Platform w = inl before

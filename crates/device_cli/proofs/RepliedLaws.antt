@@ -32,12 +32,12 @@ use Rattle.device_course.proofs.MadeLaws.{shut, made_none, made_one, made_stoppe
 use Rattle.device_cli.specs.Represents.{Stood, StandsFor}
 use Rattle.device_cli.specs.Added.{left_by, LacksPages, LeavesFew, HasAdded, IsNear}
 use Rattle.device_cli.specs.Pages.{needed_for, updates_after, updates_of, upgrade_of, Standing, standing, TurnOn, AnswersOn, IsShort}
-use Rattle.device_cli.specs.Replied.{AreMany, IsStopAt, IsEndingAt, IsAhead, AreMarks, EndsIn, Answered, Replied, Handled, Halts, Serves}
+use Rattle.device_cli.specs.Replied.{AreMany, IsStopAt, IsEndingAt, MeetsWith, IsAhead, AreMarks, EndsIn, Answered, Replied, Handled, Halts, Serves}
 use Rattle.line_run.specs.Puts.{no_line, IsBehind, HasPut}
 use Rattle.device_cli.specs.Causes.{MayStop, SoOn}
 use Rattle.device_cli.proofs.DrawingLaws.{IfNext-behind, IfNext-longer, until_none, until_then, until_longer}
 use Rattle.device_cli.specs.Drawing.{DrewUntil}
-use Rattle.device_cli.proofs.ReplyLaws.{so_cut, so_idle, so_longer, so_then}
+use Rattle.device_cli.proofs.ReplyLaws.{so_cut, so_idle, so_longer, so_then, so_ended}
 use Rattle.device_cli.specs.Seen.{Saw, SeenOn}
 use Rattle.device_cli.proofs.SeenLaws.{saw_plain, SeenOn-append, SeenOn-longer}
 use Rattle.line_run.specs.declared.stop.Stop.{Stop}
@@ -77,7 +77,7 @@ Replied-idle tells old new last later same unread held undrawn extends kept stil
   many = refl;
   stopped = tt;
   drew = until_none old.drawn new.drawn [] undrawn;
-  so = so_idle tells old.history new.history old.session new.session extends kept held;
+  so = so_idle tells old.history new.history old.session new.session _ extends kept held tt;
   later = later;
   full = λ updates enough. tt;
   enough = λ updates enough. subst (λ (session : Option Session). AreEnough session updates) (sym held) enough;
@@ -132,7 +132,7 @@ TurnsEach tells old new line reply = tells → (entry : State) (updates : ℕ) �
 
 -- a line with its reply
 pub Replied-line : (tells : Type 0) (old new : World) (last : DeviceStop → List ℕ) (line : List ℕ) (reply : Reply)
-    → IsLater old new → DrewUntil old.drawn (line ∷ []) (reply ∷ []) new.drawn → SoOn tells old.history new.history old.session new.session (line ∷ []) (reply ∷ []) → TellsShort old new line reply → StaysEnough old new reply
+    → IsLater old new → DrewUntil old.drawn (line ∷ []) (reply ∷ []) new.drawn → SoOn tells old.history new.history old.session new.session (line ∷ []) (reply ∷ []) (λ last. Unit {0}) → TellsShort old new line reply → StaysEnough old new reply
     → LooksOn tells old new (line ∷ []) (reply ∷ []) (IsOk {T = Unit {0}} {E = Stop} (Ok tt)) → TurnsEach tells old new line reply → Replied tells ⊥ old new last (Ok tt) (line ∷ []) (line_of reply)
 Replied-line tells old new last line reply later drew so full enough looks turned = record {
   replies = reply ∷ [];
@@ -177,7 +177,7 @@ Replied-part tells old new last line reply n later drew extends looks turned = r
   many = omega arith;
   stopped = tt;
   drew = drew;
-  so = so_cut tells old.history new.history old.session new.session line [] extends;
+  so = so_cut tells old.history new.history old.session new.session line [] _ extends tt;
   later = later;
   full = λ updates enough. tt;
   enough = λ updates enough. tt;
@@ -252,11 +252,11 @@ left_more (device.BadRecord addr) _ changes more upgrade less = omega arith
 
 -- a line that the device stopped at
 pub Replied-stop : (tells : Type 0) (old new : World) (line : List ℕ) (command : Command) (stop : DeviceStop) → Spells line command → IsLater old new → DrewUntil old.drawn (line ∷ []) [] new.drawn → (tells → Extends old.history new.history) → LeavesFew tells old.history.present stop command (needed_of old.session) old.head new.head
-    → IsEndingAt tells ⊥ new [] (line ∷ []) (Err (stops.Device stop))
+    → IsEndingAt tells ⊥ new [] (line ∷ []) (Err (stops.Device stop)) → MeetsWith tells new (Err (stops.Device stop)) [] (line ∷ []) old.session
     → LooksOn tells old new (line ∷ []) [] (IsOk {T = Unit {0}} {E = Stop} (Err (stops.Device stop)))
     → (tells → IsServedImage new.history.present) → (tells → (entry : State) → Stood old entry → Halts old new entry command stop)
     → Replied tells ⊥ old new no_line (Err (stops.Device stop)) (line ∷ []) []
-Replied-stop tells old new line command stop spells later drew extends added damage looks served halts = record {
+Replied-stop tells old new line command stop spells later drew extends added damage met looks served halts = record {
   replies = [];
   part = [];
   put_is = refl;
@@ -264,7 +264,7 @@ Replied-stop tells old new line command stop spells later drew extends added dam
   many = omega arith;
   stopped = damage;
   drew = drew;
-  so = so_cut tells old.history new.history old.session new.session line [] extends;
+  so = so_cut tells old.history new.history old.session new.session line [] _ extends met;
   later = later;
   full = λ updates enough. tt;
   enough = λ updates enough. tt;
@@ -332,6 +332,19 @@ IsEndingAt-then tells now (Err stops.Source) lines more replies others same h = 
 IsEndingAt-then tells now (Err stops.Limit) lines more replies others same h = tt
 IsEndingAt-then tells now (Err stops.Sink) lines more replies others same h = tt
 IsEndingAt-then tells now (Err (stops.Device stop)) lines more replies others same h = IsStopAt-then tells now stop lines more replies others same h
+
+MeetsWith-then : (tells : Type 0) (now : World) (ending : Ending) (lines more : List (List ℕ)) (replies others : List Reply) → length replies ≡ length lines
+    → (last : Option Session) → MeetsWith tells now ending others more last → MeetsWith tells now ending (replies ++ others) (lines ++ more) last
+MeetsWith-then tells now (Ok done) lines more replies others same last h = tt
+MeetsWith-then tells now (Err stops.Source) lines more replies others same last h = tt
+MeetsWith-then tells now (Err stops.Limit) lines more replies others same last h = tt
+MeetsWith-then tells now (Err stops.Sink) lines more replies others same last h = tt
+MeetsWith-then tells now (Err (stops.Device device.Platform)) lines more replies others same last h = tt
+MeetsWith-then tells now (Err (stops.Device device.BadRoot)) lines more replies others same last h = tt
+MeetsWith-then tells now (Err (stops.Device device.Tape)) lines more replies others same last h = tt
+MeetsWith-then tells now (Err (stops.Device device.Ledger)) lines more replies others same last h = tt
+MeetsWith-then tells now (Err (stops.Device device.Memory)) lines more replies others same last h = tt
+MeetsWith-then tells now (Err (stops.Device (device.BadRecord addr))) lines more replies others same last h = IfNext-behind _ lines more replies others same h
 
 -- what the second run answers, counted from the first one's start
 EndsIn-then : (old middle new : World) (ending : Ending) (entry mid now : Standing) (lines more : List (List ℕ)) (replies others : List Reply) (part : List ℕ)
@@ -408,7 +421,7 @@ Replied-then tells old mid new last ending lines more put others p q =
       many = rw (length-append p.replies q.replies, length-append lines more) (AreMany-then ending _ _ _ _ p.many q.many);
       stopped = IsEndingAt-then tells new ending lines more p.replies q.replies p.many q.stopped;
       drew = until_then old.drawn mid.drawn new.drawn lines more p.replies q.replies p.many p.drew q.drew;
-      so = so_then tells old.history mid.history new.history old.session mid.session new.session lines more p.replies q.replies p.many p.so q.so;
+      so = so_then tells old.history mid.history new.history old.session mid.session new.session lines more p.replies q.replies _ _ _ p.many (MeetsWith-then tells new ending lines more p.replies q.replies p.many) p.so q.so;
       later = IsLater-then old mid new p.later q.later;
       full = λ updates paid. AreShort-append new.head new.capacity updates lines more p.replies q.replies p.many
           (AreShort-later mid new updates lines p.replies q.later (p.full updates paid)) (q.full (updates_of updates p.replies) (p.enough updates paid));
@@ -447,6 +460,18 @@ IsEndingAt-longer tells now stops.Limit lines more replies h = tt
 IsEndingAt-longer tells now stops.Sink lines more replies h = tt
 IsEndingAt-longer tells now (stops.Device stop) lines more replies h = IsStopAt-longer tells now stop lines more replies h
 
+MeetsWith-longer : (tells : Type 0) (now : World) (stop : Stop) (lines more : List (List ℕ)) (replies : List Reply)
+    → (last : Option Session) → MeetsWith tells now (Err stop) replies lines last → MeetsWith tells now (Err stop) replies (lines ++ more) last
+MeetsWith-longer tells now stops.Source lines more replies last h = tt
+MeetsWith-longer tells now stops.Limit lines more replies last h = tt
+MeetsWith-longer tells now stops.Sink lines more replies last h = tt
+MeetsWith-longer tells now (stops.Device device.Platform) lines more replies last h = tt
+MeetsWith-longer tells now (stops.Device device.BadRoot) lines more replies last h = tt
+MeetsWith-longer tells now (stops.Device device.Tape) lines more replies last h = tt
+MeetsWith-longer tells now (stops.Device device.Ledger) lines more replies last h = tt
+MeetsWith-longer tells now (stops.Device device.Memory) lines more replies last h = tt
+MeetsWith-longer tells now (stops.Device (device.BadRecord addr)) lines more replies last h = IfNext-longer _ lines more replies h
+
 EndsIn-longer : (old new : World) (stop : Stop) (entry now : Standing) (lines more : List (List ℕ)) (replies : List Reply) (part : List ℕ)
     → EndsIn old new entry lines replies part now (Err stop) → EndsIn old new entry (lines ++ more) replies part now (Err stop)
 EndsIn-longer old new stops.Source entry now lines more replies part k = k
@@ -466,7 +491,7 @@ Replied-longer tells old new last stop lines more put line p = record {
   many = AreMany-longer stop (length p.replies) (length lines) (length (lines ++ more)) (omega (arith, length-append lines more)) line p.many;
   stopped = IsEndingAt-longer tells new stop lines more p.replies p.stopped;
   drew = until_longer old.drawn new.drawn lines more p.replies p.drew;
-  so = so_longer tells old.history new.history old.session new.session lines more p.replies p.so;
+  so = so_longer tells old.history new.history old.session new.session lines more p.replies _ _ (MeetsWith-longer tells new stop lines more p.replies) p.so;
   later = p.later;
   full = λ updates enough. AreShort-longer new.head new.capacity updates lines more p.replies (p.full updates enough);
   enough = λ updates enough. tt;
@@ -504,10 +529,10 @@ Handled-longer tells old new last stop lines more a b line p =
 
 -- lines that have their replies, and then a stop
 stopped : (tells : Type 0) (old new : World) (last : DeviceStop → List ℕ) (stop : Stop) (lines : List (List ℕ)) (put : List ℕ) (p : Replied tells ⊥ old new last (Ok tt) lines put)
-    → IsBehind line_of last p.part (Err stop) → AreMany (length p.replies) (length lines) (Err stop) → IsEndingAt tells ⊥ new p.replies lines (Err stop)
+    → ((held : Option Session) → MeetsWith tells new (Err stop) p.replies lines held) → IsBehind line_of last p.part (Err stop) → AreMany (length p.replies) (length lines) (Err stop) → IsEndingAt tells ⊥ new p.replies lines (Err stop)
     → ((entry : Standing) → Answered old new (Ok tt) entry lines p.replies p.part → Answered old new (Err stop) entry lines p.replies p.part)
     → Replied tells ⊥ old new last (Err stop) lines put
-stopped tells old new last stop lines put p behind many damage answered = record {
+stopped tells old new last stop lines put p none behind many damage answered = record {
   replies = p.replies;
   part = p.part;
   put_is = p.put_is;
@@ -515,7 +540,7 @@ stopped tells old new last stop lines put p behind many damage answered = record
   many = many;
   stopped = damage;
   drew = p.drew;
-  so = p.so;
+  so = so_ended tells old.history new.history old.session new.session lines p.replies _ _ (λ held met. none held) p.so;
   later = p.later;
   full = p.full;
   enough = λ updates enough. tt;
@@ -527,9 +552,9 @@ stopped tells old new last stop lines put p behind many damage answered = record
 Replied-cut : (tells : Type 0) (old new : World) (last : DeviceStop → List ℕ) (lines : List (List ℕ)) (put : List ℕ)
     → Replied tells ⊥ old new last (Ok tt) lines put → Replied tells ⊥ old new last (Err stops.Source) lines put × Replied tells ⊥ old new last (Err stops.Limit) lines put
 Replied-cut tells old new last lines put p = (
-  stopped tells old new last stops.Source lines put p p.behind p.many tt
+  stopped tells old new last stops.Source lines put p (λ held. tt) p.behind p.many tt
       (λ entry f. record { now = f.now; answers = f.answers; seen = f.seen; ends = f.ends; near = f.near; ahead = f.ahead; is_ahead = f.is_ahead; marks = f.marks; are = f.are; made = f.made }),
-  stopped tells old new last stops.Limit lines put p p.behind p.many tt
+  stopped tells old new last stops.Limit lines put p (λ held. tt) p.behind p.many tt
       (λ entry f. record { now = f.now; answers = f.answers; seen = f.seen; ends = f.ends; near = f.near; ahead = f.ahead; is_ahead = f.is_ahead; marks = f.marks; are = f.are; made = f.made }),
 )
 
@@ -540,7 +565,7 @@ Handled-cut tells old new last lines a b p = let cut = Replied-cut tells old new
 
 -- a line whose reply was put, whole or in part
 pub Handled-line : (tells : Type 0) (old new : World) (last : DeviceStop → List ℕ) (line : List ℕ) (reply : Reply) (ending : Ending) (a b : Option (List ℕ))
-    → IsLater old new → DrewUntil old.drawn (line ∷ []) (reply ∷ []) new.drawn → DrewUntil old.drawn (line ∷ []) [] new.drawn → SoOn tells old.history new.history old.session new.session (line ∷ []) (reply ∷ []) → TellsShort old new line reply
+    → IsLater old new → DrewUntil old.drawn (line ∷ []) (reply ∷ []) new.drawn → DrewUntil old.drawn (line ∷ []) [] new.drawn → SoOn tells old.history new.history old.session new.session (line ∷ []) (reply ∷ []) (λ last. Unit {0}) → TellsShort old new line reply
     → StaysEnough old new reply → LooksOn tells old new (line ∷ []) (reply ∷ []) (IsOk ending) → TurnsEach tells old new line reply → HasPut (line_of reply) ending a b
     → Handled tells ⊥ old new last ending (line ∷ []) a b
 Handled-line tells old new last line reply (Ok done) a b later drew cut so full enough looks turned put =
@@ -601,7 +626,15 @@ stops_there tells held now line command device.BadRoot spells may = tt
 stops_there tells held now line command device.Tape spells may = (command, spells, may)
 stops_there tells held now line command device.Ledger spells may = (command, spells, may)
 stops_there tells held now line command device.Memory spells may = (command, spells, (held, may))
-stops_there tells held now line command (device.BadRecord addr) spells may = (command, spells, may)
+stops_there tells held now line command (device.BadRecord addr) spells may = (command, spells, (held, may))
+
+meets_there : (tells : Type 0) (held : Option Session) (now : World) (line : List ℕ) (command : Command) (stop : DeviceStop) → Spells line command → MayStop tells held now.history.present now.head now.capacity command stop → MeetsWith tells now (Err (stops.Device stop)) [] (line ∷ []) held
+meets_there tells held now line command device.Platform spells may = tt
+meets_there tells held now line command device.BadRoot spells may = tt
+meets_there tells held now line command device.Tape spells may = tt
+meets_there tells held now line command device.Ledger spells may = tt
+meets_there tells held now line command device.Memory spells may = tt
+meets_there tells held now line command (device.BadRecord addr) spells may = (command, spells, may)
 
 -- what a stop leaves says nothing of the tape
 pub halts_by : (old new : World) (drawn drawn_now : Option (List (List ℕ))) (entry : State) (command : Command) (stop : DeviceStop) → Halts old new entry command stop → Halts (drew_by drawn old) (drew_by drawn_now new) entry command stop
@@ -622,7 +655,7 @@ pub Handled-stop : (tells : Type 0) (old new : World) (line : List ℕ) (command
 Handled-stop tells old new line command stop written spells later drew extends added may looks served halts = record {
   put = [];
   got = Got-nothing written;
-  replied = Replied-stop tells old new line command stop spells later drew extends added (stops_there tells old.session new line command stop spells may) looks served halts;
+  replied = Replied-stop tells old new line command stop spells later drew extends added (stops_there tells old.session new line command stop spells may) (meets_there tells old.session new line command stop spells may) looks served halts;
 }
 
 -- ---- how many replies there are

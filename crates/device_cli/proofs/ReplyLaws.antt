@@ -106,20 +106,20 @@ was_there : (old new : History) → Extends old new → image_at new (moment old
 was_there old new extends = extends.same (moment old) (omega arith) ∙ image_at-now old (moment old) (omega arith)
 
 -- no line, while the image and the session stayed
-pub so_idle : (tells : Type 0) (old new : History) (held now : Option Session) → (tells → Extends old new) → (tells → new.present ≡ old.present) → now ≡ held → SoOn tells old new held now [] []
-so_idle tells old new held now extends kept same told =
-    (extends told, moment new, held, ((extends told).later, omega arith, image_at-now new (moment new) (omega arith) ∙ kept told ∙ sym (was_there old new (extends told)), refl), λ all. (refl, sym same))
+pub so_idle : (tells : Type 0) (old new : History) (held now : Option Session) (Ends : Option Session → Type 0) → (tells → Extends old new) → (tells → new.present ≡ old.present) → now ≡ held → Ends held → SoOn tells old new held now [] [] Ends
+so_idle tells old new held now Ends extends kept same ends told =
+    (extends told, moment new, held, ((extends told).later, omega arith, image_at-now new (moment new) (omega arith) ∙ kept told ∙ sym (was_there old new (extends told)), refl), (λ all. (refl, sym same)), ends)
 
 -- a line without a reply
-pub so_cut : (tells : Type 0) (old new : History) (held now : Option Session) (line : List ℕ) (lines : List (List ℕ)) → (tells → Extends old new) → SoOn tells old new held now (line ∷ lines) []
-so_cut tells old new held now line lines extends told = (extends told, moment old, held, (omega arith, (extends told).later, refl, refl), λ all. absurd (omega (arith, all)))
+pub so_cut : (tells : Type 0) (old new : History) (held now : Option Session) (line : List ℕ) (lines : List (List ℕ)) (Ends : Option Session → Type 0) → (tells → Extends old new) → Ends held → SoOn tells old new held now (line ∷ lines) [] Ends
+so_cut tells old new held now line lines Ends extends ends told = (extends told, moment old, held, (omega arith, (extends told).later, refl, refl), (λ all. absurd (omega (arith, all))), ends)
 
-pub so_line : (tells : Type 0) (old new : History) (held now : Option Session) (line : List ℕ) (reply : Reply) → (tells → Extends old new) → (tells → LineSo tells new (moment old) held now (moment new) line reply) → SoOn tells old new held now (line ∷ []) (reply ∷ [])
-so_line tells old new held now line reply extends so told = (extends told, moment new, now, (moment new, now, so told, (omega arith, omega arith, refl, refl)), λ all. (refl, refl))
+pub so_line : (tells : Type 0) (old new : History) (held now : Option Session) (line : List ℕ) (reply : Reply) → (tells → Extends old new) → (tells → LineSo tells new (moment old) held now (moment new) line reply) → SoOn tells old new held now (line ∷ []) (reply ∷ []) (λ last. Unit {0})
+so_line tells old new held now line reply extends so told = (extends told, moment new, now, (moment new, now, so told, (omega arith, omega arith, refl, refl)), (λ all. (refl, refl)), tt)
 
-pub so_then : (tells : Type 0) (old mid new : History) (held between now : Option Session) (lines more : List (List ℕ)) (replies others : List Reply) → length replies ≡ length lines → SoOn tells old mid held between lines replies → SoOn tells mid new between now more others
-    → SoOn tells old new held now (lines ++ more) (replies ++ others)
-so_then tells old mid new held between now lines more replies others same p q told =
+pub so_then : (tells : Type 0) (old mid new : History) (held between now : Option Session) (lines more : List (List ℕ)) (replies others : List Reply) (Was Ended Ends : Option Session → Type 0) → length replies ≡ length lines → ((last : Option Session) → Ended last → Ends last)
+    → SoOn tells old mid held between lines replies Was → SoOn tells mid new between now more others Ended → SoOn tells old new held now (lines ++ more) (replies ++ others) Ends
+so_then tells old mid new held between now lines more replies others Was Ended Ends same leads p q told =
     let first = p told in
     let second = q told in
     let ends = first.4 same in
@@ -130,13 +130,18 @@ so_then tells old mid new held between now lines more replies others same p q to
       second.2,
       are_append tells new (moment old) held lines more replies others first.1 first.2 second.1 second.2 same one two,
       λ all. second.4 (omega (arith, all, same, length-append replies others, length-append lines more)),
+      leads second.2 second.5,
     )
 
-pub so_longer : (tells : Type 0) (old new : History) (held now : Option Session) (lines more : List (List ℕ)) (replies : List Reply) → SoOn tells old new held now lines replies → SoOn tells old new held now (lines ++ more) replies
-so_longer tells old new held now lines more replies p told =
+pub so_longer : (tells : Type 0) (old new : History) (held now : Option Session) (lines more : List (List ℕ)) (replies : List Reply) (Ended Ends : Option Session → Type 0) → ((last : Option Session) → Ended last → Ends last) → SoOn tells old new held now lines replies Ended → SoOn tells old new held now (lines ++ more) replies Ends
+so_longer tells old new held now lines more replies Ended Ends leads p told =
     let h = p told in
     let few = are_few tells new (moment old) held lines replies h.1 h.2 h.3 in
-    (h.0, h.1, h.2, are_longer tells new (moment old) held lines more replies h.1 h.2 h.3, λ all. h.4 (omega (arith, all, few, length-append lines more)))
+    (h.0, h.1, h.2, are_longer tells new (moment old) held lines more replies h.1 h.2 h.3, (λ all. h.4 (omega (arith, all, few, length-append lines more))), leads h.2 h.5)
+
+-- the same that ends otherwise
+pub so_ended : (tells : Type 0) (old new : History) (held now : Option Session) (lines : List (List ℕ)) (replies : List Reply) (Ended Ends : Option Session → Type 0) → ((last : Option Session) → Ended last → Ends last) → SoOn tells old new held now lines replies Ended → SoOn tells old new held now lines replies Ends
+so_ended tells old new held now lines replies Ended Ends leads p told = let h = p told in (h.0, h.1, h.2, h.3, h.4, leads h.2 h.5)
 
 -- ---- a command's reply
 

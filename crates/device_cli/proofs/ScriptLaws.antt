@@ -21,10 +21,10 @@ use Rattle.device_cli.specs.Looks.{IsWarmFor}
 use Rattle.device_course.specs.States.{IsSessionOf}
 use Rattle.device_cli.specs.Represents.{StandsFor, Represents}
 use Rattle.platform.specs.Runs.{Passes}
-use Rattle.device_cli.specs.Replied.{HasMark, AreMany, IsEndingAt, IsAhead, EndsIn, Answered}
+use Rattle.device_cli.specs.Replied.{HasMark, AreMany, IsEndingAt, IsAhead, EndsIn, Answered, MeetsWith}
 use Rattle.line_run.specs.Stops.{Ending, exit_of}
 use Rattle.line_run.specs.Puts.{IsBehind, IsFirstPart, damage_line, AreLines, HaveCome}
-use Rattle.device_cli.specs.Causes.{AreSo, Draws, PutsEntry, HasCalled, HasLacked, MeetsRecord, IsOf}
+use Rattle.device_cli.specs.Causes.{AreSo, Draws, PutsEntry, HasCalled, HasLacked, MeetsRecord, IsOf, HasMet}
 use Rattle.device_cli.specs.Drawing.{DrewUntil}
 use Rattle.device_cli.specs.Added.{left_by, HasAdded, IsNear}
 use Rattle.device_cli.specs.Pages.{needed_for, upgrade_of, most_upgrade, Standing, standing, TurnOn, AnswersOn, AreFew, IfNext}
@@ -119,7 +119,7 @@ bad_root (Err (stops.Device device.BadRoot)) part h e = h
 bad_root (Err (stops.Device (device.BadRecord addr))) part h e = absurd (omega (arith, e))
 
 bad_record : (tells Before : Type 0) (now : World) (ending : Ending) (part : List ℕ) (replies : List Reply) (lines : List (List ℕ)) → IsBehind line_of damage_line part ending → IsEndingAt tells Before now replies lines ending
-    → exit_of ending ≡ 9 → (addr : ℕ) × (part ≡ damage_line (device.BadRecord addr)) × IfNext replies lines (IsOf (λ command. MeetsRecord tells now.history.present command addr))
+    → exit_of ending ≡ 9 → (addr : ℕ) × (part ≡ damage_line (device.BadRecord addr)) × IfNext replies lines (IsOf (HasMet tells now.history.present addr))
 bad_record tells Before now (Ok done) part replies lines h d e = absurd (omega (arith, e))
 bad_record tells Before now (Err stops.Source) part replies lines h d e = absurd (omega (arith, e))
 bad_record tells Before now (Err stops.Sink) part replies lines h d e = absurd (omega (arith, e))
@@ -130,6 +130,20 @@ bad_record tells Before now (Err (stops.Device device.Memory)) part replies line
 bad_record tells Before now (Err (stops.Device device.Ledger)) part replies lines h d e = absurd (omega (arith, e))
 bad_record tells Before now (Err (stops.Device device.BadRoot)) part replies lines h d e = absurd (omega (arith, e))
 bad_record tells Before now (Err (stops.Device (device.BadRecord addr))) part replies lines h d e = (addr, h, d)
+
+-- and it came to that record with the session that the lines before left
+met_with : (tells : Type 0) (now : World) (ending : Ending) (part : List ℕ) (replies : List Reply) (lines : List (List ℕ)) (last : Option Session) → IsBehind line_of damage_line part ending → MeetsWith tells now ending replies lines last
+    → exit_of ending ≡ 9 → (addr : ℕ) × (part ≡ damage_line (device.BadRecord addr)) × IfNext replies lines (IsOf (λ command. MeetsRecord tells last now.history.present command addr))
+met_with tells now (Ok done) part replies lines last h d e = absurd (omega (arith, e))
+met_with tells now (Err stops.Source) part replies lines last h d e = absurd (omega (arith, e))
+met_with tells now (Err stops.Sink) part replies lines last h d e = absurd (omega (arith, e))
+met_with tells now (Err stops.Limit) part replies lines last h d e = absurd (omega (arith, e))
+met_with tells now (Err (stops.Device device.Platform)) part replies lines last h d e = absurd (omega (arith, e))
+met_with tells now (Err (stops.Device device.Tape)) part replies lines last h d e = absurd (omega (arith, e))
+met_with tells now (Err (stops.Device device.Memory)) part replies lines last h d e = absurd (omega (arith, e))
+met_with tells now (Err (stops.Device device.Ledger)) part replies lines last h d e = absurd (omega (arith, e))
+met_with tells now (Err (stops.Device device.BadRoot)) part replies lines last h d e = absurd (omega (arith, e))
+met_with tells now (Err (stops.Device (device.BadRecord addr))) part replies lines last h d e = (addr, h, d)
 
 no_platform : (tells Before : Type 0) (now : World) (ending : Ending) (replies : List Reply) (lines : List (List ℕ)) → IsEndingAt tells Before now replies lines ending
     → exit_of ending ≡ 5 → Before ⊎ IfNext replies lines (IsOf (HasCalled tells now.history.present))
@@ -513,7 +527,7 @@ answers_script tells Before old drawn drawn_now session history head capacity re
   no_memory = no_memory tells Before (drew_by drawn_now (world session history head capacity reads changes)) ending p.replies r.lines p.stopped;
   cut = cut ending p.part p.behind;
   full = p.full 0 (enough_alone old.session alone);
-  so = λ told. (let so = p.so told in (so.1, so.2, subst (λ (held : Option Session). AreSo tells history (moment old.history) held r.lines p.replies so.1 so.2) alone so.3));
+  so = λ told. (let so = p.so told in (so.1, so.2, subst (λ (held : Option Session). AreSo tells history (moment old.history) held r.lines p.replies so.1 so.2) alone so.3, met_with tells (drew_by drawn_now (world session history head capacity reads changes)) ending p.part p.replies r.lines so.2 p.behind so.5));
   changes = λ told. (p.looks told).0;
   looks = λ told most last h. omega (arith, ((p.looks told).1 None last most (subst (λ (held : Option Session). IsWarmFor held None) (sym alone) tt) h).0);
   answered = λ told there stands served.

@@ -7,7 +7,7 @@ use Rattle.root_codec.specs.RootRecord.{FitsRoot, root_bytes}
 use Rattle.page_store.specs.Roots.{IsRootWithin}
 use Rattle.device_core.specs.Upgrading.{Begins}
 use Rattle.sdbt_base.specs.Arrays.{padded}
-use Rattle.device_session.specs.Damage.{HasPut, HasTaken}
+use Rattle.device_session.specs.Damage.{IsAtLimit, HasPut, HasTaken}
 use Rattle.device_session.specs.Open.{blocks_of, is_touched, needed_by, number_of, root_of}
 use Rattle.device_session.specs.Reading.{FindsContent}
 use Rattle.device_session.specs.Sessions.{Session}
@@ -17,7 +17,7 @@ use Rattle.script_lang.specs.Commands.{Command}
 use Rattle.script_lang.specs.Commands as commands
 use Rattle.script_lang.specs.Replies.{Reply}
 use Rattle.script_lang.specs.Replies as given
-use Rattle.session_calls.specs.Damage.{IsDamagedAt, IsMounted, IsWrongPlace, IsWrongStep}
+use Rattle.session_calls.specs.Damage.{IsDamagedAt, IsMiscountedAt, IsMounted, IsWrongNode, IsWrongPlace}
 use Rattle.session_calls.specs.declared.stops.DeviceStop.{DeviceStop}
 use Rattle.session_calls.specs.declared.stops.DeviceStop.TheVariants as device
 use Rattle.device_cli.specs.Seen.{IsCounted}
@@ -47,19 +47,20 @@ JudgesRoot commands.Upgrade = Unit {0}
 JudgesRoot commands.Seize = Unit {0}
 JudgesRoot _ = ⊥
 
--- it comes to the record at this address, which doesn't fit: a read to a place below the root record in the cell, and a write and a trim to a node's place, and never to that of a data record, or
--- to the root node of a tree that is miscounted; and an upgrade to the first one that it meets, or to the root node, where all nodes fit and list another number of blocks
-abbrev pub MeetsRecord : Type 0 → Image → Command → ℕ → Type 0
-MeetsRecord tells image (commands.Read block) addr = tells → IsWrongPlace image addr
-MeetsRecord tells image (commands.Write block content) addr = tells → IsWrongStep image addr
-MeetsRecord tells image (commands.Trim block) addr = tells → IsWrongStep image addr
-MeetsRecord tells image commands.Upgrade addr = tells → IsDamagedAt image addr
-MeetsRecord tells image _ addr = ⊥
-
 -- there is a session, and it has this
 abbrev pub OnHeld : Option Session → (Session → Type 0) → Type 0
 OnHeld None P = ⊥
 OnHeld (Some session) P = P session
+
+-- with this session, or none, it comes to the record at this address, which doesn't fit: a read to a place below the root record in the cell, and a write and a trim to a node's place, and never to that of a
+-- data record; or to the root node of a tree that is miscounted, a write only where no block more can be mapped, and a trim only where none is counted; and an upgrade to the first one that it meets, or to the
+-- root node, where all nodes fit and list another number of blocks
+abbrev pub MeetsRecord : Type 0 → Option Session → Image → Command → ℕ → Type 0
+MeetsRecord tells held image (commands.Read block) addr = tells → IsWrongPlace image addr
+MeetsRecord tells held image (commands.Write block content) addr = OnHeld held (λ session. tells → IsWrongNode image addr ⊎ (IsMiscountedAt image addr × IsAtLimit session))
+MeetsRecord tells held image (commands.Trim block) addr = OnHeld held (λ session. tells → IsWrongNode image addr ⊎ (IsMiscountedAt image addr × (session.mapped ≡ 0)))
+MeetsRecord tells held image commands.Upgrade addr = tells → IsDamagedAt image addr
+MeetsRecord tells held image _ addr = ⊥
 
 -- there is one on the root record in the cell, and it has this
 abbrev pub OnMounted : Type 0 → Image → Option Session → (Session → Type 0) → Type 0
@@ -98,7 +99,7 @@ MayStop tells held image head capacity command device.Tape = Draws command
 MayStop tells held image head capacity command device.Ledger = PutsEntry command
 MayStop tells held image head capacity command device.Memory = LacksMemory tells held image head capacity command
 MayStop tells held image head capacity command device.BadRoot = JudgesRoot command
-MayStop tells held image head capacity command (device.BadRecord addr) = MeetsRecord tells image command addr
+MayStop tells held image head capacity command (device.BadRecord addr) = MeetsRecord tells held image command addr
 
 -- ---- replies
 
@@ -216,6 +217,10 @@ IsOf P line = (command : Command) × Spells line command × P command
 abbrev pub HasCalled : Type 0 → Image → Command → Type 0
 HasCalled tells image command = (held : Option Session) × CallsPlatform tells held image command
 
+-- it came to this record, with some session or none
+abbrev pub HasMet : Type 0 → Image → ℕ → Command → Type 0
+HasMet tells image addr command = (held : Option Session) × MeetsRecord tells held image command addr
+
 -- memory lacked at such a command, with some session or none
 abbrev pub HasLacked : Type 0 → Image → ℕ → ℕ → Command → Type 0
 HasLacked tells image head capacity command = (held : Option Session) × LacksMemory tells held image head capacity command
@@ -246,7 +251,7 @@ AreSo tells history from held [] (reply ∷ replies) end last = ⊥
 AreSo tells history from held (line ∷ lines) (reply ∷ replies) end last =
     (behind : ℕ) × (next : Option Session) × LineSo tells history from held next behind line reply × AreSo tells history behind next lines replies end last
 
--- the same of the moments of a part of a run, and of the sessions before and behind it; the last ones are those behind it where each line has a reply
-abbrev pub SoOn : Type 0 → History → History → Option Session → Option Session → List (List ℕ) → List Reply → Type 0
-SoOn tells old new held now lines replies = tells → Extends old new × (end : ℕ) × (last : Option Session) × AreSo tells new (moment old) held lines replies end last
-    × (length replies ≡ length lines → (end ≡ moment new) × (last ≡ now))
+-- the same of the moments of a part of a run, and of the sessions before and behind it; the last ones are those behind it where each line has a reply, and with the last session it ends so
+abbrev pub SoOn : Type 0 → History → History → Option Session → Option Session → List (List ℕ) → List Reply → (Option Session → Type 0) → Type 0
+SoOn tells old new held now lines replies Ends = tells → Extends old new × (end : ℕ) × (last : Option Session) × AreSo tells new (moment old) held lines replies end last
+    × (length replies ≡ length lines → (end ≡ moment new) × (last ≡ now)) × Ends last

@@ -10,7 +10,7 @@ use Rattle.script_lang.specs.Answers.{Answers}
 use Rattle.script_lang.specs.Commands.{Upgrade}
 use Rattle.script_lang.specs.Grammar.{Spells}
 use Rattle.device_session.specs.Sessions.{Session}
-use Rattle.device_cli.specs.Causes.{Draws, PutsEntry, HasLacked, MeetsRecord, IsOf, AreSo}
+use Rattle.device_cli.specs.Causes.{Draws, PutsEntry, HasLacked, HasMet, MeetsRecord, IsOf, AreSo}
 use Rattle.device_cli.specs.Looks.{AreBounded, ChangesFew}
 use Rattle.device_cli.specs.World.{World}
 use Rattle.device_cli.specs.Represents.{StandsFor}
@@ -93,7 +93,7 @@ pub record AnswersScript (tells : Type 0) (old new : World) (status : ℕ) (left
   pub bad_root : status ≡ 8 → part ≡ damage_line device.BadRoot
   -- behind the replies stands the line that the device stopped at: one that reads or changes a block, and comes to a record that doesn't fit; one that draws; one that puts an entry; one that
   -- takes memory, and is not refused
-  pub bad_record : status ≡ 9 → (addr : ℕ) × (part ≡ damage_line (device.BadRecord addr)) × IfNext replies lines (IsOf (λ command. MeetsRecord tells new.history.present command addr))
+  pub bad_record : status ≡ 9 → (addr : ℕ) × (part ≡ damage_line (device.BadRecord addr)) × IfNext replies lines (IsOf (HasMet tells new.history.present addr))
   pub no_key : status ≡ 6 → IfNext replies lines (IsOf Draws)
   pub no_entry : status ≡ 7 → IfNext replies lines (IsOf PutsEntry)
   pub no_memory : status ≡ 11 → IfNext replies lines (IsOf (HasLacked tells new.history.present new.head new.capacity))
@@ -103,6 +103,8 @@ pub record AnswersScript (tells : Type 0) (old new : World) (status : ℕ) (left
   -- and on any image each was so at a moment of the run, with the session that the line before it left: `data` is what a look-up comes to, behind `ok` look-ups come to what the update made, and
   -- `range` comes by the numbers alone; so a line that comes to a record which doesn't fit has none of these, and ends the run
   pub so : tells → (end : ℕ) × (last : Option Session) × AreSo tells new.history (moment old.history) None lines replies end last
+      -- and it is with this session that it comes to such a record
+      × (status ≡ 9 → (addr : ℕ) × (part ≡ damage_line (device.BadRecord addr)) × IfNext replies lines (IsOf (λ command. MeetsRecord tells last new.history.present command addr)))
   -- where the lines format, mount, read, write, trim, commit, ask, drop or erase, or spell nothing, no more is read than this: the cell once before the first line, and once for each line that formats, mounts
   -- or erases; one page for a read of the block that was read just before, and 21 for one of another; 40 for a write or a trim; and nothing for a line that is refused since no session is open, or one
   -- is, by its numbers, or for want of pages

@@ -10,7 +10,8 @@ use Rattle.script_lang.specs.Answers.{IsMark, IsAnswer, answer, none_counted}
 use Rattle.script_lang.specs.Commands.{Command}
 use Rattle.line_run.specs.Puts.{IsBehind, IsFirstPart}
 use Rattle.line_run.specs.Stops.{Ending, IsSound}
-use Rattle.device_cli.specs.Causes.{Draws, PutsEntry, HasCalled, HasLacked, MeetsRecord, IsOf, SoOn}
+use Rattle.device_session.specs.Sessions.{Session}
+use Rattle.device_cli.specs.Causes.{Draws, PutsEntry, HasCalled, HasLacked, MeetsRecord, IsOf, SoOn, HasMet}
 use Rattle.device_cli.specs.Drawing.{DrewUntil}
 use Rattle.device_cli.specs.Looks.{LooksOn}
 use Rattle.device_cli.specs.World.{World, is_full, AreEnough, IsLater}
@@ -40,7 +41,12 @@ IsStopAt tells Before now replies lines device.BadRoot = Unit {0}
 IsStopAt tells Before now replies lines device.Tape = IfNext replies lines (IsOf Draws)
 IsStopAt tells Before now replies lines device.Ledger = IfNext replies lines (IsOf PutsEntry)
 IsStopAt tells Before now replies lines device.Memory = IfNext replies lines (IsOf (HasLacked tells now.history.present now.head now.capacity))
-IsStopAt tells Before now replies lines (device.BadRecord addr) = IfNext replies lines (IsOf (λ command. MeetsRecord tells now.history.present command addr))
+IsStopAt tells Before now replies lines (device.BadRecord addr) = IfNext replies lines (IsOf (HasMet tells now.history.present addr))
+
+-- where it came to a record that doesn't fit, the line's command may do so with the session that the lines before it left
+abbrev pub MeetsWith : Type 0 → World → Ending → List Reply → List (List ℕ) → Option Session → Type 0
+MeetsWith tells now (Err (stops.Device (device.BadRecord addr))) replies lines last = IfNext replies lines (IsOf (λ command. MeetsRecord tells last now.history.present command addr))
+MeetsWith tells now _ replies lines last = Unit {0}
 
 abbrev pub IsEndingAt : Type 0 → Type 0 → World → List Reply → List (List ℕ) → Ending → Type 0
 IsEndingAt tells Before now replies lines (Err (stops.Device stop)) = IsStopAt tells Before now replies lines stop
@@ -111,7 +117,7 @@ pub record Replied (tells Before : Type 0) (old new : World) (last : DeviceStop 
   pub many : AreMany (length replies) (length lines) ending
   pub stopped : IsEndingAt tells Before new replies lines ending
   pub drew : DrewUntil old.drawn lines replies new.drawn
-  pub so : SoOn tells old.history new.history old.session new.session lines replies
+  pub so : SoOn tells old.history new.history old.session new.session lines replies (MeetsWith tells new ending replies lines)
   pub later : IsLater old new
   pub full : (updates : ℕ) → AreEnough old.session updates → AreShort new.head new.capacity updates lines replies
   pub enough : (updates : ℕ) → AreEnough old.session updates → OnOk ending (AreEnough new.session (updates_of updates replies))

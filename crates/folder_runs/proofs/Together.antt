@@ -30,6 +30,7 @@ use Rattle.device_terms.specs.Served.{IsServedImage}
 use Rattle.device_course.specs.Reaching.{DisclosesTree}
 use Rattle.device_course.specs.Fitting.{FitsImage, LeavesFitting}
 use Rattle.device_course.proofs.FitsLaws.{leaves_over}
+use Rattle.device_session.specs.Sessions.{Session}
 use Rattle.script_lang.specs.Answers.{IsMark}
 use Rattle.script_lang.specs.Replies.{Reply}
 use Rattle.script_lang.specs.Commands.{Command}
@@ -45,7 +46,7 @@ use Rattle.folder_restart.proofs.StandingLaws.{stands_opened}
 use Rattle.folder_runs.specs.Chains.{ReachedOver, ReachedFirst, PremisesOver}
 use Rattle.folder_runs.specs.Restarts.{Resumes, GoesOnOver, AreLeftAtExit, IsOpenedAfter, ReachNoMoreOver, DisclosesOver, DisclosesRuns}
 use Rattle.folder_runs.proofs.ChainsOver.{over_first, over_second, over_grows, first_grows, reached_first, reached_second, reached_kept}
-use Rattle.folder_runs.proofs.ToldLaws.{told_lacks, told_so}
+use Rattle.folder_runs.proofs.ToldLaws.{told_held, told_lacks, told_so}
 use Rattle.folder_runs.proofs.Opened.{handed_first, kept_opened, served_opened, fits_opened, low_opened}
 
 -- ---- answers
@@ -58,18 +59,18 @@ next_line (reply ∷ replies) [] P Q weaker next = absurd next
 next_line (reply ∷ replies) (line ∷ lines) P Q weaker next = next_line replies lines P Q weaker next
 
 -- the record that a command meets, where that is told
-told_record : (tells : Type 0) (image : Image) (command : Command) (addr : ℕ) → tells → MeetsRecord tells image command addr → MeetsRecord (Unit {0}) image command addr
-told_record tells image (commands.Read block) addr told meets = λ _. meets told
-told_record tells image (commands.Write block content) addr told meets = λ _. meets told
-told_record tells image (commands.Trim block) addr told meets = λ _. meets told
-told_record tells image (commands.Format blocks order) addr told meets = meets
-told_record tells image commands.Mount addr told meets = meets
-told_record tells image commands.Commit addr told meets = meets
-told_record tells image commands.Drop addr told meets = meets
-told_record tells image commands.Erase addr told meets = meets
-told_record tells image commands.Upgrade addr told meets = λ _. meets told
-told_record tells image commands.Stat addr told meets = meets
-told_record tells image commands.Seize addr told meets = meets
+told_record : (tells : Type 0) (held : Option Session) (image : Image) (command : Command) (addr : ℕ) → tells → MeetsRecord tells held image command addr → MeetsRecord (Unit {0}) held image command addr
+told_record tells held image (commands.Read block) addr told meets = λ _. meets told
+told_record tells held image (commands.Write block content) addr told meets = told_held tells held _ told meets
+told_record tells held image (commands.Trim block) addr told meets = told_held tells held _ told meets
+told_record tells held image (commands.Format blocks order) addr told meets = meets
+told_record tells held image commands.Mount addr told meets = meets
+told_record tells held image commands.Commit addr told meets = meets
+told_record tells held image commands.Drop addr told meets = meets
+told_record tells held image commands.Erase addr told meets = meets
+told_record tells held image commands.Upgrade addr told meets = λ _. meets told
+told_record tells held image commands.Stat addr told meets = meets
+told_record tells held image commands.Seize addr told meets = meets
 
 -- what a run answers where it is told
 pub told_answers : (tells : Type 0) (old new : World) (status : ℕ) (left left_now written written_now : Option (List ℕ)) → tells → AnswersScript tells old new status left left_now written written_now
@@ -90,13 +91,15 @@ told_answers tells old new status left left_now written written_now told run = r
   bad_root = run.bad_root;
   bad_record = λ is.
       let bad = run.bad_record is in
-      (bad.0, bad.1, next_line run.replies run.lines _ _ (λ line of. (of.0, of.1, told_record tells new.history.present of.0 bad.0 told of.2)) bad.2);
+      (bad.0, bad.1, next_line run.replies run.lines _ _ (λ line of. (of.0, of.1, (of.2.0, told_record tells of.2.0 new.history.present of.0 bad.0 told of.2.1))) bad.2);
   no_key = run.no_key;
   no_entry = run.no_entry;
   no_memory = λ is. next_line run.replies run.lines _ _ (λ line of. (of.0, of.1, (of.2.0, told_lacks tells of.2.0 new.history.present new.head new.capacity of.0 told of.2.1))) (run.no_memory is);
   cut = run.cut;
   full = run.full;
-  so = λ _. (let so = run.so told in (so.0, so.1, told_so tells new.history (moment old.history) None run.lines run.replies so.0 so.1 told so.2));
+  so = λ _. (let so = run.so told in (so.0, so.1, told_so tells new.history (moment old.history) None run.lines run.replies so.0 so.1 told so.2, λ is.
+      let bad = so.3 is in
+      (bad.0, bad.1, next_line run.replies run.lines _ _ (λ line of. (of.0, of.1, told_record tells so.1 new.history.present of.0 bad.0 told of.2)) bad.2)));
   looks = λ _. run.looks told;
   changes = λ _. run.changes told;
   answered = λ _. run.answered told;

@@ -16,7 +16,7 @@ use Rattle.device_cli.specs.Causes.{AreSo, HasDone, HasContent, IsLookedUp, Lack
 
 -- ---- replies
 
-told_held : (tells : Type 0) (held : Option Session) (P : Session → Type 0) → tells → OnHeld held (λ session. tells → P session) → OnHeld held (λ session. Unit {0} → P session)
+pub told_held : (tells : Type 0) (held : Option Session) (P : Session → Type 0) → tells → OnHeld held (λ session. tells → P session) → OnHeld held (λ session. Unit {0} → P session)
 told_held tells None P told h = absurd h
 told_held tells (Some session) P told h = λ _. h told
 

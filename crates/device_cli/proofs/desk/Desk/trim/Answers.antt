@@ -116,7 +116,7 @@ pub returns-in_err-trim_block-clause-any : goal.returns-in_err-trim_block-clause
 returns-in_err-trim_block-clause-any g c =
     let P = g.P.Platform in
     let within : c.args.block < blocks_of c.in-Some.session = omega (arith, c.if-block-blocks.false, c.blocks-2.ensures) in
-    rw (stopped g c) (trim_stops P.tells _ c.args.self.now.session (P.history c.args.platform.now).present (world_of P (Some c.trim_block.new.session) c.trim_block.new.platform) c.in-Some.session c.args.block c.in_err-trim_block.field-0.0
+    rw (stopped g c) (trim_stops P.tells _ c.args.self.now.session (P.history c.args.platform.now).present (world_of P (Some c.trim_block.new.session) c.trim_block.new.platform) c.in-Some.session c.args.block c.in_err-trim_block.field-0.0 c.in-Some.is
     (λ told. (told, mounted_held _ c.in-Some.session _ c.in-Some.is (c.requires.mounted told)))
     (mounted_has P.tells c.args.self.now.session c.in-Some.session (P.history c.args.platform.now) (P.history c.trim_block.new.platform) (λ (s : Session). c.args.block < blocks_of s) c.in-Some.is
     (c.in_err-trim_block.ensures.goes (no_draw None)).along.cell c.requires.mounted within) c.in_err-trim_block.ensures.any)

@@ -145,7 +145,7 @@ returns-in_err-write_block-clause-any g c =
     let along = c.in_err-write_block.ensures.goes.along in
     let within : c.args.block < blocks_of c.in-Some.session = omega (arith, c.if-block-blocks.false, c.blocks-2.ensures) in
     let free : P.head c.args.platform.now < P.capacity c.args.platform.now = omega (arith, g.met.P.Platform.has_room c.args.platform.now, c.if-head-capacity.false, c.head.ensures.value, c.capacity.ensures.value) in
-    rw (stopped g c) (write_stops P.tells _ c.args.self.now.session (P.history c.args.platform.now).present (world_of P (Some c.write_block.new.session) c.write_block.new.platform) c.in-Some.session c.args.block (take c.args.count c.args.self.now.buffer) c.in_err-write_block.field-0.0
+    rw (stopped g c) (write_stops P.tells _ c.args.self.now.session (P.history c.args.platform.now).present (world_of P (Some c.write_block.new.session) c.write_block.new.platform) c.in-Some.session c.args.block (take c.args.count c.args.self.now.buffer) c.in_err-write_block.field-0.0 c.in-Some.is
     (λ told. (told, mounted_held _ c.in-Some.session _ c.in-Some.is (c.requires.before.mounted told)))
     (mounted_has P.tells c.args.self.now.session c.in-Some.session (P.history c.args.platform.now) (P.history c.write_block.new.platform) (λ (s : Session). c.args.block < blocks_of s) c.in-Some.is along.cell c.requires.before.mounted within)
     (λ e. omega (arith, write_kept P g.T.Tape _ _ _ _ c.in_err-write_block.field-0.0 c.in_err-write_block.ensures.adds e, along.capacity, free)) c.in_err-write_block.ensures.any)
