@@ -97,9 +97,14 @@ told_answers tells old new status left left_now written written_now told run = r
   no_memory = λ is. next_line run.replies run.lines _ _ (λ line of. (of.0, of.1, (of.2.0, told_lacks tells of.2.0 new.history.present new.head new.capacity of.0 told of.2.1))) (run.no_memory is);
   cut = run.cut;
   full = run.full;
-  so = λ _. (let so = run.so told in (so.0, so.1, told_so tells new.history (moment old.history) None run.lines run.replies so.0 so.1 told so.2, λ is.
-      let bad = so.3 is in
-      (bad.0, bad.1, next_line run.replies run.lines _ _ (λ line of. (of.0, of.1, told_record tells so.1 new.history.present of.0 bad.0 told of.2)) bad.2)));
+  so = λ _. (let so = run.so told in (
+    so.0,
+    so.1,
+    told_so tells new.history (moment old.history) None run.lines run.replies so.0 so.1 told so.2,
+    λ is.
+        let bad = so.3 is in
+        (bad.0, bad.1, next_line run.replies run.lines _ _ (λ line of. (of.0, of.1, told_record tells so.1 new.history.present of.0 bad.0 told of.2)) bad.2),
+  ));
   looks = λ _. run.looks told;
   changes = λ _. run.changes told;
   answered = λ _. run.answered told;
