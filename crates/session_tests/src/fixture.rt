@@ -115,6 +115,11 @@ impl Fixture {
         Some(self.platform.reads().saturating_sub(before))
     }
 
+    /// How often the pages were synced, or the root record was replaced.
+    pub(crate) fn changes(&self) -> u64 {
+        self.platform.changes()
+    }
+
     /// The number of pages on the medium.
     pub(crate) fn head(&self) -> u64 {
         self.platform.head()

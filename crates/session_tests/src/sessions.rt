@@ -59,6 +59,7 @@ fn answer(fixture: &mut Fixture, alloc: Global, words: &str) -> Option<String> {
         b't' => format!(in alloc; "{}", trim(fixture, block)?).ok(),
         b'r' => read(fixture, alloc, block),
         b'h' => format!(in alloc; "{}", fixture.head()).ok(),
+        b'c' => format!(in alloc; "{}", fixture.changes()).ok(),
         b'n' => numbers(fixture, alloc),
         b'e' => entry(fixture, alloc),
         _ => None,
@@ -220,6 +221,21 @@ entry: []";
 #[test]
 fn full_is_told_before_a_page_is_handed_over(rt: HostRuntime) {
     assert_eq!(rt; first_unlike(rt.alloc(), 8, TOLD), None);
+}
+
+/// A format and a commit sync the pages once and replace the root record once; a write and a commit without changes do neither.
+const COUNTED: &str = "\
+changes: 2
+write 1 1: done
+changes: 2
+commit: committed 1
+changes: 4
+commit: committed 1
+changes: 4";
+
+#[test]
+fn a_commit_syncs_once(rt: HostRuntime) {
+    assert_eq!(rt; first_unlike(rt.alloc(), 9, COUNTED), None);
 }
 
 /// A device on which blocks 1 to 5 were committed.
