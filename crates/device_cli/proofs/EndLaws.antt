@@ -3,7 +3,7 @@ use Rattle.std.proofs.Common.{◌≡◌, ◌≤◌, ◌⊎◌, ◌+◌, ℕ, Lis
 use Rattle.std.specs.Prelude.{◌≢◌, IfErr}
 use Rattle.sdbt_base.specs.Arrays.{Device, closed}
 use Rattle.sdbt_base.specs.Faults.{Rose}
-use Rattle.platform.specs.Counts.{MayRiseByOne}
+use Rattle.sdbt_base.specs.Rises.{MayRiseByOne}
 use Rattle.platform.specs.History.{History, Steps}
 use Rattle.page_store.specs.Stands.{Stands}
 use Rattle.cert_checker.specs.Chain.{Accepted, chain_of}

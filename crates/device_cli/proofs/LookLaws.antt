@@ -3,7 +3,7 @@ use Rattle.std.proofs.Common.{◌≡◌, ℕ, zero, suc, length, ◌+◌, ◌*�
 use Rattle.std.specs.Prelude.{IfSome, drop, slice_get}
 use Rattle.std.specs.Result.{result_ok}
 use Rattle.std.proofs.lemmas.Bool.{cases_Bool}
-use Rattle.platform.specs.Counts.{MayRiseBy}
+use Rattle.sdbt_base.specs.Rises.{MayRiseBy}
 use Rattle.platform.specs.declared.platforms.Platform.{Ghosts}
 use Rattle.device_session.specs.Open.{IsOpen, blocks_of}
 use Rattle.device_session.specs.Reading.{KeepsWayTo, room_of}

@@ -1,6 +1,6 @@
 -- What a run may rely on between lines.
 use Rattle.std.specs.Prelude.{◌≡◌, ◌≢◌, ◌≤◌, ℕ, None, Result, IfSome, IfOk, IfErr, OnOk, IsErrOf, replicate}
-use Rattle.platform.specs.Counts.{MayRiseBy}
+use Rattle.sdbt_base.specs.Rises.{MayRiseBy}
 use Rattle.platform.specs.declared.platforms.Platform.{Ghosts}
 use Rattle.device_cli.specs.Looks.{most_changes}
 use Rattle.device_terms.specs.Served.{IsServedImage}

@@ -11,6 +11,7 @@ pub mod Ran
 pub mod Represents
 pub mod World
 pub mod Pages
+pub mod Scripts
 pub mod Seen
 pub mod Added
 pub mod Parts

@@ -2,7 +2,7 @@
 use Rattle.std.specs.Prelude.{◌≡◌, ◌⊎◌, ◌==◌, ◌+◌, ◌≤◌, if◌then◌else◌, ℕ, List, [], ◌∷◌, ◌++◌, Option, Ok, Err, codes, flat_map}
 use Rattle.std.specs.Fmt.{decimal}
 use Rattle.sdbt_base.specs.Told.{Got, GotPart}
-use Rattle.platform.specs.Counts.{MayRiseByOne}
+use Rattle.sdbt_base.specs.Rises.{MayRiseByOne}
 use Rattle.platform.specs.Image.{Image}
 use Rattle.platform.specs.History.{During}
 use Rattle.page_store.specs.Roots.{IsBadCell}

@@ -1,5 +1,5 @@
 //! The word `check`: judges a ledger for the root record in the cell.
-ghost use Rattle.std.specs.Prelude.{◌≡◌, ◌≤◌, OnOk, OnErr};
+ghost use Rattle.std.specs.Prelude.{◌≡◌, ◌≤◌, ◌+◌, OnOk, OnErr};
 ghost use Rattle.sdbt_base.specs.Told.{Got, GotPart};
 ghost use Rattle.platform.specs.History.{Steps};
 ghost use Rattle.page_store.specs.Reading.{MayLook};
@@ -59,6 +59,7 @@ pub(crate) fn check<P: Platform, I: Source, O: Sink>(
     input: &mut I,
     output: &mut O,
 ) -> Result<Finding, Stop>
+    ensures ended { I.ends input.new ≤ I.ends input.old + 1 }
     ensures checks { Checks P.tells (P.history platform.old).present (I.left input.old) (I.left input.new) (O.written output.old) (O.written output.new) result }
     ensures blame { IsBlamedOn (counts (P.faults platform.old) 0 (I.faults input.old) (O.faults output.old) 0)
         (counts (P.faults platform.new) 0 (I.faults input.new) (O.faults output.new) 0) result }
@@ -80,6 +81,7 @@ fn find<P: Platform, I: Source>(
     platform: &mut P,
     input: &mut I,
 ) -> Result<Finding, Stop>
+    ensures ended { I.ends input.new ≤ I.ends input.old + 1 }
     ensures looked { Looked P.tells (P.history platform.old).present (I.left input.old) (I.left input.new) result }
     ensures blame { IsBlamedOn (counts (P.faults platform.old) 0 (I.faults input.old) 0 0)
         (counts (P.faults platform.new) 0 (I.faults input.new) 0 0) result }
@@ -100,6 +102,7 @@ fn find<P: Platform, I: Source>(
 
 /// What the ledger that the input gives is found to be for a root record.
 fn judge_for<I: Source>(alloc: Global, root: &Root, input: &mut I) -> Result<Finding, Stop>
+    ensures ended { I.ends input.new ≤ I.ends input.old + 1 }
     ensures judged { IsJudged root.now (I.left input.old) (I.left input.new) result }
     ensures blame { IsBlamedOn (counts 0 0 (I.faults input.old) 0 0) (counts 0 0 (I.faults input.new) 0 0) result }
 {

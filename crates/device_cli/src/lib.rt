@@ -3,7 +3,7 @@
 //! [`run_main`] takes the words of a command line and the objects of the outside, and answers an exit status.
 #![tactic(auto)]
 
-ghost use Rattle.std.specs.Prelude.{◌≡◌, ℕ, map, string_bytes};
+ghost use Rattle.std.specs.Prelude.{◌≡◌, ◌≤◌, ◌+◌, ℕ, map, string_bytes};
 ghost use Rattle.device_cli.specs.Words.{AreRunWords, AreCheckWords, AreSeizeWords, AreWorkWords, records_of};
 ghost use Rattle.device_cli.specs.Handed.{handed};
 ghost use Rattle.device_course.specs.States.{around};
@@ -61,6 +61,9 @@ pub fn run_main<P: Platform, T: Tape, I: Source, O: Sink, L: Sink>(
     ensures refuses { Refuses P.tells (map string_bytes words.now) result
         (handed P.Platform T.Tape I.Source O.Sink L.Sink platform.old tape.old input.old output.old ledger.old)
         (handed P.Platform T.Tape I.Source O.Sink L.Sink platform.new tape.new input.new output.new ledger.new) }
+
+    // An input that is at its end is asked no more.
+    ensures ended { I.ends input.new ≤ I.ends input.old + 1 }
 
     // With no words or `run`, the replies are those of an array of blocks; at each moment a loss of power leaves a device that they passed. With room, and no
     // fault, each line has its reply.

@@ -41,6 +41,8 @@ pub(crate) fn run<P: Platform, T: Tape, I: Source, O: Sink, L: Sink>(
     output: &mut O,
     ledger: &mut L,
 ) -> Result<(), Stop>
+    // An input that is at its end is asked no more.
+    ensures ended { I.ends input.new ≤ I.ends input.old + 1 }
     ensures refused_only { P.tells → IfErr result (λ stop. status_of stop ≡ 8 → IsServedImage (P.history platform.old).present → ⊥) }
     ensures refused { P.tells → (IsServedImage (P.history platform.old).present → ⊥) → IfErr result (λ stop. IsRefusal stop)
         × (IsOk result → ⊥) }
@@ -81,6 +83,7 @@ fn serve_input<P: Platform, T: Tape, I: Source, O: Sink, L: Sink>(
 ) -> Result<(), Stop>
     requires { Before P.Platform desk.old platform.old }
     ensures bad_root { P.tells → IsErrOf result (Stop.Device DeviceStop.BadRoot) → ⊥ }
+    ensures ended { I.ends input.new ≤ I.ends input.old + 1 }
     ensures keeps { Keeps P.Platform T.Tape L.Sink desk.old desk.new platform.old platform.new tape.old tape.new ledger.old ledger.new result }
     ensures blame { IsBlamedOn
         (counts (P.faults platform.old) (T.faults tape.old) (I.faults input.old) (O.faults output.old) (L.faults ledger.old))

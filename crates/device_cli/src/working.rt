@@ -10,6 +10,7 @@ ghost use Rattle.line_run.specs.Puts.{HasPut, damage_line, TellsPut};
 ghost use Rattle.line_run.specs.Stops.{exit_of, IsBlamedOn, status_of};
 ghost use Rattle.sdbt_base.specs.Counts.{counts};
 ghost use Rattle.session_calls.specs.Cells.{IsUntouched};
+ghost use Rattle.device_cli.specs.Scripts.{ScriptState};
 ghost use Rattle.device_cli.specs.Working.{IsIdle, Worked};
 ghost use Rattle.device_cli.specs.World.{start_by, world_by, world_of};
 
@@ -17,7 +18,7 @@ use crate::run::run;
 use arrayvec::ArrayVec;
 use line_run::{Stop, last_line, push_text, put_line};
 use platform::Platform;
-use sdbt_base::{Line, MemSink, Sink, Source, SourceFault, Tape, copy_front};
+use sdbt_base::{Line, MemSink, Sink, Source, SourceFault, Tape, copy_front, ends_behind};
 use session_calls::DeviceStop;
 use std::alloc::Global;
 use std::marker::Model;
@@ -31,14 +32,16 @@ const LINES_AROUND: u64 = 3;
 struct ScriptSource {
     text: Line,
     at: usize,
+    ends: u64,
 }
 
 impl Model for ScriptSource {
-    ghost use Rattle.std.specs.Prelude.{ℕ, List, ◌≤◌, length, drop};
+    ghost use Rattle.std.specs.Prelude.{◌≤◌, length, drop};
+    ghost use Rattle.device_cli.specs.Scripts.{ScriptState};
 
-    ghost Value = { List ℕ };
+    ghost Value = { ScriptState };
 
-    ghost view = { λ s. drop s.at s.text };
+    ghost view = { λ s. record { left = drop s.at s.text; ends = s.ends } };
 
     ghost invariant = { λ s. s.at ≤ length s.text };
 }
@@ -46,24 +49,31 @@ impl Model for ScriptSource {
 impl ScriptSource {
     /// The input of this script, of which nothing is taken yet.
     fn new(text: Line) -> ScriptSource
-        ensures { result ≡ text }
+        ensures { result ≡ record { left = text; ends = 0 } }
     {
-        ScriptSource { text, at: 0 }
+        ScriptSource {
+            text,
+            at: 0,
+            ends: 0,
+        }
     }
 }
 
 impl Source for ScriptSource {
     ghost use Rattle.std.specs.Prelude.{Some};
 
-    ghost left = { λ s. Some s };
+    ghost left = { λ s. Some s.left };
 
     ghost faults = { λ s. 0 };
+
+    ghost ends = { λ s. s.ends };
 
     #[tactic(auto, using(sdbt_base::proofs::ToldLaws::ends))]
     fn take(&mut self, into: &mut [u8]) -> Result<usize, SourceFault> {
         let (_, rest) = self.text.bytes().split_at(self.at);
         let count = copy_front(rest, into);
         self.at += count;
+        self.ends = ends_behind(count, self.ends);
         Ok(count)
     }
 }

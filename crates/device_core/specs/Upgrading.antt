@@ -7,7 +7,7 @@ use Rattle.sdbt_base.specs.Keys.{IsKeyOf}
 use Rattle.sdbt_base.specs.declared.tapes.Tape.{Ghosts as TapeGhosts}
 use Rattle.platform.specs.declared.platforms.Platform.{Ghosts as PlatformGhosts}
 use Rattle.platform.specs.Image.{Image}
-use Rattle.platform.specs.Counts.{MayRiseBy}
+use Rattle.sdbt_base.specs.Rises.{MayRiseBy}
 use Rattle.platform.specs.History.{History, CellStays}
 use Rattle.root_codec.specs.declared.root.Root.{Root}
 use Rattle.root_codec.specs.RootRecord.{FitsRoot, root_bytes}

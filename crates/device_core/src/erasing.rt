@@ -1,6 +1,6 @@
 ghost use Rattle.std.specs.Prelude.{◌≡◌, ◌≤◌, ℕ, List, Option, None};
 ghost use Rattle.platform.specs.Image.{IsEither, LeavesOnly, with_cell};
-ghost use Rattle.platform.specs.Counts.{CountsOnce};
+ghost use Rattle.sdbt_base.specs.Rises.{CountsOnce};
 ghost use Rattle.platform.specs.History.{During, Steps, Turns};
 ghost use Rattle.sdbt_base.specs.Arrays.{Device};
 ghost use Rattle.page_store.specs.Stands.{Stands};

@@ -3,7 +3,7 @@ ghost use Rattle.std.specs.Prelude.{◌≡◌, ◌≤◌, ◌⊎◌, Some, OnOk,
 ghost use Rattle.sdbt_base.specs.Counts.{counts};
 ghost use Rattle.sdbt_base.specs.Told.{Got, GotPart};
 ghost use Rattle.platform.specs.Image.{with_cell, all_synced};
-ghost use Rattle.platform.specs.Counts.{MayRiseBy};
+ghost use Rattle.sdbt_base.specs.Rises.{MayRiseBy};
 ghost use Rattle.platform.specs.History.{Turns, CellStays};
 ghost use Rattle.page_store.specs.Reading.{ReadsNothing};
 ghost use Rattle.root_codec.specs.RootRecord.{FitsRoot, root_bytes};

@@ -10,7 +10,7 @@ use Rattle.sdbt_base.specs.declared.tapes.Tape.{Ghosts as TapeGhosts}
 use Rattle.std.specs.List.{AllByRecursion}
 use Rattle.platform.specs.declared.platforms.Platform.{Ghosts as PlatformGhosts}
 use Rattle.platform.specs.Image.{Image}
-use Rattle.platform.specs.Counts.{MayRiseByOne, MayRiseBy}
+use Rattle.sdbt_base.specs.Rises.{MayRiseByOne, MayRiseBy}
 use Rattle.platform.specs.History.{Turns, CellStays}
 use Rattle.platform.proofs.Moments.{During-start, Extends-earlier, whole-now}
 use Rattle.root_codec.specs.declared.root.Root.{Root}

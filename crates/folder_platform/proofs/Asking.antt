@@ -4,7 +4,7 @@ use Rattle.std.specs.Prelude.{◌↔◌, OnOk, IfOk, IsTrue, IsSome, slice_get}
 use Rattle.std.proofs.lemmas.List.{length_push}
 use Rattle.sdbt_base.specs.Bytes.{IsBytes}
 use Rattle.sdbt_base.specs.declared.limits.TheConstants.{ROOT}
-use Rattle.platform.specs.Counts.{MayRiseByOne, CountsOnce}
+use Rattle.sdbt_base.specs.Rises.{MayRiseByOne, CountsOnce}
 use Rattle.platform.specs.Image.{Image, with_page, with_cell, all_synced, IsEither, MayHavePage}
 use Rattle.platform.specs.History.{Steps}
 use Rattle.folder_platform.specs.Files.{Files, zero_page}

@@ -44,8 +44,8 @@ impl<S: Source> Tape for SourceTape<S> {
         ensures key { OnOk result (Gave (S.left (source_of self.old)) key.new (S.left (source_of self.new))) }
         ensures lost { OnErr result ((part : List ℕ) × (length part < KEY)
             × Gave (S.left (source_of self.old)) part (S.left (source_of self.new))) }
-        // It fails only where the source failed or had nothing left, and no fault of the source is passed over.
-        ensures fails { TellsSource result (S.left (source_of self.new)) (S.faults (source_of self.old)) (S.faults (source_of self.new)) }
+        // It fails only where the source failed or had nothing left, and asks it no more then.
+        ensures fails { TellsSource S.Source (source_of self.old) (source_of self.new) result }
         ensures source_count { S.faults (source_of self.old) ≤ S.faults (source_of self.new) }
         ensures faults { faults_of self.new
             ≡ (if is_err result then next_count (faults_of self.old) else faults_of self.old) }
@@ -66,14 +66,14 @@ fn fill<S: Source>(source: &mut S, bytes: &mut [u8]) -> Result<(), TapeFault>
     ensures full { OnOk result (Gave (S.left source.old) bytes.new (S.left source.new)) }
     ensures part { OnErr result ((n : ℕ) × (n < length bytes.old)
         × Gave (S.left source.old) (take n bytes.new) (S.left source.new)) }
-    ensures cause { TellsSource result (S.left source.new) (S.faults source.old) (S.faults source.new) }
+    ensures cause { TellsSource S.Source source.old source.new result }
     ensures count { S.faults source.old ≤ S.faults source.new }
 {
     let mut filled = 0;
     'takes: while filled < bytes.len() {
         match source.take(&mut bytes[filled..]) {
-            Ok(0) | Err(_) => return Err(TapeFault),
-            Ok(count) => filled += count,
+            Ok(count) if count > 0 => filled += count,
+            Ok(_) | Err(_) => return Err(TapeFault),
         }
     }
     Ok(())

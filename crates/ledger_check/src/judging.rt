@@ -1,5 +1,5 @@
 //! Reads a ledger from its input, and has it judged.
-ghost use Rattle.std.specs.Prelude.{◌≤◌};
+ghost use Rattle.std.specs.Prelude.{◌≤◌, ◌+◌};
 ghost use Rattle.sdbt_base.specs.Faults.{TellsOf};
 ghost use Rattle.ledger_check.specs.Judging.{FromInput, IsRead, Judged};
 
@@ -19,6 +19,8 @@ const PIECE: usize = 4096;
 /// where something was taken, and not at the limit: an empty ledger is refused by the last rule.
 pub fn judge<I: Source>(alloc: Global, input: &mut I, root: &Root) -> Result<Verdict, JudgeRefusal>
     ensures judged { Judged root.now (I.left input.old) (I.left input.new) result }
+    // An input that is at its end is asked no more.
+    ensures ended { I.ends input.new ≤ I.ends input.old + 1 }
     ensures cause { TellsOf JudgeRefusal.Source result (I.faults input.old) (I.faults input.new) }
     ensures count { I.faults input.old ≤ I.faults input.new }
 {
@@ -29,6 +31,7 @@ pub fn judge<I: Source>(alloc: Global, input: &mut I, root: &Root) -> Result<Ver
 /// A checker that was fed the ledger that an input gives.
 fn read_ledger<I: Source>(alloc: Global, input: &mut I) -> Result<Checker, JudgeRefusal>
     ensures read { FromInput IsRead (I.left input.old) (I.left input.new) result }
+    ensures ended { I.ends input.new ≤ I.ends input.old + 1 }
     ensures cause { TellsOf JudgeRefusal.Source result (I.faults input.old) (I.faults input.new) }
     ensures count { I.faults input.old ≤ I.faults input.new }
 {

@@ -1,6 +1,6 @@
 -- What a look does to a platform beside its purpose.
 use Rattle.std.specs.Prelude.{◌≡◌, ◌≤◌, ◌+◌, ℕ}
-use Rattle.platform.specs.Counts.{MayRiseByOne, MayRiseBy}
+use Rattle.sdbt_base.specs.Rises.{MayRiseByOne, MayRiseBy}
 use Rattle.platform.specs.History.{Steps}
 use Rattle.platform.specs.declared.platforms.Platform.{Ghosts}
 

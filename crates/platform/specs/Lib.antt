@@ -1,6 +1,5 @@
 pub mod Image
 pub mod Calls
-pub mod Counts
 pub mod Failures
 pub mod History
 pub mod Kept

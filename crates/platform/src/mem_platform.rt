@@ -171,7 +171,7 @@ impl MemPlatform {
 impl Platform for MemPlatform {
     ghost use Rattle.std.specs.Prelude.{◌≡◌, ◌↔◌, ◌⊎◌, ◌<◌, ◌≤◌, ◌+◌, ◌-◌, ◌^◌, false, Some, None, IsTrue, IsSome, IsErr, IfOk, OnOk, OnErr, length, slice_get, refl};
     ghost use Rattle.sdbt_base.specs.Faults.{Rose, next_count};
-    ghost use Rattle.platform.specs.Counts.{MayRiseByOne, CountsOnce};
+    ghost use Rattle.sdbt_base.specs.Rises.{MayRiseByOne, CountsOnce};
     ghost use Rattle.platform.specs.Image.{with_page, with_cell, all_synced, IsEither, MayHavePage};
     ghost use Rattle.platform.specs.History.{Steps};
     ghost use Rattle.platform.specs.Mem.{mem_history, image_of_now, due, starved_of, reads_of, looks_of, answered_of, changes_of, faults_of, capacity_of, FailsAsListed, Starved, Counts, HasEffect, TellsFaults, StepsBeside, CountsLook, CountsRead};
@@ -217,8 +217,7 @@ impl Platform for MemPlatform {
             (image_of_now self.new ≡ with_page (image_of_now self.old) page.now page.now) }
         ensures either { MayHavePage (image_of_now self.old) page.now (image_of_now self.new) }
         ensures cell { (image_of_now self.new).cell ≡ (image_of_now self.old).cell }
-        ensures beside { StepsBeside self.old self.new }
-        ensures changes { changes_of self.new ≡ changes_of self.old }
+        ensures beside { StepsBeside self.old self.new × (changes_of self.new ≡ changes_of self.old) }
 
         ensures head { MayRiseByOne (length (image_of_now self.old).recorded)
             (length (image_of_now self.new).recorded) }

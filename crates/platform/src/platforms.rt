@@ -1,6 +1,6 @@
 ghost use Rattle.std.specs.Prelude.{◌≡◌, ◌↔◌, ◌<◌, ◌≤◌, ◌+◌, ◌^◌, ℕ, Some, None, IsTrue, IsSome, IfOk, OnOk, length, slice_get};
 ghost use Rattle.sdbt_base.specs.Faults.{Tells};
-ghost use Rattle.platform.specs.Counts.{MayRiseByOne, CountsOnce};
+ghost use Rattle.sdbt_base.specs.Rises.{MayRiseByOne, CountsOnce};
 ghost use Rattle.platform.specs.Image.{with_page, with_cell, all_synced, IsEither, MayHavePage};
 ghost use Rattle.platform.specs.History.{History, Steps};
 
@@ -64,8 +64,8 @@ pub trait Platform {
 
         ensures head { MayRiseByOne (head self.old) (head self.new) }
         ensures capacity { capacity self.new ≡ capacity self.old }
-        ensures reads { tells → (reads self.new ≡ reads self.old) × (page_reads self.new ≡ page_reads self.old) }
-        ensures changes { tells → changes self.new ≡ changes self.old }
+        ensures counts { tells → (reads self.new ≡ reads self.old)
+            × (page_reads self.new ≡ page_reads self.old) × (changes self.new ≡ changes self.old) }
         ensures faults { faults self.old ≤ faults self.new }
         ensures cause { Tells result (faults self.old) (faults self.new) };
 
@@ -83,8 +83,8 @@ pub trait Platform {
         ensures capacity { capacity self.new ≡ capacity self.old }
         ensures reads_ok { tells → OnOk result (reads self.new ≡ reads self.old + 1) }
         ensures reads { tells → MayRiseByOne (reads self.old) (reads self.new) }
-        ensures page_reads { tells → page_reads self.new + reads self.old ≡ page_reads self.old + reads self.new }
-        ensures changes { tells → changes self.new ≡ changes self.old }
+        ensures pages_alone { tells → (page_reads self.new + reads self.old ≡ page_reads self.old + reads self.new)
+            × (changes self.new ≡ changes self.old) }
         ensures faults { faults self.old ≤ faults self.new }
         ensures cause { Tells result (faults self.old) (faults self.new) };
 
@@ -118,8 +118,8 @@ pub trait Platform {
         ensures head { head self.new ≡ head self.old }
         ensures capacity { capacity self.new ≡ capacity self.old }
         ensures reads_ok { tells → OnOk result (reads self.new ≡ reads self.old + 1) }
-        ensures reads { tells → MayRiseByOne (reads self.old) (reads self.new) × (page_reads self.new ≡ page_reads self.old) }
-        ensures changes { tells → changes self.new ≡ changes self.old }
+        ensures reads { tells → MayRiseByOne (reads self.old) (reads self.new)
+            × (page_reads self.new ≡ page_reads self.old) × (changes self.new ≡ changes self.old) }
         ensures faults { faults self.old ≤ faults self.new }
         ensures cause { Tells result (faults self.old) (faults self.new) };
 

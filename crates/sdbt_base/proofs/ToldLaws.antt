@@ -1,10 +1,12 @@
 -- Laws on what is told: nothing given or got, and one call after another. Crates above cite them.
-use Rattle.std.proofs.Common.{◌≡◌, ℕ, ◌+◌, Option, None, Some, List, [], ◌++◌, length, take, drop, refl, sym, ◌∙◌, ap, subst, arith}
+use Rattle.std.proofs.Common.{◌≡◌, ℕ, ◌+◌, ◌<◌, ◌≤◌, Option, None, Some, List, [], ◌++◌, length, take, drop, refl, sym, ◌∙◌, ap, subst, arith}
+use Rattle.std.specs.Prelude.{Result, Ok, Err}
 use Rattle.std.proofs.Math.Seq.{take-append-add, take-add}
 use Rattle.std.proofs.lemmas.List.{take-append-drop}
 use Rattle.std.proofs.lemmas.Grind.{common_steps}
 use Rattle.std.specs.Io.KnownBytes.{Appends, Keeps}
-use Rattle.sdbt_base.specs.Told.{Gave, Got, GotPart}
+use Rattle.sdbt_base.specs.Faults.{next_count}
+use Rattle.sdbt_base.specs.Told.{Gave, Got, GotPart, ends_with, ends_after}
 
 pub Gave-nothing : (left : Option (List ℕ)) → Gave left [] left
 Gave-nothing None = refl
@@ -45,3 +47,16 @@ Appends-kept None b c x p q = tt
 Appends-kept (Some xs) None c x p q = absurd p
 Appends-kept (Some xs) (Some ys) None x p q = absurd q
 Appends-kept (Some xs) (Some ys) (Some zs) x p q = cc
+
+-- a take that gave something is no end
+pub ends_gave : (count before : ℕ) → 0 < count → ends_with count before ≡ before
+ends_gave count before some = grind (arith, common_steps, some)
+
+-- one that gave nothing is one
+pub ends_none : (count before : ℕ) → count ≡ 0 → ends_with count before ≡ next_count before
+ends_none count before none = grind (arith, common_steps, none)
+
+-- a take counts one end at most
+pub ends_once : {E : Type 0} (result : Result ℕ E) (before : ℕ) → ends_after result before ≤ before + 1
+ends_once (Ok count) before = grind (arith, common_steps)
+ends_once (Err fault) before = omega (arith)

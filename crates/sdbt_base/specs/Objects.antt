@@ -3,13 +3,15 @@ use Rattle.std.specs.Prelude.{ℕ, ◌==◌, Option, List}
 use Rattle.std.specs.List.{find}
 use Rattle.std.specs.Option.{option_map}
 
--- a source: what is left, the most that one take gives, the numbers of the takes that fail, and counts
+-- a source: what is left, the most that one take gives, the numbers of the takes that fail, and counts of takes, of faults
+-- and of ends
 pub record SourceState : Type 0 where
   pub left : List ℕ
   pub step : ℕ
   pub fail : List ℕ
   pub takes : ℕ
   pub faults : ℕ
+  pub ends : ℕ
 
 -- a sink: what was written, the numbers of the puts that fail, each with the bytes after which it does, and counts
 pub record SinkState : Type 0 where

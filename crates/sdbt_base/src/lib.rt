@@ -33,7 +33,7 @@ pub use mem_sink::MemSink;
 pub use mem_source::MemSource;
 pub use read_source::ReadSource;
 pub use sinks::Sink;
-pub use sources::Source;
+pub use sources::{Source, ends_behind};
 pub use tapes::Tape;
 pub use transfers::{copy_front, read_whole, write_whole};
 pub use write_sink::WriteSink;

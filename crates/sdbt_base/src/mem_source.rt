@@ -2,9 +2,9 @@
 ghost use Rattle.std.specs.Prelude.{◌≡◌, ◌<◌, ◌≤◌, ◌↔◌, Some, [], length, take, drop, min, Contains, IfOk, IfSome, OnErr, IsErr, is_err, if◌then◌else◌};
 ghost use Rattle.sdbt_base.specs.Faults.{Tells, next_count};
 ghost use Rattle.sdbt_base.specs.Objects.{SourceState};
-ghost use Rattle.sdbt_base.specs.Told.{Gave};
+ghost use Rattle.sdbt_base.specs.Told.{Gave, ends_after};
 
-use crate::{Memory, Source, SourceFault, copy_front};
+use crate::{Memory, Source, SourceFault, copy_front, ends_behind};
 use std::alloc::Global;
 use std::marker::Model;
 
@@ -17,6 +17,7 @@ pub struct MemSource {
     fail: Vec<u64>,
     takes: u64,
     faults: u64,
+    ends: u64,
 }
 
 impl Model for MemSource {
@@ -28,6 +29,7 @@ impl Model for MemSource {
       fail = s.fail.items;
       takes = s.takes;
       faults = s.faults;
+      ends = s.ends;
     } };
 
     ghost invariant = { λ s. (s.at ≤ length s.bytes.items) × (0 < s.step) };
@@ -44,6 +46,7 @@ impl MemSource {
           fail = fail.now;
           takes = 0;
           faults = 0;
+          ends = 0;
         }) }
     {
         let bytes = Vec::from_slice(alloc, bytes)?;
@@ -55,6 +58,7 @@ impl MemSource {
             fail,
             takes: 0,
             faults: 0,
+            ends: 0,
         })
     }
 }
@@ -64,6 +68,8 @@ impl Source for MemSource {
 
     ghost faults = { λ s. s.faults };
 
+    ghost ends = { λ s. s.ends };
+
     #[tactic(auto, using(crate::proofs::ToldLaws::ends))]
     fn take(&mut self, into: &mut [u8]) -> Result<usize, SourceFault>
         requires { 0 < length into.old }
@@ -71,6 +77,7 @@ impl Source for MemSource {
         ensures taken { IfOk result (λ count. Gave (Some self.old.left) (take count into.new) (Some self.new.left)) }
         ensures end { IfOk result (λ count. IfSome (Some self.old.left) (λ rest. (count ≡ 0) ↔ (rest ≡ []))) }
         ensures nothing_taken { OnErr result (Some self.new.left ≡ Some self.old.left) }
+        ensures ended { self.new.ends ≡ ends_after result self.old.ends }
         ensures count { self.old.faults ≤ self.new.faults }
         ensures cause { Tells result self.old.faults self.new.faults }
 
@@ -83,6 +90,7 @@ impl Source for MemSource {
           fail = self.old.fail;
           takes = next_count self.old.takes;
           faults = (if is_err result then next_count self.old.faults else self.old.faults);
+          ends = ends_after result self.old.ends;
         } }
     {
         self.takes = self.takes.saturating_add(1);
@@ -93,6 +101,7 @@ impl Source for MemSource {
         let (_, rest) = self.bytes.split_at(self.at);
         let count = copy_front(&rest[..rest.len().min(self.step)], into);
         self.at += count;
+        self.ends = ends_behind(count, self.ends);
         Ok(count)
     }
 }

@@ -1,7 +1,7 @@
 //! Where bytes come from.
 ghost use Rattle.std.specs.Prelude.{◌≡◌, ℕ, ◌<◌, ◌≤◌, ◌↔◌, Option, List, [], length, take, IfOk, IfSome, OnErr};
 ghost use Rattle.sdbt_base.specs.Faults.{Tells};
-ghost use Rattle.sdbt_base.specs.Told.{Gave};
+ghost use Rattle.sdbt_base.specs.Told.{Gave, ends_with, ends_after};
 
 use crate::SourceFault;
 
@@ -13,6 +13,9 @@ pub trait Source {
     /// How often it has failed.
     ghost faults: { Self → ℕ };
 
+    /// How often it has answered that it is at its end.
+    ghost ends: { Self → ℕ };
+
     /// Moves the next bytes to the front of `into`, and answers how many. 0 is the end.
     /// A fault takes nothing; `into` may then hold anything.
     fn take(&mut self, into: &mut [u8]) -> Result<usize, SourceFault>
@@ -21,6 +24,14 @@ pub trait Source {
         ensures taken { IfOk result (λ count. Gave (left self.old) (take count into.new) (left self.new)) }
         ensures end { IfOk result (λ count. IfSome (left self.old) (λ rest. (count ≡ 0) ↔ (rest ≡ []))) }
         ensures nothing_taken { OnErr result (left self.new ≡ left self.old) }
+        ensures ended { ends self.new ≡ ends_after result (ends self.old) }
         ensures count { faults self.old ≤ faults self.new }
         ensures cause { Tells result (faults self.old) (faults self.new) };
+}
+
+/// How often a source has answered that it is at its end, behind a take that gave so many bytes.
+pub fn ends_behind(count: usize, ends: u64) -> u64
+    ensures { result ≡ ends_with count ends }
+{
+    if count == 0 { ends.saturating_add(1) } else { ends }
 }

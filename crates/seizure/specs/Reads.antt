@@ -1,6 +1,6 @@
 -- How many pages a seizure reads, and how often it looks at the cell.
 use Rattle.std.specs.Prelude.{◌≢◌, ◌≤◌, ◌⊎◌, ◌+◌, ℕ, List, Option, All, AllPairs, length}
-use Rattle.platform.specs.Counts.{MayRiseByOne}
+use Rattle.sdbt_base.specs.Rises.{MayRiseByOne}
 use Rattle.key_graph.specs.Chains.{Link, ChainEnds}
 use Rattle.seizure.specs.Report.{Begins}
 

@@ -1,7 +1,7 @@
 //! A seizure of a platform.
 ghost use Rattle.std.specs.Prelude.{◌≡◌, ◌≢◌, ◌<◌, ◌≤◌, ◌⊎◌, ◌+◌, [], ℕ, List, None, All, Contains, IfOk, IsOk, OnOk, OnErr, IsErrOf, length};
 ghost use Rattle.sdbt_base.specs.Faults.{TellsOf};
-ghost use Rattle.platform.specs.Counts.{MayRiseByOne};
+ghost use Rattle.sdbt_base.specs.Rises.{MayRiseByOne};
 ghost use Rattle.page_store.specs.Roots.{IsBadCell};
 ghost use Rattle.seizure.specs.Index.{AreMarks, AreBelow, AreApart, AreRising};
 ghost use Rattle.seizure.specs.Looks.{Looks, Stops};

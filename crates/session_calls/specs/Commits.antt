@@ -4,7 +4,7 @@ use Rattle.sdbt_base.specs.Arrays.{Device, Session as OpenSession, committed, co
 use Rattle.sdbt_base.specs.declared.sinks.Sink.{Ghosts as SinkGhosts}
 use Rattle.sdbt_base.specs.declared.tapes.Tape.{Ghosts as TapeGhosts}
 use Rattle.platform.specs.declared.platforms.Platform.{Ghosts as PlatformGhosts}
-use Rattle.platform.specs.Counts.{MayRiseBy}
+use Rattle.sdbt_base.specs.Rises.{MayRiseBy}
 use Rattle.platform.specs.History.{CellStays, During, History, Turns}
 use Rattle.page_store.specs.Keeping.{DrewAll}
 use Rattle.device_terms.specs.Certifying.{PutsSynced}

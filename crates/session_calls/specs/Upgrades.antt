@@ -5,7 +5,7 @@ use Rattle.sdbt_base.specs.Counts.{counts}
 use Rattle.sdbt_base.specs.declared.sinks.Sink.{Ghosts as SinkGhosts}
 use Rattle.sdbt_base.specs.declared.tapes.Tape.{Ghosts as TapeGhosts}
 use Rattle.platform.specs.declared.platforms.Platform.{Ghosts as PlatformGhosts}
-use Rattle.platform.specs.Counts.{MayRiseBy}
+use Rattle.sdbt_base.specs.Rises.{MayRiseBy}
 use Rattle.platform.specs.Image.{LeavesOnly}
 use Rattle.platform.specs.History.{During, Turns}
 use Rattle.root_codec.specs.declared.root.Root.{Root}

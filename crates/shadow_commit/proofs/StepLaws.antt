@@ -4,7 +4,7 @@ use Rattle.std.specs.Prelude.{Result, Ok, Err, IfOk, IsErr, IsErrOf, Contains}
 use Rattle.page_store.specs.declared.refusals.AppendFault.{AppendFault}
 use Rattle.page_store.specs.declared.refusals.AppendFault.TheVariants.{TapeFault, PlatformFault}
 use Rattle.platform.specs.History.{Steps}
-use Rattle.platform.specs.Counts.{CountsOnce, MayRiseBy}
+use Rattle.sdbt_base.specs.Rises.{CountsOnce, MayRiseBy}
 use Rattle.platform.specs.declared.platforms.Platform.{Ghosts as PlatformGhosts}
 use Rattle.sdbt_base.specs.declared.tapes.Tape.{Ghosts as TapeGhosts}
 use Rattle.platform.proofs.Moments.{During-start, During-step, During-now, During-then, During-weaker}

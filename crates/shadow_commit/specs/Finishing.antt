@@ -1,6 +1,6 @@
 -- What the replacement of a root record does beside its purpose.
 use Rattle.std.specs.Prelude.{◌≡◌, ◌≤◌}
-use Rattle.platform.specs.Counts.{MayRiseByOne}
+use Rattle.sdbt_base.specs.Rises.{MayRiseByOne}
 use Rattle.platform.specs.declared.platforms.Platform.{Ghosts}
 
 -- no page is added and none is read, and the cell changes once at most

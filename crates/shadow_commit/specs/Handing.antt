@@ -6,7 +6,7 @@ use Rattle.sdbt_base.specs.Keys.{bare}
 use Rattle.sdbt_base.specs.declared.tapes.Tape.{Ghosts as TapeGhosts}
 use Rattle.platform.specs.Image.{Image, IsEither, MayHavePage, all_synced}
 use Rattle.platform.specs.History.{CellStays}
-use Rattle.platform.specs.Counts.{MayRiseBy}
+use Rattle.sdbt_base.specs.Rises.{MayRiseBy}
 use Rattle.platform.specs.declared.platforms.Platform.{Ghosts as PlatformGhosts}
 use Rattle.page_store.specs.Keeping.{DrewAll}
 use Rattle.page_store.specs.Stands.{Stands}

@@ -2,6 +2,7 @@ use Rattle.std.proofs.Common.{◌≡◌, ℕ, ◌-◌, List, refl, drop, sym, �
 use Rattle.std.proofs.lemmas.Grind.{common_steps}
 use Rattle.std.specs.Prelude.{Option}
 use Rattle.sdbt_base.specs.Told.{IsAtEnd}
+use Rattle.sdbt_base.proofs.ToldLaws.{ends_gave}
 use Rattle.text_lines.specs.Lines.{rest_of}
 use Rattle.device_cli.specs.World.{World, world_by}
 use Rattle.device_cli.proofs.Serving.{HandledBy, replying}
@@ -21,6 +22,7 @@ loop-left-init g c =
       ready = c.requires.ready;
       room = c.requires.room;
       mounted = c.requires.mounted;
+      open_yet = refl;
       keeps = on_start _ _ _ c.args.desk.now.session _ _;
       quiet = refl;
       reading = IsReading-start _ (HandledBy P.tells) (replying P.tells).handling (world_by P g.T.Tape c.args.desk.now.session c.args.platform.now c.args.tape.now) (g.I.Source.left c.args.input.now)
@@ -87,6 +89,7 @@ loop-left-preserved g c =
       ready = c.in-Ok-serve_piece.ensures.after.ready;
       room = c.in-Ok-serve_piece.ensures.after.room;
       mounted = c.in-Ok-serve_piece.ensures.after.mounted;
+      open_yet = c.in-Ok.ensures.ended ∙ ends_gave c.in-Ok.count (g.I.Source.ends c.loop-left.input) (omega (arith, c.if-count-eq0.false)) ∙ c.loop-left.invariant.open_yet;
       keeps =
           on_done _ _ _ _ _ c.args.desk.now.session _ _ _ _ _ _
           (on_then _ _ _ _ _ _ _ c.args.desk.now.session c.loop-left.desk.session _ _ _ _ _ _ tt c.loop-left.invariant.keeps c.in-Ok-serve_piece.ensures.keeps (handled_through _ _ _ _ _ _ _ c.loop-left.invariant.reading.handled)) (λ yes. refl) (λ keys h. h);

@@ -21,6 +21,7 @@ invariant-loop-left g l =
       ready : IsReady l.desk (P.head l.platform);
       room : HasRoom l.desk;
       mounted : P.tells → IfSome l.desk.session (IsMounted (P.history l.platform).present);
+      open_yet : I.ends l.input ≡ I.ends l.fn.input;
       keeps : KeepsOn P.tells (T.drawn l.fn.tape) (T.drawn l.tape) (L.written l.fn.ledger) (L.written l.ledger) l.fn.desk.session (P.history l.fn.platform) (P.history l.platform) (Unit {0}) (IsListed l.desk.session (P.history l.platform).present);
       quiet : counts (P.faults l.platform) (T.faults l.tape) (I.faults l.input) (O.faults l.output) (L.faults l.ledger) ≡ counts (P.faults l.fn.platform) (T.faults l.fn.tape) (I.faults l.fn.input) (O.faults l.fn.output) (L.faults l.fn.ledger);
       reading : IsReading (HandledBy P.tells) (world_by P g.T.Tape l.fn.desk.session l.fn.platform l.fn.tape) (world_by P g.T.Tape l.desk.session l.platform l.tape)

@@ -137,7 +137,7 @@ returns-in-Ok-publish-clause-spends g c = (
       let once = c.load_root.ensures.reads told in
       let published = c.publish.ensures.reads told in
       let same = published.0.0 ∙ c.append.ensures.adds.reads told in
-      let before = c.append.ensures.adds.changes told ∙ c.load_root.ensures.changes told in (
+      let before = c.append.ensures.adds.changes told ∙ (c.load_root.ensures.reads told).2 in (
         record { rises = omega (arith, same, once.0.rises); by_one = omega (arith, same, once.0.by_one) },
         published.0.1 ∙ c.append.ensures.adds.page_reads told ∙ once.1,
         record { rises = omega (arith, before, published.1.rises); at_most = omega (arith, before, published.1.at_most) },

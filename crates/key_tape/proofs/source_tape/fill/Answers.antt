@@ -2,7 +2,7 @@ use Rattle.std.proofs.Common.{◌≡◌, ℕ, ◌+◌, ◌≤◌, ◌-◌, List,
 use Rattle.std.proofs.Math.Seq.{take-append-add}
 use Rattle.std.proofs.lemmas.List.{take-append-le, length-take-le, length-take}
 use borrow.Rule.Slice.PartMut.{put_mid, post_of, same_len_mid}
-use Rattle.sdbt_base.proofs.ToldLaws.{Gave-then}
+use Rattle.sdbt_base.proofs.ToldLaws.{Gave-then, ends_gave}
 use Rattle.key_tape.proofs.source_tape.fill.Goals as goal
 
 -- a front of a list, and the front of what is written behind it
@@ -31,4 +31,5 @@ takes-preserved g c =
           (Gave-then (g.S.Source.left c.args.source.now) (take at c.takes.bytes) (g.S.Source.left c.takes.source) (take c.in-Ok.count into)
           (g.S.Source.left c.take.new.self) c.takes.invariant.gave c.in-Ok.ensures.taken);
       quiet = omega (arith, c.in-Ok.ensures.cause, c.takes.invariant.quiet);
+      open_yet = c.in-Ok.ensures.ended ∙ ends_gave c.in-Ok.count (g.S.Source.ends c.takes.source) c.if-count-gt0.true ∙ c.takes.invariant.open_yet;
     }

@@ -22,7 +22,7 @@ loop-i-preserved g c =
         head = c.read.ensures.head;
         capacity = c.read.ensures.capacity;
         reads = λ told. (c.read.ensures.reads told).rises;
-        changes = c.read.ensures.changes;
+        changes = λ told. (c.read.ensures.pages_alone told).1;
         faults = c.read.ensures.faults;
       });
       quiet = c.in_ok-read.ensures.cause ∙ c.loop-i.invariant.quiet;

@@ -17,8 +17,7 @@ append-tells g c =
       time = λ told. does.time;
       head = rw new.recorded at does.head;
       capacity = refl;
-      reads = λ told. does.reads;
-      changes = λ told. does.changes;
+      counts = λ told. (does.reads.0, does.reads.1, does.changes);
       faults = c.ensures.faults;
       cause = c.ensures.cause;
     }
@@ -36,8 +35,7 @@ read-tells g c =
       capacity = refl;
       reads_ok = λ told. does.look.answered;
       reads = λ told. does.look.reads;
-      page_reads = λ told. does.page_reads;
-      changes = λ told. does.look.changes;
+      pages_alone = λ told. (does.page_reads, does.look.changes);
       faults = c.ensures.faults;
       cause = c.ensures.cause;
     }
@@ -73,8 +71,7 @@ load_root-tells g c =
       head = sym new.recorded ∙ does.look.recorded ∙ old.recorded;
       capacity = refl;
       reads_ok = λ told. does.look.answered;
-      reads = λ told. (does.look.reads, does.page_reads);
-      changes = λ told. does.look.changes;
+      reads = λ told. (does.look.reads, does.page_reads, does.look.changes);
       faults = c.ensures.faults;
       cause = c.ensures.cause;
     }
