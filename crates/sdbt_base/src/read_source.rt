@@ -24,7 +24,11 @@ impl<R: Read + Drop> ReadSource<R> {
         ensures ends { ⟦<ReadSource<R> as Source>⟧.ends result ≡ 0 }
         ensures inner { result.inner ≡ inner }
     {
-        ReadSource { inner, faults: 0, ends: 0 }
+        ReadSource {
+            inner,
+            faults: 0,
+            ends: 0,
+        }
     }
 }
 

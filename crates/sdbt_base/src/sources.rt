@@ -33,5 +33,9 @@ pub trait Source {
 pub fn ends_behind(count: usize, ends: u64) -> u64
     ensures { result ≡ ends_with count ends }
 {
-    if count == 0 { ends.saturating_add(1) } else { ends }
+    if count == 0 {
+        ends.saturating_add(1)
+    } else {
+        ends
+    }
 }
