@@ -1,5 +1,5 @@
 -- What a call on a device does beside its purpose: what it discloses, draws and adds.
-use Rattle.std.specs.Prelude.{◌≡◌, ◌≤◌, ◌+◌, ℕ, List, [], ◌∷◌, ◌++◌, Option}
+use Rattle.std.specs.Prelude.{◌≡◌, ◌⊎◌, ◌≤◌, ◌+◌, ℕ, List, [], ◌∷◌, ◌++◌, Option}
 use Rattle.sdbt_base.specs.Keys.{bare}
 use Rattle.sdbt_base.specs.declared.sinks.Sink.{Ghosts as SinkGhosts}
 use Rattle.sdbt_base.specs.declared.tapes.Tape.{Ghosts as TapeGhosts}
@@ -27,11 +27,16 @@ pub record NamesLast (drawn drawn_now : Option (List (List ℕ))) (pages : ℕ) 
   pub node : root.addr + 1 ≡ pages
   pub head : root.head ≡ pages
 
--- nothing was handed over, and no key was drawn
+-- nothing was handed over, synced or changed, and no key was drawn
 pub record AddsNothing {S R : Type 0} (P : PlatformGhosts S) (T : TapeGhosts R) (platform platform_now : S) (tape tape_now : R) : Type 0 where
   pub head : P.head platform_now ≡ P.head platform
   pub image : P.tells → (P.history platform_now).present ≡ (P.history platform).present
+  pub changes : P.tells → P.changes platform_now ≡ P.changes platform
   pub drawn : T.drawn tape_now ≡ T.drawn tape
+
+-- nothing was synced, and the cell not changed, unless so many pages were added before
+abbrev pub ChangesBehind : {S : Type 0} → PlatformGhosts S → ℕ → S → S → Type 0
+ChangesBehind P added platform platform_now = P.tells → (P.changes platform_now ≡ P.changes platform) ⊎ (P.head platform_now ≡ P.head platform + added)
 
 -- beside its purpose a call adds at most so many pages, and counts of faults don't fall
 pub record GrowsBy {S R W : Type 0} (P : PlatformGhosts S) (T : TapeGhosts R) (L : SinkGhosts W) (most : ℕ) (platform platform_now : S) (tape tape_now : R) (ledger ledger_now : W) : Type 0 where
