@@ -1,4 +1,5 @@
 pub mod Pending
+pub mod Uncopied
 pub mod Stops
 pub mod Puts
 pub mod Runs

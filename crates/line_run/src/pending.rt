@@ -26,6 +26,11 @@ impl Model for Pending {
 }
 
 impl Pending {
+    ghost use Rattle.std.specs.Borrow.{sem};
+    ghost use Rattle.std.specs.Io.BufRead.{Rests};
+    ghost use Rattle.line_run.specs.contracts.pending.Pending.{the_row};
+    ghost use Rattle.line_run.specs.Uncopied.{IsUncopied};
+
     /// Nothing of a line.
     pub fn new() -> Pending
         ensures { IsPending result [] }
@@ -71,7 +76,9 @@ impl Pending {
     /// The bytes of the line, which ends with these, or None where there are more than `MAX_LINE`. A line of which nothing had come
     /// is not copied.
     pub fn complete<'a>(&'a mut self, end: &'a [u8]) -> Option<&'a [u8]>
-        ensures { (line : List ℕ) → IsPending self.old line → IsPending (option_copied result) (line ++ end.now) }
+        ensures line { (line : List ℕ) → IsPending self.old line → IsPending (option_copied result) (line ++ end.now) }
+        // What is kept behind it, once the bytes that it answers are let go.
+        ensures* kept { sem 𝓛 (Rests the_row self.entry (IsUncopied end.now self.old)) }
     {
         if self.is_empty() && end.len() <= MAX_LINE {
             return Some(end);

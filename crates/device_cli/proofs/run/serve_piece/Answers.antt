@@ -42,7 +42,7 @@ loop-front-preserved g c =
       serving = λ rest pending.
           let so_far = c.loop-front.invariant.serving rest pending in
           let line : List ℕ = so_far.line ++ c.in-Some.front.now in
-          let kept = c.complete-line.ensures so_far.line so_far.unfinished.is_pending in
+          let kept = c.complete-line.ensures.line so_far.line so_far.unfinished.is_pending in
           IsServing-line _ (HandledBy P.tells) (replying P.tells).handling old mid new (written c.args.output.now) (written c.loop-front.output) (written c.answer.new.output) (rest ++ c.args.piece.now)
           c.loop-front.pending c.clear.new.self c.loop-front.rest.now c.in-Some.front.now c.in-Some.behind.now
           so_far c.in-Some.ensures.found.0 c.in-Some.ensures.found.1 c.clear.ensures (c.in_default-answer.ensures.handled line kept);
@@ -57,7 +57,7 @@ returns-in-Err-clause-handled g c rest pending =
     let new : World = world_by P g.T.Tape c.answer.new.desk.session c.answer.new.platform c.answer.new.tape in
     let so_far = c.loop-front.invariant.serving rest pending in
     let line : List ℕ = so_far.line ++ c.in-Some.front.now in
-    let kept = c.complete-line.ensures so_far.line so_far.unfinished.is_pending in
+    let kept = c.complete-line.ensures.line so_far.line so_far.unfinished.is_pending in
     IsServing-stop _ (HandledBy P.tells) (replying P.tells).handling old mid new (written c.args.output.now) (written c.loop-front.output) (written c.answer.new.output) (rest ++ c.args.piece.now)
     c.loop-front.pending c.loop-front.rest.now c.in-Some.front.now c.in-Some.behind.now c.in-Err.stop
     so_far c.in-Some.ensures.found.0 c.in-Some.ensures.found.1 c.in-Err.ensures.after.stops (c.in-Err.ensures.handled line kept)

@@ -35,7 +35,7 @@ loop-front-preserved g c =
       serving = λ rest pending.
           let so_far = c.loop-front.invariant.serving rest pending in
           let line : List ℕ = so_far.line ++ c.in-Some.front.now in
-          let kept = c.complete-line.ensures so_far.line so_far.unfinished.is_pending in
+          let kept = c.complete-line.ensures.line so_far.line so_far.unfinished.is_pending in
           IsServing-line _ (Handled P.tells (blocks_of c.args.first)) (replying P.tells (blocks_of c.args.first)).handling old mid new (written c.args.output.now) (written c.loop-front.output) (written c.answer.new.output) (rest ++ c.args.piece.now)
           c.loop-front.pending c.clear.new.self c.loop-front.rest.now c.in-Some.front.now c.in-Some.behind.now
           so_far c.in-Some.ensures.found.0 c.in-Some.ensures.found.1 c.clear.ensures (handled_of _ _ _ _ _ _ _ _ _ c.loop-front.invariant.carries.blocks (c.in-Ok.ensures.handled line kept));
@@ -51,7 +51,7 @@ returns-in-Err-clause-handled g c rest pending =
     let mid : World = world P T L (Some c.loop-front.session) c.loop-front.desk.table c.loop-front.platform c.loop-front.tape c.loop-front.ledger in
     let so_far = c.loop-front.invariant.serving rest pending in
     let line : List ℕ = so_far.line ++ c.in-Some.front.now in
-    let kept = c.complete-line.ensures so_far.line so_far.unfinished.is_pending in
+    let kept = c.complete-line.ensures.line so_far.line so_far.unfinished.is_pending in
     IsServing-stop _ (Handled P.tells (blocks_of c.args.first)) (replying P.tells (blocks_of c.args.first)).handling old mid _ (written c.args.output.now) (written c.loop-front.output) (written c.answer.new.output) (rest ++ c.args.piece.now)
     c.loop-front.pending c.loop-front.rest.now c.in-Some.front.now c.in-Some.behind.now c.in-Err.stop
     so_far c.in-Some.ensures.found.0 c.in-Some.ensures.found.1 c.in-Err.ensures.stops (handled_of _ _ _ _ _ _ _ _ _ c.loop-front.invariant.carries.blocks (c.in-Err.ensures.handled line kept))
