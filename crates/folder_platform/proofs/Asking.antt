@@ -8,11 +8,11 @@ use Rattle.sdbt_base.specs.Rises.{MayRiseByOne, CountsOnce}
 use Rattle.platform.specs.Image.{Image, with_page, with_cell, all_synced, IsEither, MayHavePage}
 use Rattle.platform.specs.History.{Steps}
 use Rattle.folder_platform.specs.Files.{Files, zero_page}
-use Rattle.folder_platform.specs.Events.{Event, all_done, page_read, page_written, media_synced, root_read}
+use Rattle.folder_platform.specs.Events.{Event, all_done, page_read, page_written, media_synced, root_read, root_unread}
 use Rattle.folder_platform.specs.Model.{NamedFile, bytes_of, replay}
 use Rattle.folder_platform.specs.Honest.{IsHonest}
 use Rattle.folder_platform.specs.Told.{cell_of, cell_with, past_of, now_of, reads_of, page_reads_of, changes_of, IsTold, told_by}
-use Rattle.folder_platform.specs.Sequences.{Renames, Unlinks, Replaces, Clears, Makes, Asks, NotesPage, NotesCell}
+use Rattle.folder_platform.specs.Sequences.{Renames, Unlinks, Replaces, Clears, Makes, Asks, NotesCell}
 use Rattle.folder_platform.specs.Loss.{Settled}
 use Rattle.folder_platform.proofs.Telling.{whole-told, with_page_of, kept_sync, believed_now, steps_to, steps_none}
 use Rattle.folder_platform.proofs.Changing.{Changes, changes_replaced, changes_cleared, changes_time}
@@ -23,6 +23,10 @@ none_more old new same = record { rises = omega (arith, same); by_one = omega (a
 
 one_more : (old new : ℕ) → new ≡ old + 1 → MayRiseByOne old new
 one_more old new more = record { rises = omega (arith, more); by_one = omega (arith, more) }
+
+one_if : (ok : Bool) (old new : ℕ) → new ≡ (if ok then old + 1 else old) → MayRiseByOne old new
+one_if true old new more = one_more old new more
+one_if false old new same = none_more old new same
 
 -- one call counts, and of the calls of a replacement and of a clearing one
 module _ {T E : Type 0} (old new : List Event) where
@@ -189,16 +193,17 @@ module _ (files files' : Files) (old new : List Event) (told : IsTold files old)
     changes = ap changes_of is;
   }
 
+  -- a call that reads, answered or not
   look_one : {T E : Type 0} (result : Result T E) (e : Event) → new ≡ e ∷ old → now_of files (e ∷ old) ≡ now_of files old → past_of files (e ∷ old) ≡ past_of files old ++ now_of files old ∷ []
-      → reads_of (e ∷ old) ≡ reads_of old + 1 → changes_of (e ∷ old) ≡ changes_of old → DoesLook files files' old new told told' result
+      → reads_of (e ∷ old) ≡ (if is_ok result then reads_of old + 1 else reads_of old) → changes_of (e ∷ old) ≡ changes_of old → DoesLook files files' old new told told' result
   look_one result e is shows adds reads changes =
       let image : now_of files' new ≡ now_of files old = ap (λ (f : Files). now_of f new) same ∙ ap (λ (es : List Event). now_of files es) is ∙ shows in
       record {
         image = image;
         time = steps_to files files' e old new told told' same is adds;
         recorded = ap (λ (image : Image). length image.recorded) image;
-        answered = on_ok result (reads_of new ≡ reads_of old + 1) (λ yes. ap reads_of is ∙ reads);
-        reads = one_more (reads_of old) (reads_of new) (ap reads_of is ∙ reads);
+        answered = on_ok result (reads_of new ≡ reads_of old + 1) (λ yes. ap reads_of is ∙ rw yes at reads);
+        reads = one_if (is_ok result) (reads_of old) (reads_of new) (ap reads_of is ∙ reads);
         changes = ap changes_of is ∙ changes;
       }
 
@@ -209,18 +214,20 @@ module _ (files files' : Files) (old new : List Event) (told : IsTold files old)
     found = λ honest. on_ok result (slice_get (now_of files old).readable addr ≡ Some page) (λ yes. cc);
   }
 
-  read_asked : {T E : Type 0} (addr : ℕ) (page : List ℕ) (result : Result T E) (done : Bool) → all_done old ≡ done → Asks (λ done. NotesPage result addr page) result old new → DoesRead files files' old new told told' addr page result
+  read_asked : {T E : Type 0} (addr : ℕ) (page : List ℕ) (result : Result T E) (done : Bool) → all_done old ≡ done → Asks (Makes (λ done. page_read addr done page)) result old new → DoesRead files files' old new told told' addr page result
   read_asked addr page (Ok answer) true was asks =
       let is = asks.makes was in
       record {
-        look = look_one (Ok answer) (page_read addr page) is refl refl refl refl;
+        look = look_one (Ok answer) (page_read addr true page) is refl refl refl refl;
         page_reads = rw is (omega arith);
         found = λ honest. subst (λ (f : Files). slice_get (now_of f old).readable addr ≡ Some page) same ((subst (λ (es : List Event). IsHonest files' es) is honest).0 was);
       }
-  read_asked addr page (Err fault) true was asks = read_none addr page (Err fault) refl (asks.makes was)
+  read_asked addr page (Err fault) true was asks =
+      let is = asks.makes was in
+      record { look = look_one (Err fault) (page_read addr false page) is refl refl refl refl; page_reads = rw is (omega arith); found = λ honest. tt }
   read_asked addr page result false was asks = let none = asks.refuses was in read_none addr page result none.0 none.1
 
-  pub asked_read : {T E : Type 0} (addr : ℕ) (page : List ℕ) (result : Result T E) → Asks (λ done. NotesPage result addr page) result old new → DoesRead files files' old new told told' addr page result
+  pub asked_read : {T E : Type 0} (addr : ℕ) (page : List ℕ) (result : Result T E) → Asks (Makes (λ done. page_read addr done page)) result old new → DoesRead files files' old new told told' addr page result
   asked_read addr page result = read_asked addr page result (all_done old) refl
 
   held_cell : (into : List ℕ) (full : Bool) (root : Option (List ℕ)) → all_done old ≡ true → new ≡ root_read root ∷ old → (IsTrue full ↔ IsSome (cell_with root)) → (IsTrue full → cell_with root ≡ Some into) → IsHonest files' new
@@ -249,7 +256,9 @@ module _ (files files' : Files) (old new : List Event) (told : IsTold files old)
 
   load_asked : {E : Type 0} (into : List ℕ) (result : Result Bool E) (done : Bool) → all_done old ≡ done → Asks (λ done. NotesCell result into) result old new → DoesLoad files files' old new told told' into result
   load_asked into (Ok full) true was asks = let all = asks.makes was in load_one into full all.0 all.1 was all.2 all.3
-  load_asked into (Err fault) true was asks = load_none into (Err fault) refl (asks.makes was)
+  load_asked into (Err fault) true was asks =
+      let is = asks.makes was in
+      record { look = look_one (Err fault) root_unread is refl refl refl refl; page_reads = ap page_reads_of is; cell = λ honest. tt }
   load_asked into result false was asks = let none = asks.refuses was in load_none into result none.0 none.1
 
   pub asked_load : {E : Type 0} (into : List ℕ) (result : Result Bool E) → Asks (λ done. NotesCell result into) result old new → DoesLoad files files' old new told told' into result

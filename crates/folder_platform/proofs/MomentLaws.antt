@@ -94,7 +94,8 @@ synced-again (Some (bytes, true)) synced = refl
 synced-again (Some (bytes, false)) synced = absurd (cc)
 
 alone-after : (call : FileCall) (n : ℕ) (done : Bool) (bytes : List ℕ) (m : Model) → changes_cell call ≡ false → IsAlone m → IsAlone (after_call call n done bytes m)
-alone-after CountPages n done bytes m calm a = record { alone = a.alone; synced = a.synced }
+alone-after CountPages n true bytes m calm a = record { alone = a.alone; synced = a.synced }
+alone-after CountPages n false bytes m calm a = a
 alone-after ReadPage n done bytes m calm a = a
 alone-after WritePage n done bytes m calm a = record { alone = a.alone; synced = a.synced }
 alone-after SyncMedia n true bytes m calm a = record { alone = a.alone; synced = a.synced }

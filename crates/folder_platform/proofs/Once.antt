@@ -1,8 +1,8 @@
 -- That pages are counted once, when the files are opened.
 use Rattle.std.proofs.Common.{◌≡◌, inl, inr, ℕ, Bool, true, false, List, [], ◌∷◌, Option, Some, None, Result, Ok, Err, refl, ◌∙◌, ap}
-use Rattle.std.specs.Prelude.{All, MatchResult}
+use Rattle.std.specs.Prelude.{All}
 use Rattle.std.proofs.lemmas.List.Elements.{All-nil, All-cons, All-head, All-tail}
-use Rattle.folder_platform.specs.Events.{Event, page_read, root_read, new_removed, new_made, new_synced, new_renamed, root_removed, cell_synced, replaced_in_place, cleared_in_place}
+use Rattle.folder_platform.specs.Events.{Event, root_read, root_unread, new_removed, new_made, new_synced, new_renamed, root_removed, cell_synced, replaced_in_place, cleared_in_place}
 use Rattle.folder_platform.specs.Sequences.{Attempts, Renames, Unlinks, Replaces, Clears, NotesCell, opening, counts, counted}
 
 pub once_opening : (n : ℕ) (events : List Event) → events ≡ opening n → counted events ≡ 1
@@ -17,17 +17,13 @@ once_event old new e other is once = ap counted is ∙ counted_more e old other 
 once_same : (old new : List Event) → new ≡ old → counted old ≡ 1 → counted new ≡ 1
 once_same old new is once = ap counted is ∙ once
 
-pub once_answer : {T E : Type 0} (old new : List Event) (addr : ℕ) (page : List ℕ) (result : Result T E) → MatchResult result (λ _. new ≡ page_read addr page ∷ old) (λ _. new ≡ old) → counted old ≡ 1 → counted new ≡ 1
-once_answer old new addr page (Ok x) is once = once_event old new (page_read addr page) refl is once
-once_answer old new addr page (Err error) is once = once_same old new is once
-
 once_loaded : (old new : List Event) (held : Option (List ℕ)) → new ≡ root_read held ∷ old → counted old ≡ 1 → counted new ≡ 1
 once_loaded old new None is once = once_event old new (root_read None) refl is once
 once_loaded old new (Some bytes) is once = once_event old new (root_read (Some bytes)) refl is once
 
 pub once_look : {E : Type 0} (old new : List Event) (result : Result Bool E) (into : List ℕ) → NotesCell result into old new → counted old ≡ 1 → counted new ≡ 1
 once_look old new (Ok full) into notes once = once_loaded old new notes.0 notes.1 once
-once_look old new (Err error) into notes once = once_same old new notes once
+once_look old new (Err error) into notes once = once_event old new root_unread refl notes once
 
 -- a call that counts no pages, done or not
 abbrev IsCountless : (Bool → Event) → Type 0

@@ -1,10 +1,10 @@
 -- What a loss of power leaves at each moment.
 use Rattle.std.proofs.Common.{◌≡◌, ◌⊎◌, inl, inr, ℕ, Bool, true, false, List, [], ◌∷◌, ◌++◌, Option, Some, None, Result, Ok, Err, length, take, refl, sym, ◌∙◌, ap, subst, arith, length-append, ◌+◌}
-use Rattle.std.specs.Prelude.{Contains, MatchResult, option_map}
+use Rattle.std.specs.Prelude.{Contains, option_map}
 use Rattle.std.proofs.lemmas.List.Elements.{All-contains, All-cons, All-nil}
 use Rattle.platform.specs.Image.{Image}
 use Rattle.folder_platform.specs.Files.{Files, fitted}
-use Rattle.folder_platform.specs.Events.{Event, page_read, page_written, media_synced, root_read, root_removed, new_removed, new_made, new_synced, new_renamed, cell_synced, replaced_in_place, cleared_in_place}
+use Rattle.folder_platform.specs.Events.{Event, page_read, page_written, media_synced, root_read, root_unread, root_removed, new_removed, new_made, new_synced, new_renamed, cell_synced, replaced_in_place, cleared_in_place}
 use Rattle.folder_platform.specs.Model.{NamedFile, Model, replay, put_in_place, durable, found, is_synced}
 use Rattle.folder_platform.specs.Told.{shown, cell_of, now_of}
 use Rattle.folder_platform.specs.Sequences.{Renames, Unlinks, Replaces, Clears, NotesCell, opening, AreOpened}
@@ -50,8 +50,11 @@ safe_more files e events here were (last ∷ later) earlier is from = let rest :
 
 -- calls that come while all was done
 module _ (files : Files) (events : List Event) (as_many : length (replay files events).recorded ≡ length (replay files events).readable) (settled : Settled (replay files events)) (safe : AllSafe files events) where
-  pub safe_read : (addr : ℕ) (page : List ℕ) → AllSafe files (page_read addr page ∷ events)
-  safe_read addr page = safe_more files (page_read addr page) events (safe_alone _ (replay files (page_read addr page ∷ events)) as_many settled.alone settled.synced) safe
+  pub safe_answered : (addr : ℕ) (ok : Bool) (page : List ℕ) → AllSafe files (page_read addr ok page ∷ events)
+  safe_answered addr ok page = safe_more files (page_read addr ok page) events (safe_alone _ (replay files (page_read addr ok page ∷ events)) as_many settled.alone settled.synced) safe
+
+  safe_unread : AllSafe files (root_unread ∷ events)
+  safe_unread = safe_more files root_unread events (safe_alone _ (replay files (root_unread ∷ events)) as_many settled.alone settled.synced) safe
 
   pub safe_loaded : (held : Option (List ℕ)) → AllSafe files (root_read held ∷ events)
   safe_loaded None = safe_more files (root_read None) events (safe_alone _ (replay files (root_read None ∷ events)) as_many settled.alone settled.synced) safe
@@ -139,13 +142,12 @@ module _ (files files' : Files) (events events' : List Event) (same : files' ≡
   pub safe_sync : (ok : Bool) → events' ≡ media_synced ok ∷ events → AllSafe files' events'
   safe_sync ok is = safe_to files files' events' (media_synced ok ∷ events) same is (safe_synced files events as_many settled safe ok)
 
-  pub safe_answer : {T E : Type 0} (addr : ℕ) (page : List ℕ) (result : Result T E) → MatchResult result (λ _. events' ≡ page_read addr page ∷ events) (λ _. events' ≡ events) → AllSafe files' events'
-  safe_answer addr page (Ok x) is = safe_to files files' events' (page_read addr page ∷ events) same is (safe_read files events as_many settled safe addr page)
-  safe_answer addr page (Err error) is = safe_to files files' events' events same is safe
+  pub safe_read : (addr : ℕ) (ok : Bool) (page : List ℕ) → events' ≡ page_read addr ok page ∷ events → AllSafe files' events'
+  safe_read addr ok page is = safe_to files files' events' (page_read addr ok page ∷ events) same is (safe_answered files events as_many settled safe addr ok page)
 
   pub safe_look : {E : Type 0} (result : Result Bool E) (into : List ℕ) → NotesCell result into events events' → AllSafe files' events'
   safe_look (Ok full) into notes = safe_to files files' events' (root_read notes.0 ∷ events) same notes.1 (safe_loaded files events as_many settled safe notes.0)
-  safe_look (Err error) into notes = safe_to files files' events' events same notes safe
+  safe_look (Err error) into notes = safe_to files files' events' (root_unread ∷ events) same notes (safe_unread files events as_many settled safe)
 
   pub safe_replace : (bytes : List ℕ) (ok : Bool) → Replaces bytes ok events events' → AllSafe files' events'
   safe_replace bytes ok calls = safe_to files files' events' events' same refl (safe_replaced files events as_many settled safe bytes ok events' calls)

@@ -1,16 +1,16 @@
 -- What each call does to the history that its record tells.
-use Rattle.std.proofs.Common.{◌≡◌, ℕ, suc, ◌+◌, ◌-◌, ◌<◌, ◌≤◌, min, Bool, true, false, if◌then◌else◌, List, [], ◌∷◌, ◌++◌, Option, Some, None, Result, Ok, Err, length, refl, sym, ◌∙◌, ap, subst, arith}
-use Rattle.std.specs.Prelude.{MatchResult}
+use Rattle.std.proofs.Common.{◌≡◌, ℕ, suc, ◌+◌, ◌-◌, ◌<◌, ◌≤◌, ◌||◌, min, Bool, true, false, if◌then◌else◌, List, [], ◌∷◌, ◌++◌, Option, Some, None, Result, Ok, Err, length, refl, sym, ◌∙◌, ap, subst, arith}
 use Rattle.std.proofs.lemmas.List.{take_all, take_at, append-nil, drop_all, length_push}
 use Rattle.std.proofs.lemmas.List.Elements.{All-push, All-replicate}
 use Rattle.std.proofs.lemmas.List.{length-replicate}
+use Rattle.std.proofs.lemmas.Bool.{and_parts}
 use Rattle.sdbt_base.specs.Bytes.{IsBytes}
 use Rattle.sdbt_base.specs.declared.limits.TheConstants.{RECORD}
 use Rattle.platform.specs.Image.{Image, IsWhole, IsEarlier, with_page, all_synced}
 use Rattle.platform.specs.History.{Steps}
 use Rattle.platform.proofs.Moments.{Steps-push, Steps-same, whole-now}
 use Rattle.folder_platform.specs.Files.{Files, zero_page, fitted, placed}
-use Rattle.folder_platform.specs.Events.{Event, all_done, page_read, page_written, media_synced, root_read}
+use Rattle.folder_platform.specs.Events.{Event, is_look, all_done, page_read, page_written, media_synced, root_read, root_unread}
 use Rattle.folder_platform.specs.Model.{Model, replay, after_call, durable}
 use Rattle.folder_platform.specs.Told.{shown, past_of, now_of, reads_of, IsTold, AreOrderly, told_by}
 use Rattle.folder_platform.specs.Sequences.{NotesCell}
@@ -106,8 +106,9 @@ earlier-synced image whole =
 synced-now : (m : Model) → m.is_believed ≡ true → m.is_named ≡ true → shown (after_call SyncMedia 0 true [] m) ≡ all_synced (shown m)
 synced-now m believed named = rw (believed, named) refl
 
-believed-after : (call : FileCall) (n : ℕ) (ok : Bool) (bytes : List ℕ) (m : Model) → ok ≡ true → m.is_believed ≡ true → (after_call call n ok bytes m).is_believed ≡ true
-believed-after CountPages n ok bytes m done was = was
+believed-after : (call : FileCall) (n : ℕ) (ok : Bool) (bytes : List ℕ) (m : Model) → (is_look call || ok) ≡ true → m.is_believed ≡ true → (after_call call n ok bytes m).is_believed ≡ true
+believed-after CountPages n true bytes m done was = was
+believed-after CountPages n false bytes m done was = was
 believed-after ReadPage n ok bytes m done was = was
 believed-after WritePage n ok bytes m done was = was
 believed-after SyncMedia n ok bytes m done was = rw done was
@@ -126,8 +127,9 @@ believed-after ClearInPlace n ok bytes m done was = was
 -- as long as all was done, a sync is believed
 pub believed_now : (files : Files) (events : List Event) → all_done events ≡ true → (replay files events).is_believed ≡ true
 believed_now files [] done = refl
-believed_now files ((call, n, true, bytes) ∷ earlier) done = believed-after call n true bytes (replay files earlier) refl (believed_now files earlier done)
-believed_now files ((call, n, false, bytes) ∷ earlier) done = cc
+believed_now files (e ∷ earlier) done =
+    let both = and_parts (is_look e.0 || e.2) (all_done earlier) done in
+    believed-after e.0 e.1 e.2 e.3 (replay files earlier) both.0 (believed_now files earlier both.1)
 
 pub told_synced : (files : Files) (events : List Event) (ok : Bool) → (replay files events).is_believed ≡ true → (replay files events).is_named ≡ true → IsTold files events → IsTold files (media_synced ok ∷ events)
 told_synced files events false believed named told = told_same files (media_synced false) events refl told refl
@@ -137,8 +139,8 @@ told_synced files events true believed named told =
     told_as files (media_synced true) events refl told (all_synced image) (synced-now (replay files events) believed named) (whole-synced image whole) (earlier-synced image whole)
 
 -- a call that leaves the cell and the medium as they are
-pub told_read : (files : Files) (events : List Event) (addr : ℕ) (page : List ℕ) → IsTold files events → IsTold files (page_read addr page ∷ events)
-told_read files events addr page told = told_same files (page_read addr page) events refl told refl
+told_read : (files : Files) (events : List Event) (addr : ℕ) (ok : Bool) (page : List ℕ) → IsTold files events → IsTold files (page_read addr ok page ∷ events)
+told_read files events addr ok page told = told_same files (page_read addr ok page) events refl told refl
 
 -- the same, where files and record are known by equations
 pub steps_to : (files files' : Files) (e : Event) (events events' : List Event) (told : IsTold files events) (told' : IsTold files' events') → files' ≡ files → events' ≡ e ∷ events
@@ -199,10 +201,10 @@ kept_sync files files' events events' true same is believed named told =
     kept-to files files' events events' (media_synced true ∷ events) (all_synced (now_of files events)) (reads_of events) same is
     (record { told = told_synced files events true believed named told; readable = refl; recorded = refl; shows = synced-now (replay files events) believed named; count = refl; settled = λ s. record { named = s.named; alone = s.alone; synced = s.synced; no_new = s.no_new } })
 
-pub kept_read : (files files' : Files) (events events' : List Event) (addr : ℕ) (page : List ℕ) → files' ≡ files → events' ≡ page_read addr page ∷ events → IsTold files events
-    → Kept files files' events events' (now_of files events) (reads_of events + 1)
-kept_read files files' events events' addr page same is told =
-    kept-to files files' events events' (page_read addr page ∷ events) (now_of files events) (reads_of events + 1) same is (record { told = told_read files events addr page told; readable = refl; recorded = refl; shows = refl; count = refl; settled = λ s. record { named = s.named; alone = s.alone; synced = s.synced; no_new = s.no_new } })
+pub kept_read : (files files' : Files) (events events' : List Event) (addr : ℕ) (ok : Bool) (page : List ℕ) → files' ≡ files → events' ≡ page_read addr ok page ∷ events → IsTold files events
+    → Kept files files' events events' (now_of files events) (reads_of (page_read addr ok page ∷ events))
+kept_read files files' events events' addr ok page same is told =
+    kept-to files files' events events' (page_read addr ok page ∷ events) (now_of files events) (reads_of (page_read addr ok page ∷ events)) same is (record { told = told_read files events addr ok page told; readable = refl; recorded = refl; shows = refl; count = refl; settled = λ s. record { named = s.named; alone = s.alone; synced = s.synced; no_new = s.no_new } })
 
 pub kept_load : (files files' : Files) (events events' : List Event) (held : Option (List ℕ)) → files' ≡ files → events' ≡ root_read held ∷ events → IsTold files events
     → Kept files files' events events' (now_of files events) (reads_of events + 1)
@@ -213,62 +215,39 @@ kept_load files files' events events' (Some bytes) same is told =
     kept-to files files' events events' (root_read (Some bytes) ∷ events) (now_of files events) (reads_of events + 1) same is
     (record { told = told_same files (root_read (Some bytes)) events refl told refl; readable = refl; recorded = refl; shows = refl; count = refl; settled = λ s. record { named = s.named; alone = s.alone; synced = s.synced; no_new = s.no_new } })
 
--- nothing was asked
-pub kept_none : (files files' : Files) (events events' : List Event) → files' ≡ files → events' ≡ events → IsTold files events → Kept files files' events events' (now_of files events) (reads_of events)
-kept_none files files' events events' same is told =
-    kept-to files files' events events' events (now_of files events) (reads_of events) same is (record { told = told; readable = refl; recorded = refl; shows = refl; count = refl; settled = λ s. record { named = s.named; alone = s.alone; synced = s.synced; no_new = s.no_new } })
+kept_unread : (files files' : Files) (events events' : List Event) → files' ≡ files → events' ≡ root_unread ∷ events → IsTold files events → Kept files files' events events' (now_of files events) (reads_of events)
+kept_unread files files' events events' same is told =
+    kept-to files files' events events' (root_unread ∷ events) (now_of files events) (reads_of events) same is (record { told = told_same files root_unread events refl told refl; readable = refl; recorded = refl; shows = refl; count = refl; settled = λ s. record { named = s.named; alone = s.alone; synced = s.synced; no_new = s.no_new } })
 
--- what was asked was answered, or nothing was asked
+-- a look that fails ends nothing
 pub done_look : {E : Type 0} (events events' : List Event) (result : Result Bool E) (into : List ℕ) → NotesCell result into events events' → all_done events' ≡ all_done events
 done_look events events' (Ok full) into (None, is, _, _) = ap all_done is
 done_look events events' (Ok full) into (Some bytes, is, _, _) = ap all_done is
 done_look events events' (Err error) into is = ap all_done is
 
-pub done_answer : {T E : Type 0} (events events' : List Event) (addr : ℕ) (page : List ℕ) (result : Result T E) → MatchResult result (λ _. events' ≡ page_read addr page ∷ events) (λ _. events' ≡ events) → all_done events' ≡ all_done events
-done_answer events events' addr page (Ok x) is = ap all_done is
-done_answer events events' addr page (Err error) is = ap all_done is
+pub done_read : (events events' : List Event) (addr : ℕ) (ok : Bool) (page : List ℕ) → events' ≡ page_read addr ok page ∷ events → all_done events' ≡ all_done events
+done_read events events' addr ok page is = ap all_done is
 
 pub written_done : (events events' : List Event) (addr : ℕ) (ok : Bool) (page : List ℕ) → events' ≡ page_written addr ok page ∷ events → ok ≡ true → all_done events ≡ true → all_done events' ≡ true
 written_done events events' addr ok page is done was = ap all_done is ∙ rw done was
 
-pub failed_event : (events events' : List Event) (e : Event) → events' ≡ e ∷ events → e.2 ≡ false → all_done events' ≡ false
-failed_event events events' e is failed = ap all_done is ∙ rw failed refl
+pub failed_event : (events events' : List Event) (e : Event) → events' ≡ e ∷ events → is_look e.0 ≡ false → e.2 ≡ false → all_done events' ≡ false
+failed_event events events' e is changes failed = ap all_done is ∙ rw (changes, failed) refl
 
 pub synced_done : (events events' : List Event) (ok : Bool) → events' ≡ media_synced ok ∷ events → ok ≡ true → all_done events ≡ true → all_done events' ≡ true
 synced_done events events' ok is done was = ap all_done is ∙ rw done was
 
--- one look at `root`, or none
+-- one look at `root`
 pub kept_look : {E : Type 0} (files files' : Files) (events events' : List Event) (result : Result Bool E) (into : List ℕ) → files' ≡ files → NotesCell result into events events' → IsTold files events
     → Kept files files' events events' (now_of files events) (reads_of events')
 kept_look files files' events events' (Ok full) into same notes told =
     let all = kept_load files files' events events' notes.0 same notes.1 told in
     record { told = all.told; readable = all.readable; recorded = all.recorded; shows = all.shows; count = refl; settled = all.settled }
 kept_look files files' events events' (Err error) into same notes told =
-    let all = kept_none files files' events events' same notes told in
+    let all = kept_unread files files' events events' same notes told in
     record { told = all.told; readable = all.readable; recorded = all.recorded; shows = all.shows; count = refl; settled = all.settled }
 
 pub steps_none : (files files' : Files) (events events' : List Event) (told : IsTold files events) (told' : IsTold files' events') → files' ≡ files → events' ≡ events → Steps (told_by files events told) (told_by files' events' told')
 steps_none files files' events events' told told' same is =
     Steps-same (told_by files events told) (told_by files' events' told')
     (ap (λ (f : Files). past_of f events') same ∙ ap (λ (es : List Event). past_of files es) is) (ap (λ (f : Files). now_of f events') same ∙ ap (λ (es : List Event). now_of files es) is)
-
-pub steps_load : (files files' : Files) (held : Option (List ℕ)) (events events' : List Event) (told : IsTold files events) (told' : IsTold files' events') → files' ≡ files → events' ≡ root_read held ∷ events
-    → Steps (told_by files events told) (told_by files' events' told')
-steps_load files files' None events events' told told' same is = steps_to files files' (root_read None) events events' told told' same is refl
-steps_load files files' (Some bytes) events events' told told' same is = steps_to files files' (root_read (Some bytes)) events events' told told' same is refl
-
-pub steps_look : {E : Type 0} (files files' : Files) (events events' : List Event) (result : Result Bool E) (into : List ℕ) (told : IsTold files events) (told' : IsTold files' events') → files' ≡ files
-    → NotesCell result into events events' → Steps (told_by files events told) (told_by files' events' told')
-steps_look files files' events events' (Ok full) into told told' same notes = steps_load files files' notes.0 events events' told told' same notes.1
-steps_look files files' events events' (Err error) into told told' same notes = steps_none files files' events events' told told' same notes
-
--- one read of a page, or none
-pub kept_answer : {T E : Type 0} (files files' : Files) (events events' : List Event) (addr : ℕ) (page : List ℕ) (result : Result T E) → files' ≡ files
-    → MatchResult result (λ _. events' ≡ page_read addr page ∷ events) (λ _. events' ≡ events) → IsTold files events
-    → Kept files files' events events' (now_of files events) (reads_of events')
-kept_answer files files' events events' addr page (Ok x) same notes told =
-    let all = kept_read files files' events events' addr page same notes told in
-    record { told = all.told; readable = all.readable; recorded = all.recorded; shows = all.shows; count = refl; settled = all.settled }
-kept_answer files files' events events' addr page (Err error) same notes told =
-    let all = kept_none files files' events events' same notes told in
-    record { told = all.told; readable = all.readable; recorded = all.recorded; shows = all.shows; count = refl; settled = all.settled }

@@ -1,6 +1,6 @@
 -- What calls tell that only look.
 use Rattle.std.proofs.Common.{◌≡◌, ℕ, true, List, [], ◌∷◌, Option, Some, None, Result, Ok, Err, length, refl, sym, ◌∙◌, ap, subst}
-use Rattle.std.specs.Prelude.{Bool, MatchResult}
+use Rattle.std.specs.Prelude.{Bool}
 use Rattle.folder_platform.specs.Files.{Files, AreFiles, fitted}
 use Rattle.folder_platform.specs.Events.{Event, all_done, pages_counted, page_read}
 use Rattle.folder_platform.specs.Model.{replay, found}
@@ -50,6 +50,5 @@ looks_at_cell events events' (Ok full) into (None, is, _, _) = ap are_looks is
 looks_at_cell events events' (Ok full) into (Some bytes, is, _, _) = ap are_looks is
 looks_at_cell events events' (Err error) into is = ap are_looks is
 
-pub looks_at_page : {T E : Type 0} (events events' : List Event) (addr : ℕ) (page : List ℕ) (result : Result T E) → MatchResult result (λ _. events' ≡ page_read addr page ∷ events) (λ _. events' ≡ events) → are_looks events' ≡ are_looks events
-looks_at_page events events' addr page (Ok x) is = ap are_looks is
-looks_at_page events events' addr page (Err error) is = ap are_looks is
+pub looks_at_page : (events events' : List Event) (addr : ℕ) (ok : Bool) (page : List ℕ) → events' ≡ page_read addr ok page ∷ events → are_looks events' ≡ are_looks events
+looks_at_page events events' addr ok page is = ap are_looks is

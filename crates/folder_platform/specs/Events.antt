@@ -1,10 +1,9 @@
 -- The calls on the files of a device in folders, each with its answer.
-use Rattle.std.specs.Prelude.{◌&&◌, ℕ, Bool, true, List, [], ◌∷◌, Option, Some, None}
+use Rattle.std.specs.Prelude.{◌&&◌, ◌||◌, ℕ, Bool, true, false, List, [], ◌∷◌, Option, Some, None}
 use Rattle.folder_platform.specs.declared.file_call.FileCall.{FileCall}
 use Rattle.folder_platform.specs.declared.file_call.FileCall.TheVariants.{CountPages, ReadPage, WritePage, SyncMedia, SyncFolder, ReadRoot, SyncRoot, RemoveRoot, RemoveNew, MakeNew, SyncNew, RenameNew, SyncCell, ReplaceInPlace, ClearInPlace}
 
--- Which call it was, an address or a number, whether it was done, and bytes. A call that only looks and fails is no event, so
--- each that was not done is one that changes something and failed.
+-- Which call it was, an address or a number, whether it was done, and bytes.
 abbrev pub Event : Type 0
 Event = FileCall × ℕ × Bool × List ℕ
 
@@ -12,9 +11,13 @@ Event = FileCall × ℕ × Bool × List ℕ
 abbrev pub pages_counted : ℕ → Event
 pages_counted n = (CountPages, n, true, [])
 
--- the page at this address was read, and is this one
-abbrev pub page_read : ℕ → List ℕ → Event
-page_read addr page = (ReadPage, addr, true, page)
+-- the pages of `media` were to be counted, and that failed
+abbrev pub pages_uncounted : Event
+pages_uncounted = (CountPages, 0, false, [])
+
+-- the page at this address was read, and is this one; where that failed the bytes say nothing
+abbrev pub page_read : ℕ → Bool → List ℕ → Event
+page_read addr done page = (ReadPage, addr, done, page)
 
 -- this page was written at this address; where that failed any part of it may be there
 abbrev pub page_written : ℕ → Bool → List ℕ → Event
@@ -32,6 +35,10 @@ folder_synced done = (SyncFolder, 0, done, [])
 abbrev pub root_read : Option (List ℕ) → Event
 root_read None = (ReadRoot, 0, true, [])
 root_read (Some bytes) = (ReadRoot, 1, true, bytes)
+
+-- `root` was looked for, and that failed
+abbrev pub root_unread : Event
+root_unread = (ReadRoot, 0, false, [])
 
 -- `root` was synced or isn't there, or that failed
 abbrev pub root_synced : Bool → Event
@@ -69,7 +76,14 @@ replaced_in_place done bytes = (ReplaceInPlace, 0, done, bytes)
 abbrev pub cleared_in_place : Bool → Event
 cleared_in_place done = (ClearInPlace, 0, done, [])
 
+-- a call that changes nothing
+abbrev pub is_look : FileCall → Bool
+is_look CountPages = true
+is_look ReadPage = true
+is_look ReadRoot = true
+is_look other = false
+
 -- no call failed that changes something
 abbrev pub all_done : List Event → Bool
 all_done [] = true
-all_done (e ∷ earlier) = e.2 && all_done earlier
+all_done (e ∷ earlier) = (is_look e.0 || e.2) && all_done earlier

@@ -54,7 +54,7 @@ put_in_place file done m = record m { root = file; on_disk = if done then Some (
 -- What a call does. A write that fails leaves a page of which nothing is known. A file that is made, a rename and a removal count
 -- as done where they fail too: the file may have any bytes then, and on the disk the name may lead to what it led to before.
 abbrev pub after_call : FileCall → ℕ → Bool → List ℕ → Model → Model
-after_call CountPages n done bytes m = record m { recorded = fitted n m.recorded; readable = fitted n m.readable }
+after_call CountPages n done bytes m = if done then record m { recorded = fitted n m.recorded; readable = fitted n m.readable } else m
 after_call ReadPage addr done page m = m
 after_call WritePage addr done page m =
     record m { recorded = placed m.recorded addr page; readable = placed m.readable addr (if done then page else zero_page); synced = min m.synced addr }

@@ -1,5 +1,5 @@
 -- Why folders can't be a platform.
-use Rattle.std.specs.Prelude.{◌≡◌, ◌≢◌, ◌<◌, ◌*◌, ◌-◌, ◌^◌, ℕ, min, if◌then◌else◌, List, [], ◌∷◌, ⊤, Result, Ok, Err}
+use Rattle.std.specs.Prelude.{◌≡◌, ◌≢◌, ◌<◌, ◌*◌, ◌-◌, ◌^◌, ℕ, min, false, List, [], ◌∷◌, ⊤, Result, Ok, Err}
 use Rattle.std.specs.IoError.{error_kind}
 use Rattle.std.specs.declared.io.Error.{Error}
 use Rattle.std.specs.declared.io.ErrorKind.TheVariants.{OutOfMemory}
@@ -68,24 +68,15 @@ file_of RemoveNew = opened.NewRoot
 file_of SyncCell = opened.Cell
 file_of other = opened.Media
 
--- the file of a call that failed after these: that of the newest one, or `media` where all were done, since a count of pages that failed is no event
-abbrev pub failed_file : List Event → FolderFile
-failed_file [] = opened.Media
-failed_file (e ∷ earlier) = if e.2 then opened.Media else file_of e.0
-
 -- these are more pages than a medium can have, and this is their length, or the largest number of 64 bits where it is more
 abbrev pub AreTooLong : ℕ → ℕ → Type 0
 AreTooLong pages len = (MAX_PAGES < pages) × (len ≡ min (pages * RECORD) (2 ^ 64 - 1))
 
--- the newest call counted too many pages, which have this length
-abbrev pub FoundTooLong : List Event → ℕ → Type 0
-FoundTooLong [] len = ⊥
-FoundTooLong (e ∷ earlier) len = AreTooLong e.1 len
-
 -- a refusal after these calls tells how long the pages are that the newest one counted, or names the file on which it failed
 abbrev pub TellsLast : List Event → OpenRefusal → Type 0
-TellsLast events (TooLong len) = FoundTooLong events len
-TellsLast events other = Names (failed_file events) other
+TellsLast [] refusal = ⊥
+TellsLast (e ∷ earlier) (TooLong len) = AreTooLong e.1 len
+TellsLast (e ∷ earlier) other = (e.2 ≡ false) × Names (file_of e.0) other
 
 -- why the pages of `media` are refused that were counted: they are too many, or the count failed
 abbrev pub RefusesPages : Result ℕ Error → OpenRefusal → Type 0

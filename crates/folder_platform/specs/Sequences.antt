@@ -1,7 +1,7 @@
 -- Which calls on files a call of the platform consists of.
 use Rattle.std.specs.Prelude.{◌≡◌, ◌⊎◌, ◌↔◌, ◌+◌, if◌then◌else◌, ℕ, Bool, true, false, List, [], ◌∷◌, ◌++◌, Option, Some, None, Result, Ok, Err, is_ok, take, IsTrue, IsSome}
 use Rattle.folder_platform.specs.Files.{Files}
-use Rattle.folder_platform.specs.Events.{Event, all_done, pages_counted, page_read, media_synced, folder_synced, root_read, root_synced, root_removed, new_removed, new_made, new_synced, new_renamed, cell_synced, replaced_in_place, cleared_in_place}
+use Rattle.folder_platform.specs.Events.{Event, all_done, pages_counted, pages_uncounted, media_synced, folder_synced, root_read, root_unread, root_synced, root_removed, new_removed, new_made, new_synced, new_renamed, cell_synced, replaced_in_place, cleared_in_place}
 use Rattle.folder_platform.specs.Told.{cell_with}
 use Rattle.folder_platform.specs.declared.file_call.FileCall.{FileCall}
 use Rattle.folder_platform.specs.declared.file_call.FileCall.TheVariants.{CountPages}
@@ -49,7 +49,7 @@ abbrev pub counts : FileCall → Bool
 counts CountPages = true
 counts other = false
 
--- so many times pages were counted
+-- so many times pages were counted, or that was tried
 abbrev pub counted : List Event → ℕ
 counted [] = 0
 counted (e ∷ earlier) = if counts e.0 then counted earlier + 1 else counted earlier
@@ -63,14 +63,14 @@ pub record IsOpening (were are : Files) (events : List Event) : Type 0 where
 abbrev pub NotesRoot : {E : Type 0} → Result (Option ℕ) E → List ℕ → List Event → List Event → Type 0
 NotesRoot (Ok None) into old new = new ≡ root_read None ∷ old
 NotesRoot (Ok (Some n)) into old new = new ≡ root_read (Some (take n into)) ∷ old
-NotesRoot (Err _) into old new = new ≡ old
+NotesRoot (Err _) into old new = new ≡ root_unread ∷ old
 
--- the page at this address is in the buffer
-abbrev pub NotesPage : {T E : Type 0} → Result T E → ℕ → List ℕ → List Event → List Event → Type 0
-NotesPage (Ok _) addr into old new = new ≡ page_read addr into ∷ old
-NotesPage (Err _) addr into old new = new ≡ old
+-- so many pages were counted, or that failed
+abbrev pub NotesCount : {E : Type 0} → Result ℕ E → List Event → List Event → Type 0
+NotesCount (Ok n) old new = new ≡ pages_counted n ∷ old
+NotesCount (Err _) old new = new ≡ pages_uncounted ∷ old
 
 -- whether the cell is full, and then what it holds, by one look at it
 abbrev pub NotesCell : {E : Type 0} → Result Bool E → List ℕ → List Event → List Event → Type 0
 NotesCell (Ok full) into old new = (root : Option (List ℕ)) × (new ≡ root_read root ∷ old) × (IsTrue full ↔ IsSome (cell_with root)) × (IsTrue full → cell_with root ≡ Some into)
-NotesCell (Err _) into old new = new ≡ old
+NotesCell (Err _) into old new = new ≡ root_unread ∷ old

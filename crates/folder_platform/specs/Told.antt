@@ -1,5 +1,5 @@
 -- The history that a record of calls tells.
-use Rattle.std.specs.Prelude.{◌≤◌, ◌+◌, ◌==◌, ℕ, if◌then◌else◌, List, [], ◌∷◌, ◌++◌, Option, Some, None, length, replicate}
+use Rattle.std.specs.Prelude.{◌≤◌, ◌+◌, ◌==◌, ℕ, Bool, if◌then◌else◌, List, [], ◌∷◌, ◌++◌, Option, Some, None, length, replicate}
 use Rattle.sdbt_base.specs.declared.limits.TheConstants.{ROOT}
 use Rattle.platform.specs.Image.{Image, IsWhole, IsEarlier}
 use Rattle.platform.specs.History.{History, image_of}
@@ -59,27 +59,27 @@ abbrev pub told_by : (files : Files) (events : List Event) → IsTold files even
 told_by files events told = record { past = past_of files events; present = now_of files events; whole = told.whole; ascends = told.ascends }
 
 -- one more where a page was read, or the cell looked at
-abbrev reads_after : FileCall → ℕ → ℕ
-reads_after CountPages reads = 0
-reads_after ReadPage reads = reads + 1
-reads_after ReadRoot reads = reads + 1
-reads_after other reads = reads
+abbrev reads_after : FileCall → Bool → ℕ → ℕ
+reads_after CountPages done reads = 0
+reads_after ReadPage done reads = if done then reads + 1 else reads
+reads_after ReadRoot done reads = if done then reads + 1 else reads
+reads_after other done reads = reads
 
 -- so many reads of pages and looks at the cell were answered
 abbrev pub reads_of : List Event → ℕ
 reads_of [] = 0
-reads_of (e ∷ earlier) = reads_after e.0 (reads_of earlier)
+reads_of (e ∷ earlier) = reads_after e.0 e.2 (reads_of earlier)
 
 -- one more where a page was read
-abbrev page_reads_after : FileCall → ℕ → ℕ
-page_reads_after CountPages reads = 0
-page_reads_after ReadPage reads = reads + 1
-page_reads_after other reads = reads
+abbrev page_reads_after : FileCall → Bool → ℕ → ℕ
+page_reads_after CountPages done reads = 0
+page_reads_after ReadPage done reads = if done then reads + 1 else reads
+page_reads_after other done reads = reads
 
 -- so many reads of pages were answered
 abbrev pub page_reads_of : List Event → ℕ
 page_reads_of [] = 0
-page_reads_of (e ∷ earlier) = page_reads_after e.0 (page_reads_of earlier)
+page_reads_of (e ∷ earlier) = page_reads_after e.0 e.2 (page_reads_of earlier)
 
 -- one more where the pages were synced, or that was tried, or the cell was changed, or may have been
 abbrev changes_after : FileCall → ℕ → ℕ

@@ -2,11 +2,11 @@
 ghost use Rattle.std.specs.Prelude.{◌≡◌, ◌<◌, ◌≤◌, ◌+◌, ◌^◌, ◌∷◌, [], length, false, true, not, is_ok, IsTrue, IsErr, IfOk, IfErr, OnOk};
 ghost use Rattle.sdbt_base.specs.Faults.{Tells};
 ghost use Rattle.folder_platform.specs.Files.{Files};
-ghost use Rattle.folder_platform.specs.Events.{all_done, page_written, media_synced};
+ghost use Rattle.folder_platform.specs.Events.{all_done, page_read, page_written, media_synced};
 ghost use Rattle.folder_platform.specs.Model.{replay};
 ghost use Rattle.folder_platform.specs.Loss.{Settled, MayHold, AreLeft, AllSafe, opened};
 ghost use Rattle.folder_platform.specs.Refusals.{ShowsCause, TellsLast};
-ghost use Rattle.folder_platform.specs.Sequences.{IsOpening, Makes, Replaces, Clears, Asks, NotesPage, NotesCell, opening, counted};
+ghost use Rattle.folder_platform.specs.Sequences.{IsOpening, Makes, Replaces, Clears, Asks, NotesCell, opening, counted};
 ghost use Rattle.folder_platform.specs.Told.{IsTold, now_of};
 
 use crate::refusals::pages_told;
@@ -140,11 +140,15 @@ impl<C: CellCalls + Drop> Platform for FolderPlatform<C> {
         requires size { length into.old ≡ RECORD }
         requires within { addr < self.old.head }
         ensures files { C.PageCalls.start self.new.calls ≡ C.PageCalls.start self.old.calls }
-        ensures asks { Asks (λ done. NotesPage result addr into.new) result (C.PageCalls.events self.old.calls) (C.PageCalls.events self.new.calls) }
+        ensures asks { Asks (Makes (λ done. page_read addr done into.new)) result (C.PageCalls.events self.old.calls) (C.PageCalls.events self.new.calls) }
         ensures faults { self.old.faults ≤ self.new.faults }
         ensures cause { Tells result self.old.faults self.new.faults }
     {
-        if self.is_stuck || self.calls.read_page(addr, into).is_err() {
+        // A read that fails ends nothing.
+        if self.is_stuck {
+            return fault(&mut self.faults);
+        }
+        if self.calls.read_page(addr, into).is_err() {
             return fault(&mut self.faults);
         }
         Ok(())

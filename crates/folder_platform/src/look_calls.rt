@@ -1,8 +1,8 @@
 //! What is asked of the files of a device that is only looked at.
-ghost use Rattle.std.specs.Prelude.{◌≡◌, ◌∷◌, List, length, MatchResult};
+ghost use Rattle.std.specs.Prelude.{◌≡◌, ◌∷◌, List, length, is_ok};
 ghost use Rattle.folder_platform.specs.Files.{Files, AreFiles};
-ghost use Rattle.folder_platform.specs.Events.{Event, pages_counted, page_read};
-ghost use Rattle.folder_platform.specs.Sequences.{NotesCell};
+ghost use Rattle.folder_platform.specs.Events.{Event, page_read};
+ghost use Rattle.folder_platform.specs.Sequences.{NotesCount, NotesCell};
 
 use sdbt_base::{RECORD, ROOT};
 use std::io;
@@ -23,17 +23,13 @@ pub trait LookCalls {
     /// How many pages `media` has: none where it isn't there. A last one that is there in part counts.
     fn look_for_pages(&mut self) -> io::Result<u64>
         ensures start { start self.new ≡ start self.old }
-        ensures noted { MatchResult result
-            (λ n. events self.new ≡ pages_counted n ∷ events self.old)
-            (λ _. events self.new ≡ events self.old) };
+        ensures noted { NotesCount result (events self.old) (events self.new) };
 
     /// Reads the page of `RECORD` bytes at an address. What is missing of the last one reads as zeros.
     fn look_at_page(&mut self, addr: u64, into: &mut [u8]) -> io::Result<()>
         requires { length into.old ≡ RECORD }
         ensures start { start self.new ≡ start self.old }
-        ensures noted { MatchResult result
-            (λ _. events self.new ≡ page_read addr into.new ∷ events self.old)
-            (λ _. events self.new ≡ events self.old) };
+        ensures noted { events self.new ≡ page_read addr (is_ok result) into.new ∷ events self.old };
 
     /// Whether the cell is full: what it holds is in the buffer of `ROOT` bytes then.
     fn look_at_cell(&mut self, into: &mut [u8]) -> io::Result<bool>

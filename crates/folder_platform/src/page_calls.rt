@@ -1,7 +1,8 @@
 //! What is asked of the pages of a device: that a record is kept of each call with its answer, whatever that is.
-ghost use Rattle.std.specs.Prelude.{◌≡◌, ◌∷◌, List, length, is_ok, MatchResult};
+ghost use Rattle.std.specs.Prelude.{◌≡◌, ◌∷◌, List, length, is_ok};
 ghost use Rattle.folder_platform.specs.Files.{Files, AreFiles};
-ghost use Rattle.folder_platform.specs.Events.{Event, pages_counted, page_read, page_written, media_synced, folder_synced};
+ghost use Rattle.folder_platform.specs.Events.{Event, page_read, page_written, media_synced, folder_synced};
+ghost use Rattle.folder_platform.specs.Sequences.{NotesCount};
 
 use sdbt_base::RECORD;
 use std::io;
@@ -24,17 +25,13 @@ pub trait PageCalls {
     /// How many pages `media` has. A last one that is there in part is filled up with zeros.
     fn count_pages(&mut self) -> io::Result<u64>
         ensures start { start self.new ≡ start self.old }
-        ensures noted { MatchResult result
-            (λ n. events self.new ≡ pages_counted n ∷ events self.old)
-            (λ _. events self.new ≡ events self.old) };
+        ensures noted { NotesCount result (events self.old) (events self.new) };
 
     /// Reads the page of `RECORD` bytes at an address.
     fn read_page(&mut self, addr: u64, into: &mut [u8]) -> io::Result<()>
         requires { length into.old ≡ RECORD }
         ensures start { start self.new ≡ start self.old }
-        ensures noted { MatchResult result
-            (λ _. events self.new ≡ page_read addr into.new ∷ events self.old)
-            (λ _. events self.new ≡ events self.old) };
+        ensures noted { events self.new ≡ page_read addr (is_ok result) into.new ∷ events self.old };
 
     /// Writes a page of `RECORD` bytes at an address.
     fn write_page(&mut self, addr: u64, page: &[u8]) -> io::Result<()>
