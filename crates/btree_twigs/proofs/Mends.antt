@@ -5,9 +5,9 @@ use Rattle.btree_twigs.specs.declared.twigs.Child.TheVariants as made
 use Rattle.btree_twigs.specs.declared.twigs.Twig.{Twig}
 use Rattle.btree_twigs.specs.Stubs.{start_by, low_of, children_of, level_of, stubs, nodes, sum_by}
 use Rattle.btree_twigs.specs.Shape.{EachBy, Begins, IsChild, IsTwig}
-use Rattle.btree_twigs.specs.Updates.{IsNode, IsMended, HasRoom, stubs_under}
+use Rattle.btree_twigs.specs.Updates.{IsNode, IsMended, HasRoom, room_of, rooms, stubs_under}
 use Rattle.btree_twigs.proofs.ListLaws.{start_append, each_append}
-use Rattle.btree_twigs.proofs.Counts.{sum_append, nodes_grown}
+use Rattle.btree_twigs.proofs.Counts.{sum_append, nodes_grown, rooms_grown}
 use Rattle.btree_twigs.proofs.Children.{begins_le, one_datum}
 use Rattle.btree_twigs.proofs.Nodes.{cut, start_lt, stubs_cut, start_first, low_of_grown, stubs_of_grown, grown_is_child}
 
@@ -53,10 +53,10 @@ module _ (order level low mid high : ℕ) (left right : Twig) (four : 4 ≤ orde
       ∙ ap (λ s. stubs (suc level) (low_of (made.Grown mid right)) (made.Grown low left) ++ s) (sym (stubs_of_grown level high mid right))
 
   -- both in one
-  pub merged : (new : Twig) → level_of new ≡ suc level → HasRoom order new → order / 2 ≤ length (children_of new) → length (children_of new) ≤ order →
+  pub merged : (new : Twig) → level_of new ≡ suc level → HasRoom order new → room_of new ≡ room_of left → order / 2 ≤ length (children_of new) → length (children_of new) ≤ order →
       children_of new ≡ children_of left ++ children_of right →
       IsMended order (suc level) high (made.Grown low left) (made.Grown mid right) (made.Grown low new ∷ [])
-  merged new is room enough within all =
+  merged new is room same_room enough within all =
       let m = made.Grown low new in
       let j = join order level low mid high (children_of left) (children_of right) h.node k.node in
       let begins = subst (λ xs. Begins level low (start_by low_of xs high)) (sym all) j.begins in
@@ -70,14 +70,15 @@ module _ (order level low mid high : ℕ) (left right : Twig) (four : 4 ≤ orde
         each = (omega (arith, lt, begins_le level low _ begins, low_of_grown low new), grown_is_child order level low high new shaped, tt);
         same = append-nil (stubs (suc level) high m) ∙ stubs_are;
         none_more = omega (arith, nodes_grown level low new, nodes_grown level low left, nodes_grown level mid right, ap (sum_by (nodes level)) all, sum_append (nodes level) (children_of left) (children_of right));
+        no_more_room = omega (arith, same_room, rooms_grown level low new, rooms_grown level low left, rooms_grown level mid right, ap (sum_by (rooms level)) all, sum_append (rooms level) (children_of left) (children_of right));
       }
 
   -- two, cut elsewhere
-  pub recut : (from to : Twig) (c : Child) (lo : ℕ) → level_of from ≡ suc level → level_of to ≡ suc level → HasRoom order from → HasRoom order to →
+  pub recut : (from to : Twig) (c : Child) (lo : ℕ) → level_of from ≡ suc level → level_of to ≡ suc level → HasRoom order from → HasRoom order to → room_of from ≡ room_of left → room_of to ≡ room_of right →
       order / 2 ≤ length (children_of from) → length (children_of from) ≤ order → order / 2 ≤ length (children_of to) → length (children_of to) ≤ order →
       children_of from ++ children_of to ≡ children_of left ++ children_of right → c ≡ get_or (children_of to) 0 c → lo ≡ low_of c →
       IsMended order (suc level) high (made.Grown low left) (made.Grown mid right) (made.Grown low from ∷ made.Grown lo to ∷ [])
-  recut from to c lo is is' room room' enough within enough' within' all first low_is =
+  recut from to c lo is is' room room' same_room same_room' enough within enough' within' all first low_is =
       let a = made.Grown low from in
       let b = made.Grown lo to in
       let j = join order level low mid high (children_of left) (children_of right) h.node k.node in
@@ -103,4 +104,5 @@ module _ (order level low mid high : ℕ) (left right : Twig) (four : 4 ≤ orde
             ∙ ap (λ s. s ++ stubs (suc level) high b) (sym on_left) ∙ ap (λ s. stubs_under level (start_by low_of (children_of to) high) (children_of from) ++ s) (sym on_right)
             ∙ sym (stubs_cut level high (children_of from) (children_of to)) ∙ ap (stubs_under level high) all ∙ j.same ∙ olds;
         none_more = omega (arith, nodes_grown level low from, nodes_grown level lo to, nodes_grown level low left, nodes_grown level mid right, ap (sum_by (nodes level)) all, sum_append (nodes level) (children_of from) (children_of to), sum_append (nodes level) (children_of left) (children_of right));
+        no_more_room = omega (arith, same_room, same_room', rooms_grown level low from, rooms_grown level lo to, rooms_grown level low left, rooms_grown level mid right, ap (sum_by (rooms level)) all, sum_append (rooms level) (children_of from) (children_of to), sum_append (rooms level) (children_of left) (children_of right));
       }

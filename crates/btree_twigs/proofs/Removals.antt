@@ -8,12 +8,12 @@ use Rattle.btree_twigs.specs.declared.twigs.Child.TheVariants as made
 use Rattle.btree_twigs.specs.declared.twigs.Twig.{Twig, roll-Twig}
 use Rattle.btree_twigs.specs.Stubs.{Tiles, Takes, start_by, low_of, children_of, stubs, stubs_below, nodes, nodes_below, sum_by}
 use Rattle.btree_twigs.specs.Shape.{EachBy, Begins, IsChildBy, IsChild, IsTwig}
-use Rattle.btree_twigs.specs.Updates.{IsNode, IsGrownBy, IsGrown, width_in, width_of, CanMend, IsMended, OneShort, stubs_under}
+use Rattle.btree_twigs.specs.Updates.{IsNode, IsGrownBy, IsGrown, width_in, width_of, CanMend, IsMended, OneShort, stubs_under, room_of, rooms, rooms_below}
 use Rattle.btree_twigs.specs.Removal.{IsTaken, IsHeldIn, IsHelped, HelpsOne, Helps, MendsAt, AreMended, IsTwigTaken, IsChildTaken, CanMendBeside}
 use Rattle.btree_twigs.proofs.ListLaws.{start_append, stubs_append, each_append, each_front, each_back, tiles_by, node_with}
 use Rattle.btree_twigs.proofs.Children.{tiles_child}
 use Rattle.btree_twigs.proofs.Nodes.{low_of_grown, stubs_of_grown, twig_of, children_of_roll}
-use Rattle.btree_twigs.proofs.Counts.{sum_append, nodes_grown}
+use Rattle.btree_twigs.proofs.Counts.{sum_append, nodes_grown, rooms_grown}
 use Rattle.btree_twigs.proofs.Takings.{takes_lift}
 
 -- a child in memory, by how many children it has
@@ -129,6 +129,7 @@ module _ (order l least low high block : ℕ) (fs : List Child) (c : Child) (bs 
             (ap (λ m. stubs_under (suc l) m fs ++ (stubs (suc l) (start_by low_of bs high) d ++ stubs_under (suc l) high bs)) (sym t.low_is) ∙ sym (stubs_append low_of (stubs (suc l)) high fs (d ∷ bs)))
             takes_node;
         few = omega (arith, sum_append (nodes (suc l)) fs (c ∷ bs), sum_append (nodes (suc l)) fs (d ∷ bs), t.few);
+        no_more_room = omega (arith, sum_append (rooms (suc l)) fs (c ∷ bs), sum_append (rooms (suc l)) fs (d ∷ bs), t.no_more_room);
       }
 
 -- it is mended with the one that follows
@@ -155,6 +156,7 @@ module _ (order l least low high block : ℕ) (four : 4 ≤ order) (fs : List Ch
             ∙ sym (stubs_append low_of (stubs (suc l)) high fs (news ++ bs)))
             (takes_node order l least low high block fs c (b ∷ bs) d h fewer t);
         few = omega (arith, sum_append (nodes (suc l)) fs (news ++ bs), sum_append (nodes (suc l)) news bs, sum_append (nodes (suc l)) fs (c ∷ b ∷ bs), m.none_more, t.few);
+        no_more_room = omega (arith, sum_append (rooms (suc l)) fs (news ++ bs), sum_append (rooms (suc l)) news bs, sum_append (rooms (suc l)) fs (c ∷ b ∷ bs), m.no_more_room, t.no_more_room);
       }
 
 -- or with the one before
@@ -176,6 +178,7 @@ module _ (order l least low high block : ℕ) (four : 4 ≤ order) (fs : List Ch
     node = other_node order (suc l) least order low high fs (g ∷ c ∷ []) news [] regrouped (omega arith) (omega (arith, some)) m.begins m.each (omega (arith, few)) (omega (arith, some));
     takes = subst (Takes low high block (stubs_under (suc l) high ((fs ++ g ∷ []) ++ c ∷ []))) news_are (takes_node order l least low high block (fs ++ g ∷ []) c [] d h fewer t);
     few = omega (arith, sum_append (nodes (suc l)) (fs ++ g ∷ []) (c ∷ []), sum_append (nodes (suc l)) fs (g ∷ []), sum_append (nodes (suc l)) fs (news ++ []), sum_append (nodes (suc l)) news [], m.none_more, t.few);
+    no_more_room = omega (arith, sum_append (rooms (suc l)) (fs ++ g ∷ []) (c ∷ []), sum_append (rooms (suc l)) fs (g ∷ []), sum_append (rooms (suc l)) fs (news ++ []), sum_append (rooms (suc l)) news [], m.no_more_room, t.no_more_room);
   }
     where
       news_are : stubs_under (suc l) (low_of c) (fs ++ g ∷ []) ++ (stubs (suc l) high d ++ []) ≡ stubs_under (suc l) high (fs ++ (news ++ []))
@@ -199,12 +202,13 @@ twig_taken order level least low high block loses lev t new is room p wide = rec
   takes = subst (λ xs. Takes low high block (stubs_below level high t) (stubs_under level high xs)) (sym (children_of_roll (record { level = lev; children = new }))) p.takes;
   wide = subst (λ xs. length (children_of t) ≤ length xs + loses) (sym (children_of_roll (record { level = lev; children = new }))) wide;
   few = subst (λ xs. sum_by (nodes level) xs ≤ nodes_below level t) (sym (children_of_roll (record { level = lev; children = new }))) p.few;
+  no_more_room = subst (λ xs. sum_by (rooms level) xs ≤ rooms_below level t) (sym (children_of_roll (record { level = lev; children = new }))) p.no_more_room;
 }
 
 -- a node without the place is a child without it
-pub child_taken : (order level low high block loses : ℕ) (old new : Twig) → IsTwigTaken order level (order / 2) low high block loses old new →
+pub child_taken : (order level low high block loses : ℕ) (old new : Twig) → IsTwigTaken order level (order / 2) low high block loses old new → room_of new ≡ room_of old →
     IsChildTaken order level high block loses (made.Grown low old) (made.Grown low new)
-child_taken order level low high block loses old new p = record {
+child_taken order level low high block loses old new p room = record {
   low_is = low_of_grown low new ∙ sym (low_of_grown low old);
   grown = subst (IsGrownBy order level (order / 2 - 1) high) (sym (made.outs-Grown low new)) p.shaped;
   takes = subst (λ m. Takes m high block (stubs (suc level) high (made.Grown low old)) (stubs (suc level) high (made.Grown low new))) (sym (low_of_grown low old))
@@ -212,6 +216,7 @@ child_taken order level low high block loses old new p = record {
       (subst (Takes low high block (stubs_below level high old)) (sym (stubs_of_grown level high low new)) p.takes));
   wide = omega (arith, width_of_grown low old, width_of_grown low new, p.wide);
   few = omega (arith, nodes_grown level low new, nodes_grown level low old, p.few);
+  no_more_room = omega (arith, rooms_grown level low new, rooms_grown level low old, p.no_more_room, room);
 }
 
 -- the last of a list

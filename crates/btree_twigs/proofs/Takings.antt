@@ -4,7 +4,7 @@ use Rattle.btree_twigs.specs.declared.twigs.Child.{Child}
 use Rattle.btree_twigs.specs.Stubs.{Stub, Tiles, Takes, start_by, low_of, stubs}
 use Rattle.btree_twigs.specs.Shape.{IsChild}
 use Rattle.btree_twigs.specs.Updates.{IsNode, stubs_under}
-use Rattle.btree_twigs.proofs.Counts.{no_nodes}
+use Rattle.btree_twigs.proofs.Counts.{no_nodes, no_rooms}
 use Rattle.btree_twigs.specs.Removal.{IsTaken}
 use Rattle.btree_twigs.proofs.ListLaws.{start_append, stubs_append, each_append, each_front, each_back, tiles_by, tiles_from, tiles_append}
 use Rattle.btree_twigs.proofs.Children.{tiles_child, one_datum}
@@ -42,6 +42,7 @@ module _ (order least low high block : ℕ) where
       after = tiles_from (start_by low_of cs high) (suc block) high _ (omega (arith, lt)) (tiles_by low_of (IsChild order 0) (stubs 0) (one_tiles order 0) high cs h.each);
     };
     few = omega arith;
+    no_more_room = omega arith;
   }
 
   pub nothing_behind : (fs : List Child) (c : Child) (bs : List Child) → IsNode order 0 least order low high (fs ++ c ∷ bs) → low_of c < block → block < start_by low_of bs high →
@@ -65,6 +66,7 @@ module _ (order least low high block : ℕ) where
           after = tiles_from (start_by low_of bs high) (suc block) high _ (omega (arith, lt)) (tiles_by low_of (IsChild order 0) (stubs 0) (one_tiles order 0) high bs back.2);
         };
         few = omega arith;
+        no_more_room = omega arith;
       }
 
   -- it is taken
@@ -93,6 +95,7 @@ module _ (order least low high block : ℕ) where
           after = tiles_from (start_by low_of bs high) (suc block) high _ (omega (arith, back.0, same)) (tiles_by low_of (IsChild order 0) (stubs 0) (one_tiles order 0) high bs back.2);
         };
         few = omega (arith, no_nodes (fs ++ bs));
+        no_more_room = omega (arith, no_rooms (fs ++ bs));
       }
     where
       later : (fs : List Child) → low ≤ start_by low_of fs (low_of c) → low_of c < start_by low_of bs high → low ≤ start_by low_of fs (start_by low_of bs high)

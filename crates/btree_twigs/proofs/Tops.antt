@@ -1,16 +1,19 @@
 -- The root node in memory.
-use Rattle.std.proofs.Common.{◌≡◌, ℕ, zero, suc, ◌+◌, ◌/◌, ◌<◌, ◌≤◌, List, [], ◌∷◌, ◌++◌, length, inl, inr, refl, sym, ap, subst, ◌∙◌, arith, append-nil}
+use Rattle.std.proofs.Common.{◌≡◌, ℕ, zero, suc, ◌+◌, ◌/◌, ◌<◌, ◌≤◌, List, [], ◌∷◌, ◌++◌, length, vec_capacity, inl, inr, refl, sym, ap, subst, ◌∙◌, arith, append-nil}
 use Rattle.btree_twigs.specs.declared.twigs.Child.{Child, Child-F, out-Child}
 use Rattle.btree_twigs.specs.declared.twigs.Child.TheOpen.{Kept, Grown}
 use Rattle.btree_twigs.specs.declared.twigs.Child.TheVariants as made
+use Rattle.std.specs.declared.vec.Vec.{Vec}
+use Rattle.std.specs.declared.alloc.Global.{Global}
 use Rattle.btree_twigs.specs.declared.twigs.Twig.{Twig}
 use Rattle.btree_twigs.specs.Stubs.{Stub, Puts, Takes, nodes, nodes_in, nodes_below, sum_by, start_by, low_in, low_of, children_of, stubs, stubs_in, stubs_below}
 use Rattle.btree_twigs.specs.Shape.{EachBy, IsChildBy, IsChild, IsTwig}
-use Rattle.btree_twigs.specs.Updates.{IsNode, IsOpen, IsSplit, IsTwigPut, stubs_under}
+use Rattle.btree_twigs.specs.Updates.{IsNode, IsOpen, IsSplit, IsTwigPut, stubs_under, room_of, room_in, rooms, rooms_in, rooms_below, list_rooms, TakesRoom}
 use Rattle.btree_twigs.specs.Top.{level_in, child_level, IsTop, IsTopBy, top_least, IsRaised, IsTopPut, IsTopTaken}
 use Rattle.btree_twigs.specs.Removal.{IsTwigTaken}
 use Rattle.btree_twigs.proofs.Ways.{open_front, open_back}
-use Rattle.btree_twigs.proofs.Counts.{nodes_grown}
+use Rattle.btree_twigs.proofs.Counts.{sum_append, nodes_grown, rooms_grown, split_rooms}
+use Rattle.btree_twigs.specs.Levels.{IsCut}
 use Rattle.btree_twigs.proofs.Nodes.{low_of_grown, stubs_of_grown, grown_is_child}
 
 -- the root has room for all its children
@@ -69,14 +72,41 @@ top_raised order level high stub old put left low part new four zero_is p few cu
       few = omega (arith, few, cut, nodes_grown level low old, nodes_grown level low left, nodes_when (suc level) new r.twig r.is, ap (sum_by (nodes (suc level))) r.children);
     }
 
+rooms_when : (level : ℕ) (new : Child) (twig : Twig) → out-Child new ≡ Grown 0 twig → rooms (suc level) new ≡ room_of twig + rooms_below level twig
+unfolding rooms
+rooms_when level new twig is = ap (rooms_in (rooms level)) is
+
+-- a new root has the room of a spare list
+pub raised_rooms : (order level : ℕ) (a part new : Child) (spares left : Vec (Vec Child Global) Global) → IsRaised order level a part new → TakesRoom spares left new →
+    rooms (suc (suc level)) new + list_rooms left.items ≡ rooms (suc level) a + (rooms (suc level) part + list_rooms spares.items)
+raised_rooms order level a part new spares left r t =
+    let w = rooms_when (suc level) new r.twig r.is in
+    let s = ap (sum_by (rooms (suc level))) r.children in
+    let room = ap room_in r.is in
+    let lists = ap list_rooms t.all ∙ sum_append (λ (v : Vec Child Global). vec_capacity v) left.items (t.last ∷ []) in
+    omega (arith, w, s, room, lists, t.has)
+
+-- a root that was cut in two, under a new one
+pub cut_rooms : (order level low : ℕ) (old put left : Twig) (part new : Child) (first second third fourth : Vec (Vec Child Global) Global) → room_of put ≡ room_of old → room_of left ≡ room_of put →
+    rooms_below level put + list_rooms second.items ≡ rooms_below level old + list_rooms first.items → IsCut order put left part → TakesRoom second third part →
+    IsRaised order level (made.Grown low left) part new → TakesRoom third fourth new → rooms (child_level new) new + list_rooms fourth.items ≡ rooms (suc level) (made.Grown low old) + list_rooms first.items
+cut_rooms order level low old put left part new first second third fourth same same' put_is cut part_is raised new_is =
+    let level_is : child_level new ≡ suc (suc level) = ap level_in raised.is ∙ raised.level_is in
+    let now = ap (λ l. rooms l new) level_is in
+    let a = rooms_grown level low old in
+    let b = rooms_grown level low left in
+    let p = split_rooms order level put left part second third cut part_is in
+    let q = raised_rooms order level (made.Grown low left) part new third fourth raised new_is in
+    omega (arith, now, a, b, p, q, put_is, same, same')
+
 top_enough : (level n : ℕ) → (1 ≤ level → 2 ≤ n) → top_least level ≤ n
 top_enough zero n h = omega arith
 top_enough (suc level) n h = h (omega arith)
 
 -- the root keeps children enough
-pub top_taken : (order level high block loses : ℕ) (old new : Twig) (low : ℕ) → low ≡ 0 → IsTwigTaken order level (top_least level) 0 high block loses old new → (1 ≤ level → 2 ≤ length (children_of new)) →
+pub top_taken : (order level high block loses : ℕ) (old new : Twig) (low : ℕ) → low ≡ 0 → IsTwigTaken order level (top_least level) 0 high block loses old new → (1 ≤ level → 2 ≤ length (children_of new)) → room_of new ≡ room_of old →
     IsTopTaken order level high block (made.Grown low old) (made.Grown low new)
-top_taken order level high block loses old new low zero_is p two = record {
+top_taken order level high block loses old new low zero_is p two room = record {
   new_level = level;
   level_is = inl refl;
   shaped = subst (IsTopBy order level high) (sym (made.outs-Grown low new)) (
@@ -90,6 +120,7 @@ top_taken order level high block loses old new low zero_is p two = record {
   takes = subst (λ xs. Takes 0 high block xs (stubs (suc level) high (made.Grown low new))) (sym (stubs_of_grown level high low old))
       (subst (Takes 0 high block (stubs_below level high old)) (sym (stubs_of_grown level high low new)) p.takes);
   few = omega (arith, nodes_grown level low new, nodes_grown level low old, p.few);
+  no_more_room = omega (arith, rooms_grown level low new, rooms_grown level low old, p.no_more_room, room);
 }
 
 least_half : (order level : ℕ) → 4 ≤ order → top_least level ≤ order / 2
@@ -153,4 +184,5 @@ top_gone order level high block loses old new low x four zero_is lt is_open p e 
       shaped = only.shaped;
       takes = subst (λ xs. Takes 0 high block xs (stubs (suc level) high x)) (sym (stubs_of_grown (suc level) high low old)) (subst (Takes 0 high block (stubs_below (suc level) high old)) only.same p.takes);
       few = omega (arith, nodes_grown (suc level) low old, p.few, ap (sum_by (nodes (suc level))) e);
+      no_more_room = omega (arith, rooms_grown (suc level) low old, p.no_more_room, ap (sum_by (rooms (suc level))) e);
     }

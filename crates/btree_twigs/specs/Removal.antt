@@ -6,13 +6,14 @@ use Rattle.btree_twigs.specs.declared.twigs.Twig.{Twig}
 use Rattle.btree_twigs.specs.Stubs.{Takes, start_by, low_of, children_of, stubs, stubs_below, nodes, nodes_below, sum_by}
 use Rattle.btree_twigs.specs.Shape.{IsChild, IsTwig}
 use Rattle.btree_twigs.specs.Levels.{IsEvenedBy}
-use Rattle.btree_twigs.specs.Updates.{IsNode, IsOpen, IsGrown, CanMend, IsMended, stubs_under, width_of}
+use Rattle.btree_twigs.specs.Updates.{IsNode, IsOpen, IsGrown, CanMend, IsMended, stubs_under, width_of, rooms, rooms_below}
 
 -- a leaf without the block's record: it may have one child fewer than it must
 pub record IsTaken (order level least low high block : ℕ) (old new : List Child) : Type 0 where
   pub node : IsNode order level (least - 1) order low high new
   pub takes : Takes low high block (stubs_under level high old) (stubs_under level high new)
   pub few : sum_by (nodes level) new ≤ sum_by (nodes level) old
+  pub no_more_room : sum_by (rooms level) new ≤ sum_by (rooms level) old
 
 -- a node is in memory
 abbrev pub IsHeldIn : {C T : Type 0} → Child-F C T → Type 0
@@ -96,6 +97,7 @@ pub record IsTwigTaken (order level least low high block loses : ℕ) (old new :
   pub takes : Takes low high block (stubs_below level high old) (stubs_below level high new)
   pub wide : length (children_of old) ≤ length (children_of new) + loses
   pub few : nodes_below level new ≤ nodes_below level old
+  pub no_more_room : rooms_below level new ≤ rooms_below level old
 
 -- the child is a node without the place, which may have one child fewer than it must
 pub record IsChildTaken (order level high block loses : ℕ) (old new : Child) : Type 0 where
@@ -104,6 +106,7 @@ pub record IsChildTaken (order level high block loses : ℕ) (old new : Child) :
   pub takes : Takes (low_of old) high block (stubs (suc level) high old) (stubs (suc level) high new)
   pub wide : width_of old ≤ width_of new + loses
   pub few : nodes (suc level) new ≤ nodes (suc level) old
+  pub no_more_room : rooms (suc level) new ≤ rooms (suc level) old
 
 -- a list in which the child at a place may be mended with its neighbour
 abbrev pub CanMendBeside : ℕ → List Child → ℕ → Type 0

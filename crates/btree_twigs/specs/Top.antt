@@ -7,7 +7,7 @@ use Rattle.btree_twigs.specs.declared.twigs.Child.TheOpen.{Kept, Grown}
 use Rattle.btree_twigs.specs.declared.twigs.Twig.{Twig, out-Twig}
 use Rattle.btree_twigs.specs.Stubs.{Stub, Puts, Takes, nodes, level_of, children_of, stubs}
 use Rattle.btree_twigs.specs.Shape.{IsTwig}
-use Rattle.btree_twigs.specs.Updates.{IsOpen, HasSpares}
+use Rattle.btree_twigs.specs.Updates.{IsOpen, HasSpares, rooms}
 use Rattle.btree_twigs.specs.Removal.{below_in, Helps}
 
 abbrev pub level_in : Child-F Child Twig → ℕ
@@ -83,6 +83,7 @@ pub record IsTopTaken (order level high block : ℕ) (old new : Child) : Type 0 
   pub shaped : IsTop order new_level high new
   pub takes : Takes 0 high block (stubs (suc level) high old) (stubs (suc new_level) high new)
   pub few : nodes (suc new_level) new ≤ nodes (suc level) old
+  pub no_more_room : rooms (suc new_level) new ≤ rooms (suc level) old
 
 -- a node in memory with one child
 abbrev pub HasOnlyBy : Child-F Child Twig → Type 0

@@ -1,5 +1,5 @@
 -- What an update makes of a node in memory.
-use Rattle.std.specs.Prelude.{◌≡◌, ℕ, suc, ◌+◌, ◌/◌, List, [], ◌∷◌, ◌++◌, ◌⊎◌, Option, None, Some, ◌≤◌, ◌<◌, length, vec_capacity}
+use Rattle.std.specs.Prelude.{◌≡◌, ℕ, zero, suc, ◌+◌, ◌/◌, List, [], ◌∷◌, ◌++◌, ◌⊎◌, Option, None, Some, ◌≤◌, ◌<◌, length, vec_capacity}
 use Rattle.std.specs.List.{AllByRecursion}
 use Rattle.std.specs.declared.vec.Vec.{Vec}
 use Rattle.std.specs.declared.alloc.Global.{Global}
@@ -110,6 +110,23 @@ room_in (Grown low twig) = room_of twig
 abbrev pub child_room : Child → ℕ
 child_room child = room_in (out-Child child)
 
+-- the rooms of the nodes in memory that a child is made of, all together
+abbrev pub rooms_in : (Child → ℕ) → Child-F Child Twig → ℕ
+rooms_in below (Kept low addr key) = 0
+rooms_in below (Grown low twig) = room_of twig + sum_by below (children_of twig)
+
+unfoldable pub rooms : ℕ → Child → ℕ
+rooms zero child = 0
+rooms (suc level) child = rooms_in (rooms level) (out-Child child)
+
+-- those of the nodes below a node, over children of this level
+abbrev pub rooms_below : ℕ → Twig → ℕ
+rooms_below level twig = sum_by (rooms level) (children_of twig)
+
+-- those of lists
+abbrev pub list_rooms : List (Vec Child Global) → ℕ
+list_rooms lists = sum_by (λ list. vec_capacity list) lists
+
 -- lists were taken from the end of others, and these have as much room for lists as before
 pub record TakesLists (old new : Vec (Vec Child Global) Global) : Type 0 where
   pub taken : List (Vec Child Global)
@@ -137,3 +154,4 @@ pub record IsMended (order level high : ℕ) (left right : Child) (news : List C
   pub each : EachBy low_of (IsChild order level) high news
   pub same : stubs_under level high news ≡ stubs level (low_of right) left ++ stubs level high right
   pub none_more : sum_by (nodes level) news ≤ nodes level left + nodes level right
+  pub no_more_room : sum_by (rooms level) news ≤ rooms level left + rooms level right

@@ -3,7 +3,7 @@ ghost use Rattle.btree_twigs.specs.Stubs.{Stub, Puts, datum, children_of, low_of
 ghost use Rattle.btree_twigs.specs.Search.{HasDatum};
 ghost use Rattle.btree_twigs.specs.Levels.{Node, IsMedium, TakesLow, IsCut, IsRowPut, IsRowPutBelow, rows_at, Reshape};
 ghost use Rattle.btree_twigs.specs.Shape.{IsTwig};
-ghost use Rattle.btree_twigs.specs.Updates.{IsNode, IsPut, stubs_under, HasSpares, IsSplit, IsTwigPut, IsChildPut, CanPut, CanPutBelow, room_of, child_room, TakesLists, TakesRoom};
+ghost use Rattle.btree_twigs.specs.Updates.{IsNode, IsPut, stubs_under, HasSpares, IsSplit, IsTwigPut, IsChildPut, CanPut, CanPutBelow, room_of, child_room, rooms, rooms_below, list_rooms, TakesLists, TakesRoom};
 ghost use Rattle.std.specs.Option.{option_to_list};
 ghost use Rattle.btree_twigs.specs.Top.{child_level, CanPutTop, IsTopPut, CanRaise, IsRaised};
 
@@ -88,6 +88,9 @@ pub fn put(
         → length (children_of twig.new) ≡ length (children_of twig.old) }
     ensures room { room_of twig.new ≡ room_of twig.old }
     ensures lists { TakesLists spares.old spares.new }
+    // No memory is taken: what has more room has that of a spare list.
+    ensures rooms { (at : CanPut order block spares.old.items twig.old)
+        → rooms_below at.level twig.new + list_rooms spares.new.items ≡ rooms_below at.level twig.old + list_rooms spares.old.items }
 {
     if twig.level == 1 {
         put_datum(&mut twig.children, block, addr, key);
@@ -124,6 +127,8 @@ fn put_below(
     ensures stays { (at : CanPutBelow order block spares.old.items child.old) → HasDatum block (stubs (suc at.level) at.high child.old) → result ≡ None }
     ensures room { child_room child.new ≡ child_room child.old }
     ensures lists { TakesLists spares.old spares.new }
+    ensures rooms { (at : CanPutBelow order block spares.old.items child.old)
+        → rooms (suc at.level) child.new + (sum_by (rooms (suc at.level)) (option_to_list result) + list_rooms spares.new.items) ≡ rooms (suc at.level) child.old + list_rooms spares.old.items }
 {
     match child {
         Child::Kept { .. } => unreachable!(),
@@ -158,6 +163,8 @@ pub fn put_top(
     ensures stays { (at : CanPutTop order block spares.old.items top.old) → HasDatum block (stubs (suc at.level) at.high top.old) → child_level top.new ≡ child_level top.old }
     ensures room { child_level top.new ≡ child_level top.old → child_room top.new ≡ child_room top.old }
     ensures lists { TakesLists spares.old spares.new }
+    ensures rooms { (at : CanPutTop order block spares.old.items top.old)
+        → rooms (child_level top.new) top.new + list_rooms spares.new.items ≡ rooms (suc at.level) top.old + list_rooms spares.old.items }
 {
     if let Child::Grown { twig, .. } = top {
         put(twig, order, block, addr, key, spares);

@@ -11,7 +11,8 @@ use Rattle.btree_twigs.proofs.Ways.{IsWay, way, fewer, child_is_twig, open_is_gr
 use Rattle.std.specs.Option.{option_to_list}
 use Rattle.std.specs.Vec.{with_item}
 use Rattle.btree_twigs.specs.Stubs.{nodes, sum_by}
-use Rattle.btree_twigs.proofs.Counts.{nodes_grown, leaf_nodes, one_nodes, two_nodes}
+use Rattle.btree_twigs.specs.Updates.{rooms, list_rooms}
+use Rattle.btree_twigs.proofs.Counts.{nodes_grown, leaf_nodes, one_nodes, two_nodes, rooms_grown, leaf_rooms, one_rooms, two_rooms, split_rooms}
 use Rattle.std.proofs.Common.{Option, None, Some}
 use Rattle.btree_twigs.specs.Stubs.{Stub}
 use Rattle.btree_twigs.specs.Levels.{IsRowPutBelow}
@@ -301,3 +302,51 @@ put_below-returns-clause-stays t c at has =
     let there = subst (λ x. HasDatum c.args.block (stubs (suc at.level) at.high x)) c.in-Grown.is has in
     let same = e.stays open_at (subst (HasDatum c.args.block) (stubs_of_grown at.level at.high c.in-Grown.low c.in-Grown.twig) there) in
     absurd (omega (arith, same, open_at.shaped.node.within))
+
+pub put-returns-then-twig-eq1-clause-rooms : goal.put-returns-then-twig-eq1-clause-rooms
+put-returns-then-twig-eq1-clause-rooms t c at =
+    ap (λ n. n + list_rooms c.args.spares.now.items) (leaf_rooms at.level (out-Twig c.args.twig.now).level c.args.twig.now c.put_datum.new.children at.shaped.level_is c.if-twig-eq1.true)
+
+pub put-returns-in-None-clause-rooms : goal.put-returns-in-None-clause-rooms
+put-returns-in-None-clause-rooms t c at =
+    let n = c.place-at.result in
+    let w = the_way c.args.order c.args.block n c.args.twig.now _ c.deref.result.now c.index_mut-child.result.now at c.deref.ensures.value c.if-twig-eq1.false
+    c.place-at.ensures.within c.place-at.ensures.before c.place-at.ensures.after c.index_mut-child.ensures.value in
+    let k = subst (λ l. rooms l c.put_below.new.child + (sum_by (rooms l) (option_to_list c.put_below.result) + list_rooms c.put_below.new.spares.items) ≡ rooms l c.index_mut-child.result.now + list_rooms c.args.spares.now.items) (sym w.level_is)
+    (c.put_below.ensures.rooms (below_way c.args.order c.args.block n c.args.twig.now _ c.index_mut-child.result.now at w)) in
+    one_rooms at.level (out-Twig c.args.twig.now).level n w.at _ _ c.args.twig.now c.index_mut-child.result.now c.put_below.new.child
+    (with_item (out-Twig c.args.twig.now).children (n - 1) c.put_below.new.child) w.at_is w.within w.here refl
+    (subst (λ o. rooms at.level c.put_below.new.child + (sum_by (rooms at.level) (option_to_list o) + list_rooms c.put_below.new.spares.items) ≡ rooms at.level c.index_mut-child.result.now + list_rooms c.args.spares.now.items) c.in-None.is k)
+
+pub put-returns-in-Some-clause-rooms : goal.put-returns-in-Some-clause-rooms
+put-returns-in-Some-clause-rooms t c at =
+    let n = c.place-at.result in
+    let w = the_way c.args.order c.args.block n c.args.twig.now _ c.deref.result.now c.index_mut-child.result.now at c.deref.ensures.value c.if-twig-eq1.false
+    c.place-at.ensures.within c.place-at.ensures.before c.place-at.ensures.after c.index_mut-child.ensures.value in
+    let k = subst (λ l. rooms l c.put_below.new.child + (sum_by (rooms l) (option_to_list c.put_below.result) + list_rooms c.put_below.new.spares.items) ≡ rooms l c.index_mut-child.result.now + list_rooms c.args.spares.now.items) (sym w.level_is)
+    (c.put_below.ensures.rooms (below_way c.args.order c.args.block n c.args.twig.now _ c.index_mut-child.result.now at w)) in
+    two_rooms at.level (out-Twig c.args.twig.now).level n w.at _ _ c.args.twig.now c.index_mut-child.result.now c.put_below.new.child c.insert.new.children w.at_is w.within w.here c.in-Some.part c.insert.ensures.items
+    (subst (λ o. rooms at.level c.put_below.new.child + (sum_by (rooms at.level) (option_to_list o) + list_rooms c.put_below.new.spares.items) ≡ rooms at.level c.index_mut-child.result.now + list_rooms c.args.spares.now.items) c.in-Some.is k)
+
+pub put_below-returns-then-len-order-clause-rooms : goal.put_below-returns-then-len-order-clause-rooms
+put_below-returns-then-len-order-clause-rooms t c at =
+    let grown = subst (CanPutBelow c.args.order c.args.block c.args.spares.now.items) c.in-Grown.is at in
+    let open_at = below_grown c.args.order c.args.block c.in-Grown.low _ c.in-Grown.twig grown in
+    let e = rw (c.in-Grown.is, made.outs-Grown c.in-Grown.low c.in-Grown.twig) at c.put.ensures in
+    let a = rooms_grown at.level c.in-Grown.low c.in-Grown.twig in
+    let m = e.rooms open_at in
+    let same = e.room in
+    let b = rooms_grown at.level c.in-Grown.low c.put.new.twig in
+    rw (c.in-Grown.is, made.outs-Grown c.in-Grown.low c.in-Grown.twig) (omega (arith, a, b, m, same))
+
+pub put_below-returns-clause-rooms : goal.put_below-returns-clause-rooms
+put_below-returns-clause-rooms t c at =
+    let grown = subst (CanPutBelow c.args.order c.args.block c.args.spares.now.items) c.in-Grown.is at in
+    let open_at = below_grown c.args.order c.args.block c.in-Grown.low _ c.in-Grown.twig grown in
+    let e = rw (c.in-Grown.is, made.outs-Grown c.in-Grown.low c.in-Grown.twig) at c.put.ensures in
+    let a = rooms_grown at.level c.in-Grown.low c.in-Grown.twig in
+    let m = e.rooms open_at in
+    let same = e.room in
+    let b = rooms_grown at.level c.in-Grown.low c.split.new.twig in
+    let p = split_rooms c.args.order at.level c.put.new.twig c.split.new.twig c.split.result c.put.new.spares c.split.new.spares c.split.ensures.cut c.split.ensures.part in
+    rw (c.in-Grown.is, made.outs-Grown c.in-Grown.low c.in-Grown.twig) (omega (arith, a, b, m, same, p, c.split.ensures.room))

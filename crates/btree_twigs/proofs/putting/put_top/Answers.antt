@@ -10,7 +10,9 @@ use Rattle.btree_twigs.specs.Updates.{IsOpen, CanPut, HasSpares, IsTwigPut}
 use Rattle.btree_twigs.specs.Top.{child_level, CanRaise, IsRaised, IsTopBy, top_least, level_in, CanPutTop}
 use Rattle.btree_twigs.proofs.Ways.{fewer}
 use Rattle.btree_twigs.proofs.Nodes.{stubs_of_grown}
-use Rattle.btree_twigs.proofs.Tops.{top_kept, top_raised}
+use Rattle.btree_twigs.proofs.Tops.{top_kept, top_raised, cut_rooms}
+use Rattle.btree_twigs.specs.Updates.{rooms}
+use Rattle.btree_twigs.proofs.Counts.{rooms_grown}
 use Rattle.btree_twigs.proofs.LevelLaws.{kept_rows, raised_rows}
 use Rattle.btree_twigs.specs.Search.{HasDatum}
 use Rattle.btree_twigs.proofs.putting.put_top.Goals as goal
@@ -200,3 +202,30 @@ returns-then-len-order-clause-room c same =
     let s = c.split-part.ensures.split at.level 0 at.high full in
     let raised = r (record { level = at.level; level_is = ap level_in (made.outs-Grown c.in-Grown.low c.split-part.new.twig) ∙ s.left.level_is; small = at.small; order = c.args.order; four = c.requires.four; spare = left }) c.args.order left in
     absurd (one_up c.args.order at.level c.args.top.now _ _ c.raise.new.top was raised same)
+
+pub returns-else-len-order-clause-rooms : goal.returns-else-len-order-clause-rooms
+returns-else-len-order-clause-rooms c at =
+    let e = rw (c.in-Grown.is, made.outs-Grown c.in-Grown.low c.in-Grown.twig) at c.put.ensures in
+    let grown = subst (CanPutTop c.args.order c.args.block c.args.spares.now.items) c.in-Grown.is at in
+    let open_at = open_top c.args.order c.args.block c.in-Grown.low _ c.in-Grown.twig grown in
+    let p = e.put open_at in
+    let level : child_level (made.Grown c.in-Grown.low c.put.new.twig) ≡ suc at.level = ap level_in (made.outs-Grown c.in-Grown.low c.put.new.twig) ∙ p.shaped.level_is in
+    let now = ap (λ l. rooms l (made.Grown c.in-Grown.low c.put.new.twig)) level in
+    let a = rooms_grown at.level c.in-Grown.low c.in-Grown.twig in
+    let b = rooms_grown at.level c.in-Grown.low c.put.new.twig in
+    let m = e.rooms open_at in
+    let same = e.room in
+    rw (c.in-Grown.is, made.outs-Grown c.in-Grown.low c.in-Grown.twig) (omega (arith, now, a, b, m, same))
+
+pub returns-then-len-order-clause-rooms : goal.returns-then-len-order-clause-rooms
+returns-then-len-order-clause-rooms c at =
+    let e = rw (c.in-Grown.is, made.outs-Grown c.in-Grown.low c.in-Grown.twig) at c.put.ensures in
+    let grown = subst (CanPutTop c.args.order c.args.block c.args.spares.now.items) c.in-Grown.is at in
+    let open_at = open_top c.args.order c.args.block c.in-Grown.low _ c.in-Grown.twig grown in
+    let p = e.put open_at in
+    let s = c.split-part.ensures.split at.level 0 at.high (too_long c.args.order at.level at.high _ c.in-Grown.twig c.put.new.twig c.requires.four p (omega arith)) in
+    let left = c.split-part.ensures.spares 1 (e.spares open_at 2 (fewer c.args.order (2 + at.level) (at.level + 2) _ (omega arith) at.enough)) in
+    let r = rw (c.in-Grown.is, made.outs-Grown c.in-Grown.low c.in-Grown.twig) at c.raise.ensures in
+    let raised = r.raised (can_raise c.args.order at.level c.in-Grown.low c.split-part.new.twig _ _ s.left.level_is at.small c.requires.four left) c.args.order left in
+    rw c.in-Grown.is (cut_rooms c.args.order at.level c.in-Grown.low c.in-Grown.twig c.put.new.twig c.split-part.new.twig c.split-part.result c.raise.new.top c.args.spares.now c.put.new.spares c.split-part.new.spares c.raise.new.spares
+    e.room c.split-part.ensures.room (e.rooms open_at) c.split-part.ensures.cut c.split-part.ensures.part raised r.room)

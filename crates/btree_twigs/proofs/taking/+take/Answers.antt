@@ -179,7 +179,7 @@ take_below-returns-clause-taken t c at =
     let grown = subst (CanTakeBelow c.args.order c.args.block) c.in-Grown.is at in
     let e = rw (c.in-Grown.is, made.outs-Grown c.in-Grown.low c.in-Grown.twig) at c.take.ensures in
     let q = child_taken c.args.order at.level c.in-Grown.low at.high c.args.block grown.loses c.in-Grown.twig c.take.new.twig
-    (e.taken (below_grown c.args.order c.args.block c.in-Grown.low c.in-Grown.twig c.requires.four grown)) in
+    (e.taken (below_grown c.args.order c.args.block c.in-Grown.low c.in-Grown.twig c.requires.four grown)) e.room in
     rw (c.in-Grown.is, made.outs-Grown c.in-Grown.low c.in-Grown.twig) q
 
 pub take-returns-then-twig-eq1-clause-levels : goal.take-returns-then-twig-eq1-clause-levels

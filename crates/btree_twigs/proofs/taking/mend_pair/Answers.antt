@@ -18,7 +18,7 @@ returns-then-not-even_twigs-clause-mended c at =
     let ta' = subst (λ m. IsTwig c.args.order at.level 0 c.args.order c.in-Grown-left.low m c.in-Grown-left.left) (ap low_in right_out) ta in
     let tb = subst (IsGrownBy c.args.order at.level 0 at.high) right_out at.on_right in
     let e = rw (c.in-Grown-left.is, made.outs-Grown c.in-Grown-left.low c.in-Grown-left.left) at c.even_twigs.ensures in
-    let m = merged c.args.order at.level c.in-Grown-left.low c.in-Grown.low at.high c.in-Grown-left.left c.in-Grown.right c.requires.four ta' tb c.even_twigs.new.left (e.levels.0 ∙ ta.level_is) (omega (arith, e.room.0, ta.room)) c.if-not-even_twigs.ensures.one.1 c.if-not-even_twigs.ensures.one.2
+    let m = merged c.args.order at.level c.in-Grown-left.low c.in-Grown.low at.high c.in-Grown-left.left c.in-Grown.right c.requires.four ta' tb c.even_twigs.new.left (e.levels.0 ∙ ta.level_is) (omega (arith, e.room.0, ta.room)) e.room.0 c.if-not-even_twigs.ensures.one.1 c.if-not-even_twigs.ensures.one.2
     (sym (ap (λ xs. children_of c.even_twigs.new.left ++ xs) (nil_from_length (children_of c.even_twigs.new.right) c.if-not-even_twigs.ensures.one.0) ∙ append-nil (children_of c.even_twigs.new.left)) ∙ e.all) in
     rw (c.in-Grown-left.is, made.outs-Grown c.in-Grown-left.low c.in-Grown-left.left, c.in-Grown.is) m
 
@@ -33,7 +33,7 @@ returns-clause-mended c at =
     let two = c.if-not-even_twigs.ensures.two in
     let m = recut c.args.order at.level c.in-Grown-left.low c.in-Grown.low at.high c.in-Grown-left.left c.in-Grown.right c.requires.four ta' tb
     c.even_twigs.new.left c.even_twigs.new.right c.index.result.now c.low_of.result (e.levels.0 ∙ ta.level_is) (e.levels.1 ∙ tb.level_is)
-    (omega (arith, e.room.0, ta.room)) (omega (arith, e.room.1, tb.room)) two.0 two.1 two.2 two.3 e.all c.index.ensures c.low_of.ensures in
+    (omega (arith, e.room.0, ta.room)) (omega (arith, e.room.1, tb.room)) e.room.0 e.room.1 two.0 two.1 two.2 two.3 e.all c.index.ensures c.low_of.ensures in
     rw (c.in-Grown-left.is, made.outs-Grown c.in-Grown-left.low c.in-Grown-left.left, c.in-Grown.is) m
 
 pub returns-then-not-even_twigs-clause-evened : goal.returns-then-not-even_twigs-clause-evened

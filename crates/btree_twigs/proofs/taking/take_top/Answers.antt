@@ -72,7 +72,7 @@ returns-then-twig-eq1-clause-taken c at =
     let e = rw (c.in-Grown.is, made.outs-Grown c.in-Grown.low c.in-Grown.twig) at c.take.ensures.taken in
     let t = taken_of c.args.order c.args.block c.in-Grown.low c.args.top.now c.in-Grown.twig c.take.new.twig c.in-Grown.is at e in
     rw (c.in-Grown.is, made.outs-Grown c.in-Grown.low c.in-Grown.twig)
-    (top_taken c.args.order at.level at.high c.args.block at.loses c.in-Grown.twig c.take.new.twig c.in-Grown.low t.0 t.1 (λ one. absurd (omega (arith, one, t.1.shaped.level_is, c.if-twig-eq1.true))))
+    (top_taken c.args.order at.level at.high c.args.block at.loses c.in-Grown.twig c.take.new.twig c.in-Grown.low t.0 t.1 (λ one. absurd (omega (arith, one, t.1.shaped.level_is, c.if-twig-eq1.true))) (rw (c.in-Grown.is, made.outs-Grown c.in-Grown.low c.in-Grown.twig) at c.take.ensures.room))
 
 pub returns-then-is_single-clause-taken : goal.returns-then-is_single-clause-taken
 returns-then-is_single-clause-taken c at =
@@ -88,7 +88,7 @@ returns-else-is_single-clause-taken c at =
     let e = rw (c.in-Grown.is, made.outs-Grown c.in-Grown.low c.in-Grown.twig) at c.take.ensures.taken in
     let t = taken_of c.args.order c.args.block c.in-Grown.low c.args.top.now c.in-Grown.twig c.take.new.twig c.in-Grown.is at e in
     rw (c.in-Grown.is, made.outs-Grown c.in-Grown.low c.in-Grown.twig)
-    (top_taken c.args.order at.level at.high c.args.block at.loses c.in-Grown.twig c.take.new.twig c.in-Grown.low t.0 t.1 (λ one. omega (arith, c.len-is_single.ensures, c.if-is_single.false)))
+    (top_taken c.args.order at.level at.high c.args.block at.loses c.in-Grown.twig c.take.new.twig c.in-Grown.low t.0 t.1 (λ one. omega (arith, c.len-is_single.ensures, c.if-is_single.false)) (rw (c.in-Grown.is, made.outs-Grown c.in-Grown.low c.in-Grown.twig) at c.take.ensures.room))
 
 -- an only child stands one level down
 only_level : (order level high block loses : ℕ) (old new : Twig) (x : Child) → 4 ≤ order → block < high → IsOpen block (stubs_below level high old) → IsTwigTaken order level (top_least level) 0 high block loses old new → 1 ≤ level →
