@@ -27,6 +27,7 @@ looked_pages P platform began now reads looks = record {
   head = looks.head ∙ reads.head;
   image = λ told. looks.image told ∙ reads.image told;
   still = λ told. look_more (P.history platform) (P.history began) (P.history now) (one_look (P.history platform) (P.history began) (reads.time told) (reads.image told)) (looks.time told) (looks.image told);
+  changes = λ told. looks.changes told ∙ reads.changes told;
 }
 
 pub surveyed : {S : Type 0} (P : PlatformGhosts S) (pages : P.tells → (p : S) → length (P.history p).present.recorded ≡ P.head p) (platform began looked : S) (root : Root) (prepared : Prepared)

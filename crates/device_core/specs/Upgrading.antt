@@ -17,6 +17,7 @@ use Rattle.page_store.specs.Roots.{IsRootWithin, IsBadCell}
 use Rattle.page_store.specs.Stands.{Stands, StandsBy}
 use Rattle.page_store.specs.Tree.{Parts}
 use Rattle.cert_maker.specs.Cert.{Cert}
+use Rattle.device_terms.specs.Effects.{ChangesBehind}
 use Rattle.device_terms.specs.Certifying.{AddsSynced, IsOfTrees, PutsEntry}
 use Rattle.btree_walk.specs.Nodes.{Node, NodesOf, FirstWrongOf, CutShort, listed}
 use Rattle.tree_build.specs.Building.{DrewFew}
@@ -90,20 +91,23 @@ pub record StopsCopying (pages : List (List ℕ)) (root : Root) (addr : ℕ) : T
 abbrev pub IsDamaged : List (List ℕ) → Root → ℕ → Type 0
 IsDamaged pages root addr = StopsListing pages root addr ⊎ StopsCopying pages root addr
 
--- what was added so far is a part of what is needed, and at each moment the cell is as it was
-pub record IsPartly {S : Type 0} (P : PlatformGhosts S) (platform platform_now : S) (root : Root) : Type 0 where
+-- what was added so far is a part of what is needed, and at each moment the cell is as it was; so often, at most, all was synced
+pub record IsPartly {S : Type 0} (P : PlatformGhosts S) (syncs : ℕ) (platform platform_now : S) (root : Root) : Type 0 where
   pub begins : Begins P.tells (P.history platform).present (P.head platform) (P.capacity platform) root
   pub most : P.head platform_now ≤ P.head platform + needed_of_root root
   pub still : P.tells → CellStays (P.history platform) (P.history platform_now)
+  pub changes : P.tells → MayRiseBy syncs (P.changes platform) (P.changes platform_now)
 
 -- an upgrade of the root record in the cell drew no more keys than it adds pages, and looked at the cell once, and read each node of the tree before it twice and
--- each data record once, and synced once and replaced the root record once, at most
+-- each data record once, and synced once and replaced the root record once, at most, and neither before it
+-- had added all pages that it needs
 pub record SpendsOn {S R : Type 0} (P : PlatformGhosts S) (T : TapeGhosts R) (platform platform_now : S) (tape tape_now : R) : Type 0 where
   pub root : Root
   pub begins : Begins P.tells (P.history platform).present (P.head platform) (P.capacity platform) root
   pub draws : DrewFew (needed_of_root root) (T.drawn tape) (T.drawn tape_now)
   pub reads : P.tells → (nodes : List Node) × NodesOf (P.history platform).present.readable root nodes × (P.reads platform_now ≤ P.reads platform + (1 + 2 * length nodes + root.mapped))
   pub changes : P.tells → MayRiseBy 2 (P.changes platform) (P.changes platform_now)
+  pub behind : ChangesBehind P (needed_of_root root) platform platform_now
 
 -- of the tree of a root record nothing was read; or a walk over its nodes was cut short, and read none twice; or each node was read, and, only where they list as many entries as the
 -- root record says, each once more at most, or by a second walk that was cut short
@@ -150,9 +154,9 @@ IsUpgradeCause P T platform platform_now tape tape_now before now (Err (upgrade.
 IsUpgradeCause P T platform platform_now tape tape_now before now (Err upgrade.Memory) =
     ((root : Root) × Begins P.tells (P.history platform).present (P.head platform) (P.capacity platform) root) × IsUnmade P T platform platform_now tape tape_now × (now ≡ before)
 IsUpgradeCause P T platform platform_now tape tape_now before now (Err (upgrade.BadRecord addr)) =
-    ((root : Root) × IsPartly P platform platform_now root × (P.tells → IsDamaged (P.history platform).present.readable root addr)) × (now ≡ before)
-IsUpgradeCause P T platform platform_now tape tape_now before now (Err upgrade.TapeFault) = TapeRose before now × (root : Root) × IsPartly P platform platform_now root
-IsUpgradeCause P T platform platform_now tape tape_now before now (Err upgrade.LedgerFault) = LedgerRose before now × (root : Root) × IsPartly P platform platform_now root
+    ((root : Root) × IsPartly P 0 platform platform_now root × (P.tells → IsDamaged (P.history platform).present.readable root addr)) × (now ≡ before)
+IsUpgradeCause P T platform platform_now tape tape_now before now (Err upgrade.TapeFault) = TapeRose before now × (root : Root) × IsPartly P 0 platform platform_now root
+IsUpgradeCause P T platform platform_now tape tape_now before now (Err upgrade.LedgerFault) = LedgerRose before now × (root : Root) × IsPartly P 1 platform platform_now root
 IsUpgradeCause P T platform platform_now tape tape_now before now (Err upgrade.PlatformFault) =
     PlatformRose before now
     × (((P.head platform_now ≡ P.head platform) × (P.tells → CellStays (P.history platform) (P.history platform_now))) ⊎ ((root : Root) × Begins P.tells (P.history platform).present (P.head platform) (P.capacity platform) root × (P.head platform_now ≤ P.head platform + needed_of_root root)))

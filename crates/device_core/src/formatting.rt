@@ -10,10 +10,10 @@ ghost use Rattle.page_store.specs.Stands.{Stands, IsSound};
 ghost use Rattle.root_codec.specs.declared.root.Root.{Root};
 ghost use Rattle.root_codec.specs.RootRecord.{root_bytes};
 ghost use Rattle.device_terms.specs.Served.{IsServedImage};
-ghost use Rattle.device_terms.specs.Effects.{Discloses, NamesLast};
+ghost use Rattle.device_terms.specs.Effects.{ChangesBehind, Discloses, NamesLast};
 ghost use Rattle.device_terms.specs.Certifying.{Certifies, PutsSynced};
 ghost use Rattle.device_core.specs.Certifying.{IsOfFormat};
-ghost use Rattle.device_core.specs.Publishing.{IsFormatCause};
+ghost use Rattle.device_core.specs.Publishing.{IsFormatCause, most_format};
 
 use crate::certifying::first_entry;
 use crate::publishing::{PublishFault, publish};
@@ -49,8 +49,8 @@ pub fn format<P: Platform, T: Tape, L: Sink>(
         × ((root : Root) × ((P.history platform.new).present.cell ≡ Some (root_bytes root))
         × NamesLast (T.drawn tape.old) (T.drawn tape.new) (P.head platform.new) root)) }
     // The cell is looked at once at most, no page is read, and no key drawn but that of the leaf; all is synced and the cell replaced
-    // once at most.
-    ensures spends { (P.tells → MayLookAndChange P.Platform 2 platform.old platform.new)
+    // once at most, and neither where it is refused before.
+    ensures spends { (P.tells → MayLookAndChange P.Platform (most_format result) platform.old platform.new)
         × OnOk result ((key : List ℕ) × DrewAll (T.drawn tape.old) (key ∷ []) (T.drawn tape.new)) }
     ensures cause { IsFormatCause P.Platform T.Tape platform.old platform.new tape.old tape.new
         (counts (P.faults platform.old) (T.faults tape.old) 0 0 (L.faults ledger.old))
@@ -71,7 +71,7 @@ pub fn format<P: Platform, T: Tape, L: Sink>(
     // The leaf's page was added, and all pages outlast a loss of power, before the ledger gets the entry.
     ensures synced { PutsSynced P.Platform 1 platform.old platform.new ledger.old ledger.new }
     ensures grows { Grows P.Platform platform.old platform.new × (T.faults tape.old ≤ T.faults tape.new)
-        × (L.faults ledger.old ≤ L.faults ledger.new) }
+        × (L.faults ledger.old ≤ L.faults ledger.new) × ChangesBehind P.Platform 1 platform.old platform.new }
 {
     let mut cell = [0; ROOT];
     let Ok(is_full) = platform.load_root(&mut cell) else {

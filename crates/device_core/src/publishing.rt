@@ -8,7 +8,7 @@ ghost use Rattle.platform.specs.History.{Turns, CellStays};
 ghost use Rattle.page_store.specs.Reading.{ReadsNothing};
 ghost use Rattle.root_codec.specs.RootRecord.{FitsRoot, root_bytes};
 ghost use Rattle.device_terms.specs.Certifying.{PutsSynced};
-ghost use Rattle.device_core.specs.Publishing.{IsPublishCause};
+ghost use Rattle.device_core.specs.Publishing.{IsPublishCause, most_publish};
 
 use platform::Platform;
 use root_codec::{Root, encode_root};
@@ -48,7 +48,7 @@ pub(crate) fn publish<P: Platform, L: Sink>(
     ensures head { P.head platform.new ≡ P.head platform.old }
     ensures capacity { P.capacity platform.new ≡ P.capacity platform.old }
     ensures reads { P.tells → ReadsNothing P.Platform platform.old platform.new
-        × MayRiseBy 2 (P.changes platform.old) (P.changes platform.new) }
+        × MayRiseBy (most_publish result) (P.changes platform.old) (P.changes platform.new) }
     ensures faults { P.faults platform.old ≤ P.faults platform.new }
     ensures ledger_faults { L.faults ledger.old ≤ L.faults ledger.new }
     ensures cause { IsPublishCause (P.tells → CellStays (P.history platform.old) (P.history platform.new))

@@ -20,7 +20,7 @@ use Rattle.device_core.specs.declared.publishing.PublishFault.TheVariants as pub
 use Rattle.device_core.specs.UpgradeCalls.{IsUpgrading, IsUpgradeEntry}
 use Rattle.device_core.proofs.CopyingLaws.{never_ok}
 use Rattle.device_core.proofs.UpgradeLaws.{KeepsSound, AreListed, looks_keep, still_discloses, upgrade_made, upgrade_time, upgrade_discloses, upgrade_certifies}
-use Rattle.device_core.proofs.UpgradeCauseLaws.{Looked, looked_cell, begin_refused, survey_refused, rewrite_refused, publish_refused}
+use Rattle.device_core.proofs.UpgradeCauseLaws.{Looked, looked_cell, begin_refused, survey_refused, rewrite_refused, publish_refused, behind_unsynced, two_at_most}
 use Rattle.device_core.proofs.UpgradingLaws.{looked_pages, surveyed, upgrading, rewrite_keeps}
 use Rattle.device_core.proofs.upgrading.upgrade.Given.{Over}
 use Rattle.device_core.proofs.upgrading.upgrade.Goals.{After-begin, After-prepare, After-rewrite, After-publish}
@@ -105,7 +105,7 @@ returns-in_err-next-clause-cause g c =
     (surveyed g.P.Platform g.met.P.Platform.counts_pages c.args.platform.now c.begin.new.platform c.prepare.new.platform c.in_ok-root.root c.in_ok-prepared.prepared c.in_ok-root.ensures.cause.0
     c.begin.ensures.reads_cell c.prepare.ensures.looks c.in_ok-prepared.ensures.prepared).listed_are
     c.in_ok-prepared.ensures.prepared.of.listing.0
-    (c.in_ok-prepared.ensures.cause ∙ c.in_ok-root.ensures.cause.1) looked (omega (arith, looked.head, c.rewrite.ensures.beside.at_most)) (still g at) c.in_err-next.ensures.cause)
+    (c.in_ok-prepared.ensures.cause ∙ c.in_ok-root.ensures.cause.1) looked (omega (arith, looked.head, c.rewrite.ensures.beside.at_most)) (still g at) (λ told. c.rewrite.ensures.beside.changes told ∙ c.prepare.ensures.looks.changes told ∙ c.begin.ensures.reads_cell.changes told) c.in_err-next.ensures.cause)
 
 -- ---- where the new tree was made
 
@@ -208,6 +208,7 @@ returns-in_err-publish-clause-cause g c =
     rw (p.1, p.2) (publish_refused g.P.Platform g.T.Tape c.args.platform.now c.rewrite.new.platform c.publish.new.platform c.args.tape.now c.rewrite.new.tape (g.L.Sink.faults c.args.ledger.now) (g.L.Sink.faults c.publish.new.ledger)
     c.in_ok-root.root c.in_err-publish.field-0.0 c.in_ok-root.ensures.cause.0
     (c.in_ok-next.ensures.cause.0 ∙ c.in_ok-prepared.ensures.cause ∙ c.in_ok-root.ensures.cause.1) c.in_ok-next.ensures.cause.1 (omega (arith, (rewrites g at).head_is, c.publish.ensures.head))
+    (λ told. behind_unsynced _ _ _ _ (c.rewrite.ensures.beside.changes told ∙ c.prepare.ensures.looks.changes told ∙ c.begin.ensures.reads_cell.changes told) (c.in_err-publish.ensures.reads told).1)
     (still_cause _ _ _ _ c.in_err-publish.field-0.0
     (λ stays told. stays_then (history c.args.platform.now) (history c.rewrite.new.platform) (history c.publish.new.platform) (unmoved g at told) (stays told))
     c.in_err-publish.ensures.cause))
@@ -275,6 +276,7 @@ spent g c = record {
   changes = λ told.
       let none = c.rewrite.ensures.beside.changes told ∙ c.prepare.ensures.looks.changes told ∙ c.begin.ensures.reads_cell.changes told in
       record { rises = omega (arith, none); at_most = omega (arith, none) };
+  behind = λ told. inl (c.rewrite.ensures.beside.changes told ∙ c.prepare.ensures.looks.changes told ∙ c.begin.ensures.reads_cell.changes told);
 }
 
 pub returns-in_err-next-clause-spends : goal.returns-in_err-next-clause-spends
@@ -294,8 +296,8 @@ spent_all g c = record {
       (twice.nodes, are, omega (arith, c.in_ok-root.ensures.once told, twice.read, c.rewrite.ensures.beside.reads_most told, (c.publish.ensures.reads told).0.0));
   changes = λ told.
       let none = c.rewrite.ensures.beside.changes told ∙ c.prepare.ensures.looks.changes told ∙ c.begin.ensures.reads_cell.changes told in
-      let published = (c.publish.ensures.reads told).1 in
-      record { rises = omega (arith, none, published.rises); at_most = omega (arith, none, published.at_most) };
+      behind_unsynced 2 _ _ _ none (two_at_most c.publish.result _ _ (c.publish.ensures.reads told).1);
+  behind = λ told. inr (omega (arith, (rewrites g c).head_is, c.publish.ensures.head));
 }
 
 pub returns-in_err-publish-clause-spends : goal.returns-in_err-publish-clause-spends
