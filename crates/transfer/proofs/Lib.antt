@@ -19,3 +19,4 @@ pub mod TreeLaws
 pub mod WholeLaws
 pub mod ReadsLaws
 pub mod DifferLaws
+pub mod ChangesLaws

@@ -53,11 +53,11 @@ looked_found {X = X} P platform mid session mount result is pages looks finds be
     served told = served_at P platform mid session mount is pages looks finds told
 
 -- and what it says is mapped is what the root record in the cell does
-pub mapped_found : {S : Type 0} (P : PlatformGhosts S) (platform mid : S) (session : Session) (mount : Result (Option Session) DeviceStop) (result : Result Moved Halt) → mount ≡ Ok (Some session) → IfOk mount (IsFound P 256 platform mid) → IfOk result (λ moved. moved.blocks ≡ session.mapped)
-    → IfOk result (λ moved. P.tells → HasMapped (P.history platform).present moved.blocks)
-mapped_found P platform mid session mount result is finds same =
+pub told_found : {S : Type 0} (P : PlatformGhosts S) (platform mid : S) (session : Session) (mount : Result (Option Session) DeviceStop) (result : Result Moved Halt) (Number : Moved → Type 0) → mount ≡ Ok (Some session) → IfOk mount (IsFound P 256 platform mid)
+    → IfOk result (λ moved. (moved.blocks ≡ session.mapped) × Number moved) → IfOk result (λ moved. (P.tells → HasMapped (P.history platform).present moved.blocks) × Number moved)
+told_found P platform mid session mount result Number is finds same =
     let found : IsFound P 256 platform mid (Some session) = found_at P platform mid session mount is finds in
-    IfOk-weaker result (λ moved. moved.blocks ≡ session.mapped) (λ moved. P.tells → HasMapped (P.history platform).present moved.blocks) (λ moved blocks told. (session.root, found.0.found told, blocks ∙ found.0.mapped)) same
+    IfOk-weaker result (λ moved. (moved.blocks ≡ session.mapped) × Number moved) (λ moved. (P.tells → HasMapped (P.history platform).present moved.blocks) × Number moved) (λ moved both. (λ told. (session.root, found.0.found told, both.0 ∙ found.0.mapped), both.1)) same
 
 -- that found none
 pub looked_none : {S X : Type 0} (P : PlatformGhosts S) (platform mid : S) (mount : Result (Option Session) DeviceStop) → mount ≡ Ok None → IfOk mount (IsFound P 256 platform mid) → Looked {X = X} P.tells (P.history platform).present (Err halts.NoDevice)

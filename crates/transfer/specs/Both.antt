@@ -1,5 +1,6 @@
 -- What a part of a move that has a session on either side begins with, and leaves of both.
-use Rattle.std.specs.Prelude.{◌≡◌, ◌<◌, ◌≤◌, ◌+◌, ℕ, All, IfErr, IsOk, List, None, Result}
+use Rattle.std.specs.Prelude.{◌≡◌, ◌<◌, ◌≤◌, ◌+◌, ℕ, All, IfErr, IfOk, IsOk, List, None, Result}
+use Rattle.platform.specs.Counts.{MayRiseBy}
 use Rattle.sdbt_base.specs.declared.sinks.Sink.{Ghosts as SinkGhosts}
 use Rattle.sdbt_base.specs.declared.tapes.Tape.{Ghosts as TapeGhosts}
 use Rattle.platform.specs.declared.platforms.Platform.{Ghosts as PlatformGhosts}
@@ -11,7 +12,7 @@ use Rattle.session_calls.specs.Carrying.{Carries, IsReady}
 use Rattle.transfer.specs.Counts.{counts}
 use Rattle.transfer.specs.Halts.{Blames}
 use Rattle.transfer.specs.Refusals.{IsOfReads}
-use Rattle.transfer.specs.Running.{IsBehindBoth, MeetsWrong}
+use Rattle.transfer.specs.Running.{HasNumber, IsBehindBoth, MeetsWrong}
 use Rattle.transfer.specs.declared.halts.Halt.{Halt}
 
 -- both sessions are ready, over as many blocks, and each of these is one of them
@@ -35,14 +36,17 @@ pub record ReadsBoth {S R X : Type 0} (P : PlatformGhosts S) (Q : PlatformGhosts
   pub trees : (source_now.grove ≡ source.grove) × (target_now.grove ≡ target.grove)
 
 -- the first device is only read, and the second one is filled: its session ends. So often is either read at most as is said of the two counts, and a halt names a record of the second one
--- where it was written only where that is said
-pub record FillsBoth {S R W V : Type 0} (P : PlatformGhosts S) (Q : PlatformGhosts R) (T : TapeGhosts W) (L : SinkGhosts V) (Reads : ℕ → ℕ → Type 0) (Compared Written : Type 0) (first first_now : S) (second second_now : R) (tape tape_now : W) (ledger ledger_now : V) (source source_now target : Session) (result : Result ℕ Halt) : Type 0 where
+-- where it was written only where that is said. There all pages are synced once, and the root record replaced, at most, and nothing of that where it is said so; and what is answered is the number of the root record there
+pub record FillsBoth {S R W V : Type 0} (P : PlatformGhosts S) (Q : PlatformGhosts R) (T : TapeGhosts W) (L : SinkGhosts V) (Reads : ℕ → ℕ → Type 0) (Compared Written Unchanged : Type 0) (first first_now : S) (second second_now : R) (tape tape_now : W) (ledger ledger_now : V) (source source_now target : Session) (result : Result ℕ Halt) : Type 0 where
   pub few : ℕ
   pub most : ℕ
   pub reads : Reads few most
   pub from : (any : Drawn) → Along P 0 few first first_now any any source source_now
   pub reads_to : Q.tells → Q.reads second_now ≤ Q.reads second + most
+  pub changes : Q.tells → MayRiseBy 2 (Q.changes second) (Q.changes second_now)
+  pub unchanged : Q.tells → Unchanged → Q.changes second_now ≡ Q.changes second
   pub to : Carries Q.tells (around Q T L second tape ledger) (around Q T L second_now tape_now ledger_now) target None (IsOk result)
   pub blame : (output : ℕ) → Blames (counts (P.faults first) (Q.faults second) (T.faults tape) output (L.faults ledger)) (counts (P.faults first_now) (Q.faults second_now) (T.faults tape_now) output (L.faults ledger_now)) result
   pub wrong : IfErr result (MeetsWrong P.tells Q.tells Compared Written (P.history first_now).present (Q.history second_now).present)
   pub behind : IfErr result IsBehindBoth
+  pub number : Q.tells → IfOk result (HasNumber (Q.history second_now).present)

@@ -10,3 +10,4 @@ pub mod Program
 pub mod Moving
 pub mod Both
 pub mod Whole
+pub mod Changes

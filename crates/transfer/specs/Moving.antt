@@ -15,7 +15,7 @@ use Rattle.session_calls.specs.declared.stops.DeviceStop.TheVariants as device
 use Rattle.transfer.specs.Copies.{HasCopy, IsCopy, IsOnWay, IsOther}
 use Rattle.transfer.specs.Halts.{EndsAs}
 use Rattle.transfer.specs.Refusals.{AreUnlike, IsRefused}
-use Rattle.transfer.specs.Running.{HasMapped, HasSome, Looked, LookedThere, MeetsWrong}
+use Rattle.transfer.specs.Running.{HasMapped, HasNumber, HasSome, Looked, LookedThere, MeetsWrong}
 use Rattle.transfer.specs.Whole.{MovesWhole}
 use Rattle.transfer.specs.declared.halts.Halt.{Halt}
 use Rattle.transfer.specs.declared.halts.Halt.TheVariants as halts
@@ -124,6 +124,7 @@ pub record Went (from_tells to_tells : Type 0) (from from_now to to_now : Histor
   pub looked : Looked from_tells from.present moved
   pub there : LookedThere to_tells to.present moved
   pub mapped : IfOk moved (λ one. from_tells → HasMapped from.present one.blocks)
+  pub number : IfOk moved (λ one. to_tells → HasNumber to_now.present one.number)
   pub whole : MovesWhole from_tells to_tells from.present from_now.present to to_now moved
   pub refused : IfErr moved (λ halt. from_tells → to_tells → IsRefused from.present to.present free halt)
   pub unlike : from_tells → to_tells → AreUnlike from.present to.present → Refuses moved

@@ -21,7 +21,7 @@ use Rattle.transfer.specs.Counts.{Counts, FromRose, LedgerRose, NoneFell, Output
 use Rattle.transfer.specs.Halts.{EndsAs, exit_of, last_line_of, moved_line}
 use Rattle.transfer.specs.Moving.{IsShort, Refuses}
 use Rattle.transfer.specs.Refusals.{AreUnlike, IsRefused}
-use Rattle.transfer.specs.Running.{HasMapped, HasSome, Looked, LookedThere, MeetsWrong}
+use Rattle.transfer.specs.Running.{HasMapped, HasNumber, HasSome, Looked, LookedThere, MeetsWrong}
 use Rattle.transfer.specs.Whole.{MovesWhole}
 use Rattle.transfer.specs.declared.halts.Halt.{Halt}
 use Rattle.transfer.specs.declared.halts.Halt.TheVariants as halts
@@ -66,6 +66,7 @@ pub record Ran (from_tells to_tells : Type 0) (first : Image) (first_to : Histor
   pub looked : Looked from_tells first moved
   pub there : LookedThere to_tells first_to.present moved
   pub mapped : IfOk moved (λ one. from_tells → HasMapped first one.blocks)
+  pub number : IfOk moved (λ one. to_tells → HasNumber to.present one.number)
   pub whole : MovesWhole from_tells to_tells first from first_to to moved
   pub refused : IfErr moved (λ halt. from_tells → to_tells → IsRefused first first_to.present free halt)
   pub unlike : from_tells → to_tells → AreUnlike first first_to.present → Refuses moved

@@ -95,6 +95,10 @@ pub record Looked {X : Type 0} (tells : Type 0) (image : Image) (result : Result
 abbrev pub HasMapped : Image → ℕ → Type 0
 HasMapped image blocks = (root : Root) × (image.cell ≡ Some (root_bytes root)) × (blocks ≡ root.mapped)
 
+-- and the root record in the cell has this commit number
+abbrev pub HasNumber : Image → ℕ → Type 0
+HasNumber image number = (root : Root) × (image.cell ≡ Some (root_bytes root)) × (number ≡ root.commit)
+
 -- a halt before the second device's root record is told of, or at it
 abbrev pub IsAtRoot : {X : Type 0} → Result X Halt → Type 0
 IsAtRoot (Err halts.NoDevice) = Unit {0}

@@ -1,5 +1,6 @@
 //! The copying of blocks from one session to another, and its commit.
-ghost use Rattle.std.specs.Prelude.{◌≡◌, ◌≢◌, ◌-◌, ◌*◌, ◌<◌, ◌≤◌, ◌∷◌, [], ℕ, true, All, None, Some, Err, IfErr, IsOk, OnOk, length};
+ghost use Rattle.std.specs.Prelude.{◌≡◌, ◌≢◌, ◌-◌, ◌*◌, ◌<◌, ◌≤◌, ◌∷◌, [], ℕ, true, All, None, Some, Err, IfErr, IfOk, IsOk, OnOk, length};
+ghost use Rattle.platform.specs.Counts.{MayRiseBy};
 ghost use Rattle.device_course.specs.States.{around};
 ghost use Rattle.device_session.specs.Open.{blocks_of, is_touched, needed_by};
 ghost use Rattle.session_calls.specs.Along.{Along, Drawn, drawn_by};
@@ -11,7 +12,7 @@ ghost use Rattle.device_course.specs.States.{IsAt};
 ghost use Rattle.transfer.specs.Copies.{copied, copy_block};
 ghost use Rattle.transfer.specs.Moving.{Commits, Copies};
 ghost use Rattle.transfer.specs.Refusals.{IsOfCopy};
-ghost use Rattle.transfer.specs.Running.{IsNumberOf, IsOfCommit, MeetsWrong, alone};
+ghost use Rattle.transfer.specs.Running.{HasNumber, IsNumberOf, IsOfCommit, MeetsWrong, alone};
 ghost use Rattle.transfer.specs.Whole.{CopiesTree};
 
 use crate::halts::Halt;
@@ -107,13 +108,15 @@ pub(crate) fn commit_target<Q: Platform, T: Tape, L: Sink>(
     requires target { IsReady Q.tells (around Q.Platform T.Tape L.Sink to.old tape.old ledger.old) target }
     ensures carries { Carries Q.tells (around Q.Platform T.Tape L.Sink to.old tape.old ledger.old)
         (around Q.Platform T.Tape L.Sink to.new tape.new ledger.new) target None (IsOk result) }
+    // On any pages: the number is that of the root record there.
+    ensures number { Q.tells → IfOk result (HasNumber (Q.history to.new).present) }
     ensures blame { (from output : ℕ) → Blames (counts from (Q.faults to.old) (T.faults tape.old) output (L.faults ledger.old))
         (counts from (Q.faults to.new) (T.faults tape.new) output (L.faults ledger.new)) result }
     ensures full { result ≡ Err Halt.Full → Q.capacity to.old - Q.head to.old < needed_by target }
     // Each other halt comes only where something was changed, and enough pages are free.
     ensures room { IfErr result (λ halt. halt ≢ Halt.Full → (is_touched target ≡ true) × (needed_by target ≤ Q.capacity to.old - Q.head to.old)) }
     ensures wrong { IfErr result IsOfCommit }
-    ensures unread { Q.tells → Q.reads to.new ≡ Q.reads to.old }
+    ensures unread { Q.tells → (Q.reads to.new ≡ Q.reads to.old) × MayRiseBy 2 (Q.changes to.old) (Q.changes to.new) }
     ensures leads { Q.tells → (there : Device) (other : OpenSession) → IsAt (Q.history to.old).present (Some target) (mounted there other)
         → Commits (Q.history to.old) (Q.history to.new) there other result }
 {

@@ -6,6 +6,7 @@ ghost use Rattle.sdbt_base.specs.Arrays.{Device};
 ghost use Rattle.page_store.specs.Stands.{Stands};
 ghost use Rattle.device_terms.specs.Served.{IsServedImage};
 ghost use Rattle.device_course.specs.States.{around};
+ghost use Rattle.transfer.specs.Changes.{ChangesFew, clears_at};
 ghost use Rattle.transfer.specs.Counts.{counts};
 ghost use Rattle.transfer.specs.Program.{Exits, FromAlone, MovesDevice, Ran, ToAlone};
 ghost use Rattle.transfer.specs.Reads.{ReadsFew};
@@ -52,8 +53,10 @@ pub fn run_transfer<P: Platform, Q: Platform, T: Tape, O: Sink, L: Sink>(
     ensures ran { map string_bytes words.now ≡ [] → Ran P.tells Q.tells (P.history from.old).present (Q.history to.old) (P.history from.new).present (Q.history to.new) (Q.capacity to.old - Q.head to.old) result
         (O.written output.old) (O.written output.new) }
 
-    // Each tree is walked over once at most, and few pages are read of each block.
-    ensures reads { map string_bytes words.now ≡ [] → ReadsFew P.Platform Q.Platform 1 from.old from.new to.old to.new }
+    // Each tree is walked over once at most, and few pages are read of each block. The first root record is cleared once at most, and on the second platform all pages are synced, and the root
+    // record replaced, once for a device that is made there, and once to commit.
+    ensures reads { map string_bytes words.now ≡ [] → ReadsFew P.Platform Q.Platform 1 from.old from.new to.old to.new
+        × ChangesFew P.Platform Q.Platform (clears_at result) from.old from.new to.old to.new }
 
     // From one device to another one, or to none: the first one is cleared only once the second one is a copy, whatever stops the run.
     ensures moved { map string_bytes words.now ≡ [] → P.tells → Q.tells → (device : Device) (there : Option Device)

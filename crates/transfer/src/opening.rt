@@ -1,5 +1,6 @@
 //! The device that another one comes to: the one that there is, or a new one.
 ghost use Rattle.std.specs.Prelude.{◌≡◌, ◌≤◌, ◌+◌, ◌%◌, None, Err};
+ghost use Rattle.platform.specs.Counts.{MayRiseBy};
 ghost use Rattle.transfer.specs.Opening.{OpensTarget, halt_of_format};
 ghost use Rattle.transfer.specs.Running.{LookedThere};
 
@@ -36,6 +37,8 @@ pub(crate) fn open_target<Q: Platform, T: Tape, L: Sink>(
     ensures there { LookedThere Q.tells (Q.history to.old).present result }
     // The cell is looked at once, and twice more where a device is made.
     ensures looks { Q.tells → (Q.reads to.new ≤ Q.reads to.old + 3) × (((Q.history to.old).present.cell ≡ None → ⊥) → Q.reads to.new ≤ Q.reads to.old + 1) }
+    // All pages are synced, and a root record is put there, where a device is made.
+    ensures changes { Q.tells → MayRiseBy 2 (Q.changes to.old) (Q.changes to.new) × (((Q.history to.old).present.cell ≡ None → ⊥) → Q.changes to.new ≡ Q.changes to.old) }
 {
     match mount_session(alloc, to, CACHED_NODES) {
         Ok(Some(session)) => Ok(Target {
@@ -62,6 +65,7 @@ fn make_target<Q: Platform, T: Tape, L: Sink>(
     ensures target { OpensTarget Q.Platform T.Tape L.Sink to.old to.new tape.old tape.new ledger.old ledger.new blocks order result }
     ensures there { Q.tells → result ≡ Err (Halt.To DeviceStop.BadRoot) → ⊥ }
     ensures looks { Q.tells → Q.reads to.new ≤ Q.reads to.old + 2 }
+    ensures changes { Q.tells → MayRiseBy 2 (Q.changes to.old) (Q.changes to.new) }
 {
     match format(alloc, to, tape, ledger, blocks, order) {
         Ok(()) => {}

@@ -2,7 +2,8 @@
 ghost use Rattle.std.specs.Prelude.{◌≡◌, ◌-◌, ◌*◌, ◌<◌, ◌≤◌, [], ℕ, false, All, None, Some, Err, IfErr, IfOk, IsOk, IsTrue, Option, length};
 ghost use Rattle.device_session.specs.Open.{blocks_of, is_touched, needed_by, number_of, root_of};
 ghost use Rattle.device_session.specs.Reading.{room_of};
-ghost use Rattle.transfer.specs.Reads.{ReadsCompared, ReadsFew, ReadsFilled, ReadsFound};
+ghost use Rattle.transfer.specs.Reads.{IsWritten, ReadsCompared, ReadsFew, ReadsFilled, ReadsFound};
+ghost use Rattle.transfer.specs.Changes.{ChangesFew, clears_of};
 ghost use Rattle.transfer.specs.Refusals.{AreAlike, HaltsAt, IsIdle, IsOtherThan};
 ghost use Rattle.device_course.specs.States.{around};
 ghost use Rattle.session_calls.specs.Along.{Along, Drawn};
@@ -19,7 +20,7 @@ ghost use Rattle.transfer.specs.Counts.{counts};
 ghost use Rattle.transfer.specs.Halts.{Blames};
 ghost use Rattle.session_calls.specs.Spans.{Spans};
 ghost use Rattle.transfer.specs.Whole.{CopiesOnce, FillsOnce, HasBlocks, HasNone, IsFilled, IsMoved, IsNew, IsRead, IsReadThrough, MovesWhole, SeesAll, SeesOther, WhereDone};
-ghost use Rattle.transfer.specs.Running.{Clears, HasMapped, HasSome, IsBehindMount, Looked, LookedThere, MeetsWrong, alone};
+ghost use Rattle.transfer.specs.Running.{Clears, HasMapped, HasNumber, HasSome, IsBehindMount, Looked, LookedThere, MeetsWrong, alone};
 
 use crate::copying::{commit_target, copy_blocks};
 use crate::halts::{Halt, Moved, put_last_line, put_moved};
@@ -51,7 +52,7 @@ pub(crate) fn run<P: Platform, Q: Platform, T: Tape, O: Sink, L: Sink>(
     ensures blame { Blames (counts (P.faults from.old) (Q.faults to.old) (T.faults tape.old) (O.faults output.old) (L.faults ledger.old))
         (counts (P.faults from.new) (Q.faults to.new) (T.faults tape.new) (O.faults output.new) (L.faults ledger.new)) result }
     ensures went { Went P.tells Q.tells (P.history from.old) (P.history from.new) (Q.history to.old) (Q.history to.new) (Q.capacity to.old - Q.head to.old) result (O.written output.old) (O.written output.new) }
-    ensures reads { ReadsFew P.Platform Q.Platform 1 from.old from.new to.old to.new }
+    ensures reads { ReadsFew P.Platform Q.Platform 1 from.old from.new to.old to.new × ChangesFew P.Platform Q.Platform (clears_of result) from.old from.new to.old to.new }
 {
     match move_device(alloc, from, to, tape, ledger) {
         Ok(moved) => put_moved(&moved, output),
@@ -75,9 +76,10 @@ fn move_device<P: Platform, Q: Platform, T: Tape, L: Sink>(
     // On any pages: which record is named.
     ensures wrong { IfErr result (MeetsWrong P.tells Q.tells (HasSome (Q.history to.old).present) ⊥ (P.history from.new).present (Q.history to.new).present) }
     ensures looked { Looked P.tells (P.history from.old).present result }
-    ensures there { LookedThere Q.tells (Q.history to.old).present result × ReadsFew P.Platform Q.Platform 1 from.old from.new to.old to.new }
+    ensures there { LookedThere Q.tells (Q.history to.old).present result × ReadsFew P.Platform Q.Platform 1 from.old from.new to.old to.new
+        × ChangesFew P.Platform Q.Platform (clears_of result) from.old from.new to.old to.new }
     ensures refused { Refusing P.tells Q.tells (P.history from.old).present (Q.history to.old).present (Q.capacity to.old - Q.head to.old) result }
-    ensures mapped { IfOk result (λ moved. P.tells → HasMapped (P.history from.old).present moved.blocks) }
+    ensures told { IfOk result (λ moved. (P.tells → HasMapped (P.history from.old).present moved.blocks) × (Q.tells → HasNumber (Q.history to.new).present moved.number)) }
     ensures whole { MovesWhole P.tells Q.tells (P.history from.old).present (P.history from.new).present (Q.history to.old) (Q.history to.new) result }
     // From one device to another one, or to none.
     ensures leads { P.tells → Q.tells → (device : Device) (there : Option Device) → Stands (P.history from.old).present (Some device) → IsServedImage (P.history from.old).present
@@ -112,9 +114,10 @@ fn move_session<P: Platform, Q: Platform, T: Tape, L: Sink>(
         → Stands (Q.history to.old).present there → IsServedImage (Q.history to.old).present
         → Moves (P.history from.old) (P.history from.new) (Q.history to.old) (Q.history to.new) device there (IsShort device 1 (Q.capacity to.old - Q.head to.old)) result }
     ensures refused { Refusing P.tells Q.tells (P.history from.old).present (Q.history to.old).present (Q.capacity to.old - Q.head to.old) result }
-    ensures mapped { IfOk result (λ moved. moved.blocks ≡ first.mapped) }
+    ensures told { IfOk result (λ moved. (moved.blocks ≡ first.mapped) × (Q.tells → HasNumber (Q.history to.new).present moved.number)) }
     ensures moves { WhereDone P.tells (P.history from.new).present result (IsMoved P.tells Q.tells (P.history from.old).present (Q.history to.old) (Q.history to.new) first) }
-    ensures there { LookedThere Q.tells (Q.history to.old).present result × ReadsFew P.Platform Q.Platform 0 from.old from.new to.old to.new }
+    ensures there { LookedThere Q.tells (Q.history to.old).present result × ReadsFew P.Platform Q.Platform 0 from.old from.new to.old to.new
+        × ChangesFew P.Platform Q.Platform (clears_of result) from.old from.new to.old to.new }
     ensures behind { IfErr result IsBehindMount }
 {
     let mut source = first;
@@ -148,9 +151,10 @@ fn fill<P: Platform, Q: Platform, T: Tape, L: Sink>(
     ensures there { LookedThere Q.tells (Q.history to.old).present result }
     ensures refused { Refusing P.tells Q.tells (P.history from.old).present (Q.history to.old).present (Q.capacity to.old - Q.head to.old) result }
     ensures behind { IfErr result IsBehindMount }
-    ensures reads { ReadsFew P.Platform Q.Platform 0 from.old from.new to.old to.new }
-    // On any pages: all of the first device was read, and copied.
-    ensures moves { IfOk result (λ number. IsMoved P.tells Q.tells (P.history from.old).present (Q.history to.old) (Q.history to.new) source.old) }
+    ensures reads { ReadsFew P.Platform Q.Platform 0 from.old from.new to.old to.new × ChangesFew P.Platform Q.Platform 0 from.old from.new to.old to.new }
+    // On any pages: all of the first device was read, and copied; and the number is that of the root record there.
+    ensures moves { IfOk result (λ number. IsMoved P.tells Q.tells (P.history from.old).present (Q.history to.old) (Q.history to.new) source.old
+        × (Q.tells → HasNumber (Q.history to.new).present number)) }
 {
     let blocks = source.blocks();
     let order = source.root().order;
@@ -183,7 +187,7 @@ fn fill_target<P: Platform, Q: Platform, T: Tape, L: Sink>(
     // Its cache has room for a node of each level.
     requires room { 20 ≤ room_of target }
     ensures both { FillsBoth P.Platform Q.Platform T.Tape L.Sink (λ few most. IsIdle target → ReadsFilled P.tells Q.tells (P.history from.old).present (Q.history to.old).present source.old target is_new few most)
-        (1 ≤ (root_of target).mapped) ((IsTrue is_new → Q.tells → HasNone (Q.history to.old).present) → IsIdle target → ⊥) from.old from.new to.old to.new tape.old tape.new ledger.old ledger.new source.old source.new target result }
+        (1 ≤ (root_of target).mapped) ((IsTrue is_new → Q.tells → HasNone (Q.history to.old).present) → IsIdle target → ⊥) ((IsTrue is_new → ⊥) × IsWritten target) from.old from.new to.old to.new tape.old tape.new ledger.old ledger.new source.old source.new target result }
     ensures refused { IsIdle target → IfErr result (HaltsAt (IsOtherThan (root_of source.old) (root_of target)
         (SeesOther P.tells Q.tells (P.history from.old).present (Q.history to.old).present source.old target)) (root_of source.old).mapped (Q.capacity to.old - Q.head to.old)) }
     ensures unlike { (AreAlike (root_of source.old) (root_of target) → ⊥) → (result ≡ Err Halt.NotEmpty) × (from.new ≡ from.old) × (to.new ≡ to.old) }
@@ -218,7 +222,7 @@ fn fill_found<P: Platform, Q: Platform, T: Tape, L: Sink>(
 ) -> Result<u64, Halt>
     requires { AreReady P.tells Q.tells (alone P.Platform from.old) (around Q.Platform T.Tape L.Sink to.old tape.old ledger.old) source.old found blocks.now }
     ensures both { FillsBoth P.Platform Q.Platform T.Tape L.Sink (λ few most. found.mapped ≡ (root_of found).mapped → ReadsFound Q.tells (Q.history to.old).present found blocks.now few most)
-        (1 ≤ (root_of found).mapped) (found.mapped ≡ (root_of found).mapped → ⊥) from.old from.new to.old to.new tape.old tape.new ledger.old ledger.new source.old source.new found result }
+        (1 ≤ (root_of found).mapped) (found.mapped ≡ (root_of found).mapped → ⊥) (IsWritten found) from.old from.new to.old to.new tape.old tape.new ledger.old ledger.new source.old source.new found result }
     ensures refused { needed_by found ≡ 0 → IfErr result (HaltsAt (((number_of found ≡ 0) × (found.mapped ≡ 0) → ⊥)
         × SeesAll P.tells Q.tells (P.history from.old).present (Q.history to.old).present source.old found blocks.now false) (length blocks.now) (Q.capacity to.old - Q.head to.old)) }
     ensures fills { found.mapped ≡ (root_of found).mapped → IfOk result (λ number. FillsOnce P.tells Q.tells (P.history from.old).present (Q.history to.old) (Q.history to.new) source.old found blocks.now
@@ -279,7 +283,7 @@ fn copy<P: Platform, Q: Platform, T: Tape, L: Sink>(
     ledger: &mut L,
 ) -> Result<u64, Halt>
     requires { AreReady P.tells Q.tells (alone P.Platform from.old) (around Q.Platform T.Tape L.Sink to.old tape.old ledger.old) source.old first blocks.now }
-    ensures both { FillsBoth P.Platform Q.Platform T.Tape L.Sink (λ few most. (few ≤ 21 * length blocks.now) × (most ≤ 40 * length blocks.now)) ⊥ (HasNone (Q.history to.old).present → ⊥)
+    ensures both { FillsBoth P.Platform Q.Platform T.Tape L.Sink (λ few most. (few ≤ 21 * length blocks.now) × (most ≤ 40 * length blocks.now)) ⊥ (HasNone (Q.history to.old).present → ⊥) ⊥
         from.old from.new to.old to.new tape.old tape.new ledger.old ledger.new source.old source.new first result }
     ensures refused { needed_by first ≡ 0 → IfErr result (HaltsAt ⊥ (length blocks.now) (Q.capacity to.old - Q.head to.old)) }
     // On any pages: they were copied before the commit.

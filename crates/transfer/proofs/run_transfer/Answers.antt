@@ -1,8 +1,10 @@
-use Rattle.std.proofs.Common.{◌∙◌, ℕ, Ok, Err, refl, sym, subst, arith}
+use Rattle.std.proofs.Common.{◌∙◌, ℕ, Ok, Err, refl, sym, ap, subst, arith}
 use Rattle.std.specs.Prelude.{string_bytes}
 use Rattle.std.proofs.lemmas.Bool.{eqb-true}
+use Rattle.transfer.specs.Changes.{ChangesFew, clears_at}
 use Rattle.transfer.specs.Counts.{counts}
 use Rattle.transfer.specs.Program.{IsBlamedAt, IsStatus}
+use Rattle.transfer.proofs.ChangesLaws.{clears_status}
 use Rattle.transfer.proofs.FromLaws.{clears_nothing, from_alone}
 use Rattle.transfer.proofs.MoveLaws.{moves_done, moves_ended}
 use Rattle.transfer.proofs.StatusLaws.{blamed, blamed_done, blamed_two, never_two, never_zero, no_words, some_words, status_is, status_two, status_zero}
@@ -39,7 +41,7 @@ returns-in-Ok-clause-other_words g c two = absurd (omega (arith, two))
 pub returns-in-Ok-clause-ran : goal.returns-in-Ok-clause-ran
 returns-in-Ok-clause-ran g c none =
     let went = c.in-Ok.ensures.went in
-    record { moved = went.moved; ending = Ok tt; said = went.said; status_is = refl; wrong = went.wrong; looked = went.looked; there = went.there; mapped = went.mapped; whole = went.whole; refused = went.refused; unlike = went.unlike }
+    record { moved = went.moved; ending = Ok tt; said = went.said; status_is = refl; wrong = went.wrong; looked = went.looked; there = went.there; mapped = went.mapped; number = went.number; whole = went.whole; refused = went.refused; unlike = went.unlike }
 
 pub returns-in-Ok-clause-from_alone : goal.returns-in-Ok-clause-from_alone
 returns-in-Ok-clause-from_alone g c = from_alone _ _ _ _ _ (λ zero. refl) (g.met.P.Platform.has_room c.run.new.from) c.in-Ok.ensures.from
@@ -63,7 +65,7 @@ returns-in-Err-clause-other_words g c two = absurd (never_two c.in-Err.halt (sym
 pub returns-in-Err-clause-ran : goal.returns-in-Err-clause-ran
 returns-in-Err-clause-ran g c none =
     let went = c.in-Err.ensures.went in
-    record { moved = went.moved; ending = Err c.in-Err.halt; said = went.said; status_is = c.status.ensures; wrong = went.wrong; looked = went.looked; there = went.there; mapped = went.mapped; whole = went.whole; refused = went.refused; unlike = went.unlike }
+    record { moved = went.moved; ending = Err c.in-Err.halt; said = went.said; status_is = c.status.ensures; wrong = went.wrong; looked = went.looked; there = went.there; mapped = went.mapped; number = went.number; whole = went.whole; refused = went.refused; unlike = went.unlike }
 
 pub returns-in-Err-clause-from_alone : goal.returns-in-Err-clause-from_alone
 returns-in-Err-clause-from_alone g c = from_alone _ _ _ _ _ (λ zero. absurd (never_zero c.in-Err.halt (sym c.status.ensures ∙ zero))) (g.met.P.Platform.has_room c.run.new.from) c.in-Err.ensures.from
@@ -96,4 +98,7 @@ pub returns-in-Ok-clause-reads : goal.returns-in-Ok-clause-reads
 returns-in-Ok-clause-reads g c none = c.in-Ok.ensures.reads
 
 pub returns-in-Err-clause-reads : goal.returns-in-Err-clause-reads
-returns-in-Err-clause-reads g c none = c.in-Err.ensures.reads
+returns-in-Err-clause-reads g c none = (
+  c.in-Err.ensures.reads.0,
+  subst (λ (n : ℕ). ChangesFew g.P.Platform g.Q.Platform n c.args.from.now c.run.new.from c.args.to.now c.run.new.to) (clears_status c.in-Err.halt ∙ ap clears_at (sym c.status.ensures)) c.in-Err.ensures.reads.1,
+)

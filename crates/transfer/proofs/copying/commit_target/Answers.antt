@@ -2,6 +2,7 @@ use Rattle.std.proofs.Common.{refl}
 use Rattle.transfer.specs.Counts.{counts}
 use Rattle.session_calls.proofs.CarryLaws.{carries_committed, carries_end, carries_going, carries_stopped}
 use Rattle.transfer.proofs.BlameLaws.{of_ledger, to_quiet, to_stopped}
+use Rattle.transfer.proofs.ChangesLaws.{committed_number}
 use Rattle.transfer.proofs.CommitLaws.{commit_done, commit_short, commit_stopped}
 use Rattle.transfer.proofs.HaltLaws.{commit_to, number_blamed, number_commit, number_full}
 use Rattle.transfer.proofs.copying.commit_target.Goals as goal
@@ -55,10 +56,14 @@ pub returns-in-Err-clause-full : goal.returns-in-Err-clause-full
 returns-in-Err-clause-full g c is = absurd cc
 
 pub returns-in-Ok-clause-unread : goal.returns-in-Ok-clause-unread
-returns-in-Ok-clause-unread g c = c.in-Ok.ensures.goes.unread
+returns-in-Ok-clause-unread g c told = (c.in-Ok.ensures.goes.unread told, c.in-Ok.ensures.goes.changes told)
 
 pub returns-in-Err-clause-unread : goal.returns-in-Err-clause-unread
-returns-in-Err-clause-unread g c = c.in-Err.ensures.goes.unread
+returns-in-Err-clause-unread g c told = (c.in-Err.ensures.goes.unread told, c.in-Err.ensures.goes.changes told)
+
+pub returns-in-Ok-clause-number : goal.returns-in-Ok-clause-number
+returns-in-Ok-clause-number g c told =
+    committed_number g.Q.Platform _ _ _ _ _ _ c.args.target c.in-Ok.done.session c.in-Ok.done.reply c.number_of.result c.in-Ok.ensures.answers c.number_of.ensures (c.in-Ok.ensures.goes.back.mounted told)
 
 pub returns-in-Ok-clause-room : goal.returns-in-Ok-clause-room
 returns-in-Ok-clause-room g c = number_full _ c.in-Ok.done.reply c.number_of.result c.number_of.ensures

@@ -4,6 +4,7 @@ use Rattle.platform.specs.Image.{Image}
 use Rattle.device_session.specs.Reading.{room_of}
 use Rattle.transfer.specs.Counts.{counts}
 use Rattle.transfer.specs.declared.opening.Target.{Target}
+use Rattle.transfer.proofs.ChangesLaws.{changed_behind, changed_not}
 use Rattle.transfer.proofs.BlameLaws.{blames_done, blames_then, of_platform, to_quiet, to_stopped}
 use Rattle.transfer.proofs.HaltLaws.{mount_to}
 use Rattle.transfer.proofs.LookedLaws.{there_found, there_none, there_stop}
@@ -111,3 +112,19 @@ pub returns-in-Err-clause-looks : goal.returns-in-Err-clause-looks
 returns-in-Err-clause-looks g c told =
     let once = (c.mount_session.ensures.reads told).0.by_one in
     (omega (arith, once), λ full. once)
+
+pub returns-in-Ok-Some-clause-changes : goal.returns-in-Ok-Some-clause-changes
+returns-in-Ok-Some-clause-changes g c told =
+    let same = c.mount_session.ensures.looks.changes told in
+    (changed_not 2 _ _ same, λ full. same)
+
+pub returns-in-Ok-None-clause-changes : goal.returns-in-Ok-None-clause-changes
+returns-in-Ok-None-clause-changes g c told = (
+  changed_behind 2 _ _ _ (c.mount_session.ensures.looks.changes told) (c.make_target.ensures.changes told),
+  λ full. absurd (full (found_none g.Q.Platform c.args.to.now c.mount_session.new.platform c.mount_session.result (c.in-Ok-None.is ∙ ap Ok c.in-Ok-None.field-0-is) c.mount_session.ensures.finds told)),
+)
+
+pub returns-in-Err-clause-changes : goal.returns-in-Err-clause-changes
+returns-in-Err-clause-changes g c told =
+    let same = c.mount_session.ensures.looks.changes told in
+    (changed_not 2 _ _ same, λ full. same)

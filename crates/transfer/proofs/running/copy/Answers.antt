@@ -9,6 +9,7 @@ use Rattle.device_course.proofs.MadeLaws.{made_kept}
 use Rattle.transfer.specs.Copies.{copied}
 use Rattle.transfer.specs.Moving.{IsShort}
 use Rattle.transfer.proofs.FillLaws.{reaches_blank, reaches_committed, reaches_since, short_not_copy}
+use Rattle.transfer.proofs.ChangesLaws.{changed_behind, changed_not}
 use Rattle.transfer.proofs.BlameLaws.{blames_as, blames_then}
 use Rattle.transfer.proofs.HaltLaws.{behind_commit_all, halted, meets_commit_all, meets_there}
 use Rattle.transfer.proofs.NoneLaws.{unwritten_there}
@@ -23,6 +24,9 @@ returns-in_err-copy_blocks-clause-both g c = rw (halted c.from_residual.result c
   reads = (omega arith, omega arith);
   from = λ any. c.copy_blocks.ensures.from any;
   reads_to = c.copy_blocks.ensures.to.reads;
+  changes = λ told. changed_not 2 _ _ (c.copy_blocks.ensures.to.changes told);
+  unchanged = λ told never. absurd never;
+  number = λ told. tt;
   to = carries_end _ _ _ _ _ _ _ (λ going. tt)
       (carries_along g.Q.Platform g.T.Tape g.L.Sink (length c.args.blocks.now) (40 * length c.args.blocks.now) c.args.to.now c.copy_blocks.new.to c.args.tape.now c.copy_blocks.new.tape c.args.ledger.now _ _ c.requires.target c.copy_blocks.ensures.to);
   blame = λ output. blames_as _ _ c.in_err-copy_blocks.field-0.0 (c.in_err-copy_blocks.ensures.blame output (g.L.Sink.faults c.args.ledger.now));
@@ -41,8 +45,11 @@ returns-clause-both g c = record {
   reads = (omega arith, omega arith);
   from = λ any. c.copy_blocks.ensures.from any;
   reads_to = λ told. let less = c.copy_blocks.ensures.to.reads told in
-      let same = c.commit_target.ensures.unread told in
+      let same = (c.commit_target.ensures.unread told).0 in
       omega (arith, less, same);
+  changes = λ told. changed_behind 2 _ _ _ (c.copy_blocks.ensures.to.changes told) (c.commit_target.ensures.unread told).1;
+  unchanged = λ told never. absurd never;
+  number = c.commit_target.ensures.number;
   to = carries_then _ _ _ _ c.args.first c.copy_blocks.new.target _ _ _ tt
       (carries_along g.Q.Platform g.T.Tape g.L.Sink (length c.args.blocks.now) (40 * length c.args.blocks.now) c.args.to.now c.copy_blocks.new.to c.args.tape.now c.copy_blocks.new.tape c.args.ledger.now _ _ c.requires.target c.copy_blocks.ensures.to)
       c.commit_target.ensures.carries;

@@ -4,6 +4,7 @@ use Rattle.device_session.specs.Sessions.{Session}
 use Rattle.transfer.proofs.WholeLaws.{lists_none, moved_all, new_on}
 use Rattle.root_codec.specs.declared.root.Root.{Root}
 use Rattle.session_calls.proofs.AlongLaws.{along_start}
+use Rattle.transfer.proofs.ChangesLaws.{changes_filled, changes_unopened, with_number}
 use Rattle.transfer.proofs.BlameLaws.{blames_as, blames_then}
 use Rattle.transfer.proofs.FillLaws.{new_blank, new_is_blank, reaches_opened, reaches_unopened}
 use Rattle.session_calls.proofs.CallLaws.{no_draw}
@@ -121,23 +122,33 @@ returns-clause-moves g c =
     let Q = g.Q.Platform in
     let target = c.in_ok-target.ensures.target in
     let session : Session = c.in_ok-target.target.session in
-    moved_all P.tells Q.tells (P.history c.args.from.now).present (Q.history c.args.to.now) (Q.history c.open_target.new.to) (Q.history c.fill_target.new.to) c.blocks-blocks.result c.root.result.now.order c.in_ok-target.target.is_new c.args.source.now session (P.head c.args.from.now) (Q.head c.open_target.new.to) c.fill_target.result
+    with_number Q.tells _ _ c.fill_target.result
+    (moved_all P.tells Q.tells (P.history c.args.from.now).present (Q.history c.args.to.now) (Q.history c.open_target.new.to) (Q.history c.fill_target.new.to) c.blocks-blocks.result c.root.result.now.order c.in_ok-target.target.is_new c.args.source.now session (P.head c.args.from.now) (Q.head c.open_target.new.to) c.fill_target.result
     c.requires.ready.0.is_open c.requires.ready.0.mounted target.opened.ready.is_open target.idle target.opened.ready.mounted target.on (λ told. target.opened.keeps.keys.extends told) c.fill_target.ensures.read
     (c.fill_target.ensures.fills (λ new told.
     (let on = new_on (Q.history c.args.to.now).present c.blocks-blocks.result c.root.result.now.order c.in_ok-target.target.is_new session new (target.on told) in
     let opened = target.opened.made told None on.0 (subst (λ (cell : Option (List ℕ)). IsServedCell cell (length (Q.history c.args.to.now).present.recorded)) (sym on.0) tt) in
     let stands = opened.4.exits.there.session.0.stands in
-    lists_none (Q.history c.open_target.new.to).present session.root opened.4.exits.there.session.0.committed stands.in_range stands.tree (stands.count ∙ on.1))) target.idle)
+    lists_none (Q.history c.open_target.new.to).present session.root opened.4.exits.there.session.0.committed stands.in_range stands.tree (stands.count ∙ on.1))) target.idle))
+    c.fill_target.ensures.both.number
 
 pub returns-in_err-target-clause-reads : goal.returns-in_err-target-clause-reads
-returns-in_err-target-clause-reads g c = few_unopened g.P.Platform g.Q.Platform c.args.from.now c.args.to.now c.open_target.new.to c.open_target.ensures.looks
+returns-in_err-target-clause-reads g c = (
+  few_unopened g.P.Platform g.Q.Platform c.args.from.now c.args.to.now c.open_target.new.to c.open_target.ensures.looks,
+  changes_unopened g.P.Platform g.Q.Platform c.args.from.now c.args.to.now c.open_target.new.to c.open_target.ensures.changes,
+)
 
 pub returns-clause-reads : goal.returns-clause-reads
 returns-clause-reads g c =
     let P = g.P.Platform in
     let Q = g.Q.Platform in
-    let target = c.in_ok-target.ensures.target in
-    few_filled P Q c.args.from.now c.fill_target.new.from c.args.to.now c.open_target.new.to c.fill_target.new.to c.args.source.now c.in_ok-target.target.session c.in_ok-target.target.is_new c.fill_target.ensures.both.few c.fill_target.ensures.both.most target.idle.mapped
-    (λ told. root_there _ _ _ c.requires.ready.0.is_open (c.requires.ready.0.mounted told).cell)
-    (λ told. on_as (Q.history c.args.to.now).present c.blocks-blocks.result c.args.source.now.root.blocks c.root.result.now.order c.args.source.now.root.order c.in_ok-target.target.is_new c.in_ok-target.target.session c.blocks-blocks.ensures (ap (λ (r : Root). r.order) c.root.ensures) (target.on told))
-    c.open_target.ensures.looks target.still (c.fill_target.ensures.both.from no_draw).reads c.fill_target.ensures.both.reads_to (c.fill_target.ensures.both.reads target.idle) (λ apart. ((c.fill_target.ensures.unlike apart).1, (c.fill_target.ensures.unlike apart).2))
+    let target = c.in_ok-target.ensures.target in (
+      few_filled P Q c.args.from.now c.fill_target.new.from c.args.to.now c.open_target.new.to c.fill_target.new.to c.args.source.now c.in_ok-target.target.session c.in_ok-target.target.is_new c.fill_target.ensures.both.few c.fill_target.ensures.both.most target.idle.mapped
+          (λ told. root_there _ _ _ c.requires.ready.0.is_open (c.requires.ready.0.mounted told).cell)
+          (λ told. on_as (Q.history c.args.to.now).present c.blocks-blocks.result c.args.source.now.root.blocks c.root.result.now.order c.args.source.now.root.order c.in_ok-target.target.is_new c.in_ok-target.target.session c.blocks-blocks.ensures (ap (λ (r : Root). r.order) c.root.ensures) (target.on told))
+          c.open_target.ensures.looks target.still (c.fill_target.ensures.both.from no_draw).reads c.fill_target.ensures.both.reads_to (c.fill_target.ensures.both.reads target.idle) (λ apart. ((c.fill_target.ensures.unlike apart).1, (c.fill_target.ensures.unlike apart).2)),
+      changes_filled P Q c.args.from.now c.fill_target.new.from c.args.to.now c.open_target.new.to c.fill_target.new.to c.args.source.now c.in_ok-target.target.session c.in_ok-target.target.is_new target.idle.mapped
+          (λ told. root_there _ _ _ c.requires.ready.0.is_open (c.requires.ready.0.mounted told).cell)
+          (λ told. on_as (Q.history c.args.to.now).present c.blocks-blocks.result c.args.source.now.root.blocks c.root.result.now.order c.args.source.now.root.order c.in_ok-target.target.is_new c.in_ok-target.target.session c.blocks-blocks.ensures (ap (λ (r : Root). r.order) c.root.ensures) (target.on told))
+          c.open_target.ensures.changes (c.fill_target.ensures.both.from no_draw).changes c.fill_target.ensures.both.changes c.fill_target.ensures.both.unchanged (λ apart. ((c.fill_target.ensures.unlike apart).1, (c.fill_target.ensures.unlike apart).2)),
+    )

@@ -8,6 +8,7 @@ use Rattle.session_calls.proofs.CarryLaws.{carries_along, carries_end, carries_t
 use Rattle.transfer.proofs.HaltLaws.{halted, meets_where, meets_where_all}
 use Rattle.transfer.proofs.NoneLaws.{none_listed}
 use Rattle.transfer.proofs.ReadsLaws.{found_compared, found_copied}
+use Rattle.transfer.proofs.ChangesLaws.{changed_behind, changed_not, still_number}
 use Rattle.transfer.proofs.BlameLaws.{blames_as, blames_done, blames_halt, blames_then}
 use Rattle.transfer.proofs.FillLaws.{fresh_blank, number_at, reaches_halted, reaches_other, reaches_since, reaches_still, stale_other}
 use Rattle.transfer.proofs.RefusalLaws.{at_then, reads_at, reads_behind}
@@ -24,6 +25,9 @@ returns-in_err-has-clause-both g c = rw (halted c.from_residual.result c.in_err-
   reads = λ idle. found_compared _ _ _ _ _ _ c.has_all.ensures.both.reads;
   from = λ any. c.has_all.ensures.both.from any;
   reads_to = (c.has_all.ensures.both.to no_draw).reads;
+  changes = λ told. changed_not 2 _ _ ((c.has_all.ensures.both.to no_draw).changes told);
+  unchanged = λ told written. (c.has_all.ensures.both.to no_draw).changes told;
+  number = λ told. tt;
   to = carries_end _ _ _ _ _ _ _ (λ going. tt)
       (carries_along g.Q.Platform g.T.Tape g.L.Sink 0 c.has_all.ensures.both.most c.args.to.now c.has_all.new.to c.args.tape.now c.args.tape.now c.args.ledger.now _ _ c.requires.target (c.has_all.ensures.both.to (drawn_by g.T.Tape c.args.tape.now)));
   blame = λ output. blames_as _ _ c.in_err-has.field-0.0 (c.in_err-has.ensures.both.blame (g.T.Tape.faults c.args.tape.now) output (g.L.Sink.faults c.args.ledger.now));
@@ -38,6 +42,9 @@ returns-then-has-clause-both g c = record {
   reads = λ idle. found_compared _ _ _ _ _ _ c.has_all.ensures.both.reads;
   from = λ any. c.has_all.ensures.both.from any;
   reads_to = (c.has_all.ensures.both.to no_draw).reads;
+  changes = λ told. changed_not 2 _ _ ((c.has_all.ensures.both.to no_draw).changes told);
+  unchanged = λ told written. (c.has_all.ensures.both.to no_draw).changes told;
+  number = λ told. still_number (g.Q.Platform.history c.args.to.now) (g.Q.Platform.history c.has_all.new.to) c.args.found c.number-number.result ((c.has_all.ensures.both.to no_draw).cell told) (c.requires.target.mounted told) c.number-number.ensures;
   to = carries_end _ _ _ _ _ _ _ (λ going. tt)
       (carries_along g.Q.Platform g.T.Tape g.L.Sink 0 c.has_all.ensures.both.most c.args.to.now c.has_all.new.to c.args.tape.now c.args.tape.now c.args.ledger.now _ _ c.requires.target (c.has_all.ensures.both.to (drawn_by g.T.Tape c.args.tape.now)));
   blame = λ output. blames_done _ _ _ (c.in_ok-has.ensures.both.blame (g.T.Tape.faults c.args.tape.now) output (g.L.Sink.faults c.args.ledger.now)).quiet;
@@ -57,6 +64,9 @@ returns-then-fresh-clause-both g c = record {
   reads_to = λ told. let less = (c.has_all.ensures.both.to no_draw).reads told in
       let more = c.copy.ensures.both.reads_to told in
       omega (arith, less, more);
+  changes = λ told. changed_behind 2 _ _ _ ((c.has_all.ensures.both.to no_draw).changes told) (c.copy.ensures.both.changes told);
+  unchanged = λ told written. absurd (written (c.is_fresh-fresh.ensures.0 c.if-fresh.true));
+  number = c.copy.ensures.both.number;
   to = carries_then _ _ _ _ c.args.found c.has_all.new.target _ _ _ tt
       (carries_along g.Q.Platform g.T.Tape g.L.Sink 0 c.has_all.ensures.both.most c.args.to.now c.has_all.new.to c.args.tape.now c.args.tape.now c.args.ledger.now _ _ c.requires.target (c.has_all.ensures.both.to (drawn_by g.T.Tape c.args.tape.now)))
       c.copy.ensures.both.to;
@@ -80,6 +90,9 @@ returns-else-fresh-clause-both g c = record {
   reads = λ idle. found_compared _ _ _ _ _ _ c.has_all.ensures.both.reads;
   from = λ any. c.has_all.ensures.both.from any;
   reads_to = (c.has_all.ensures.both.to no_draw).reads;
+  changes = λ told. changed_not 2 _ _ ((c.has_all.ensures.both.to no_draw).changes told);
+  unchanged = λ told written. (c.has_all.ensures.both.to no_draw).changes told;
+  number = λ told. tt;
   to = carries_end _ _ _ _ _ _ _ (λ going. tt)
       (carries_along g.Q.Platform g.T.Tape g.L.Sink 0 c.has_all.ensures.both.most c.args.to.now c.has_all.new.to c.args.tape.now c.args.tape.now c.args.ledger.now _ _ c.requires.target (c.has_all.ensures.both.to (drawn_by g.T.Tape c.args.tape.now)));
   blame = λ output. let same = (c.in_ok-has.ensures.both.blame (g.T.Tape.faults c.args.tape.now) output (g.L.Sink.faults c.args.ledger.now)).quiet in

@@ -9,6 +9,7 @@ use Rattle.device_course.proofs.MadeLaws.{made_kept}
 use Rattle.session_calls.proofs.AlongLaws.{along_start, along_then}
 use Rattle.session_calls.proofs.CallLaws.{no_draw}
 use Rattle.session_calls.proofs.CarryLaws.{carries_end, carries_start}
+use Rattle.transfer.proofs.ChangesLaws.{changed_not}
 use Rattle.transfer.proofs.BlameLaws.{blames_as, blames_halt, blames_then}
 use Rattle.transfer.proofs.HaltLaws.{behind_from, halted, meets_from, meets_where_all}
 use Rattle.transfer.proofs.ReadsLaws.{filled_found, filled_new, filled_none, filled_walked}
@@ -26,6 +27,9 @@ returns-then-not-is_alike-clause-both g c = record {
   most = 0;
   reads = λ idle. filled_none _ _ _ _ _ _ _;
   reads_to = λ told. omega arith;
+  changes = λ told. changed_not 2 _ _ refl;
+  unchanged = λ told kept. refl;
+  number = λ told. tt;
   from = λ any. along_start g.P.Platform c.args.from.now any c.args.source.now c.requires.source.is_open;
   to = carries_end _ _ _ _ _ _ _ (λ going. tt) (carries_start _ _ c.args.target c.requires.target);
   blame = λ output. blames_halt _ _ _ refl refl;
@@ -39,6 +43,9 @@ returns-in_err-blocks-clause-both g c = rw (halted c.from_residual.result c.in_e
   most = 0;
   reads = λ idle. filled_walked _ _ _ _ _ _ _ (g.P.Platform.reads c.list_source.new.from - g.P.Platform.reads c.args.from.now) c.list_source.ensures.walks;
   reads_to = λ told. omega arith;
+  changes = λ told. changed_not 2 _ _ refl;
+  unchanged = λ told kept. refl;
+  number = λ told. tt;
   from = λ any. c.list_source.ensures.along any;
   to = carries_end _ _ _ _ _ _ _ (λ going. tt) (carries_start _ _ c.args.target c.requires.target);
   blame = λ output. blames_as _ _ c.in_err-blocks.field-0.0 (c.in_err-blocks.ensures.blame (g.Q.Platform.faults c.args.to.now) (g.T.Tape.faults c.args.tape.now) output (g.L.Sink.faults c.args.ledger.now));
@@ -53,6 +60,9 @@ returns-then-is_new-clause-both g c = record {
   reads = λ idle. filled_new _ _ _ _ _ _ _ c.deref.result.now (g.P.Platform.reads c.list_source.new.from - g.P.Platform.reads c.args.from.now) c.copy.ensures.both.few c.copy.ensures.both.most c.if-is_new.true c.list_source.ensures.walks (ap length c.deref.ensures.value ∙ c.in_ok-blocks.ensures.count) c.copy.ensures.both.reads.0 c.copy.ensures.both.reads.1;
   from = λ any. along_then g.P.Platform 0 0 (g.P.Platform.reads c.list_source.new.from - g.P.Platform.reads c.args.from.now) c.copy.ensures.both.few _ _ _ any any any _ _ _ (c.list_source.ensures.along any) (c.copy.ensures.both.from any);
   reads_to = c.copy.ensures.both.reads_to;
+  changes = c.copy.ensures.both.changes;
+  unchanged = λ told kept. absurd (kept.0 c.if-is_new.true);
+  number = c.copy.ensures.both.number;
   to = c.copy.ensures.both.to;
   blame = λ output. blames_then _ _ _ _ (c.in_ok-blocks.ensures.blame (g.Q.Platform.faults c.args.to.now) (g.T.Tape.faults c.args.tape.now) output (g.L.Sink.faults c.args.ledger.now)).quiet (c.copy.ensures.both.blame output);
   wrong = meets_where_all _ _ ⊥ (1 ≤ c.args.target.root.mapped) (HasNone (g.Q.Platform.history c.args.to.now).present → ⊥) _ _ _ c.copy.result (λ told never. absurd never) (λ told not new idle. not (new c.if-is_new.true told)) c.copy.ensures.both.wrong;
@@ -66,6 +76,9 @@ returns-clause-both g c = record {
   reads = λ idle. filled_found _ _ _ _ _ _ _ c.deref-else-is_new.result.now (g.P.Platform.reads c.list_source.new.from - g.P.Platform.reads c.args.from.now) c.fill_found.ensures.both.few c.fill_found.ensures.both.most (λ is. absurd cc) c.list_source.ensures.walks (ap length c.deref-else-is_new.ensures.value ∙ c.in_ok-blocks.ensures.count) (c.fill_found.ensures.both.reads idle.mapped);
   from = λ any. along_then g.P.Platform 0 0 (g.P.Platform.reads c.list_source.new.from - g.P.Platform.reads c.args.from.now) c.fill_found.ensures.both.few _ _ _ any any any _ _ _ (c.list_source.ensures.along any) (c.fill_found.ensures.both.from any);
   reads_to = c.fill_found.ensures.both.reads_to;
+  changes = c.fill_found.ensures.both.changes;
+  unchanged = λ told kept. c.fill_found.ensures.both.unchanged told kept.1;
+  number = c.fill_found.ensures.both.number;
   to = c.fill_found.ensures.both.to;
   blame = λ output. blames_then _ _ _ _ (c.in_ok-blocks.ensures.blame (g.Q.Platform.faults c.args.to.now) (g.T.Tape.faults c.args.tape.now) output (g.L.Sink.faults c.args.ledger.now)).quiet (c.fill_found.ensures.both.blame output);
   wrong = meets_where_all _ _ (1 ≤ c.args.target.root.mapped) (1 ≤ c.args.target.root.mapped) (c.args.target.mapped ≡ c.args.target.root.mapped → ⊥) _ _ _ c.fill_found.result (λ told some. some) (λ told not new idle. not idle.mapped) c.fill_found.ensures.both.wrong;

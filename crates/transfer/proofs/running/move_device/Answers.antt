@@ -5,8 +5,9 @@ use Rattle.std.proofs.Common.{Some}
 use Rattle.device_course.proofs.MadeLaws.{made_kept, shut}
 use Rattle.transfer.specs.Counts.{counts}
 use Rattle.transfer.proofs.BlameLaws.{blames_halt, blames_then, from_quiet, from_stopped, of_platform}
+use Rattle.transfer.proofs.ChangesLaws.{changes_looked, changes_stopped}
 use Rattle.transfer.proofs.FromLaws.{clears_look, clears_mounted, ready_found}
-use Rattle.transfer.proofs.LookedLaws.{looked_found, looked_none, looked_stop, mapped_found, there_before, there_no_device}
+use Rattle.transfer.proofs.LookedLaws.{looked_found, looked_none, looked_stop, there_before, told_found, there_no_device}
 use Rattle.transfer.specs.Running.{HasSome}
 use Rattle.transfer.proofs.HaltLaws.{mount_from}
 use Rattle.transfer.proofs.MoveLaws.{at_mounted, moves_behind, moves_stopped}
@@ -103,15 +104,15 @@ returns-in-Err-clause-leads g c from_told to_told device there stands served sta
     (mount_sound (g.P.Platform.history c.mount_session.new.platform).present (closed (Some device)) c.in-Err.stop (c.in-Err.ensures.leads from_told (closed (Some device)) (shut (g.P.Platform.history c.args.from.now).present (Some device) stands served)))
     stands_to served_to
 
-pub returns-in-Ok-Some-clause-mapped : goal.returns-in-Ok-Some-clause-mapped
-returns-in-Ok-Some-clause-mapped g c =
-    mapped_found g.P.Platform c.args.from.now c.mount_session.new.platform c.in-Ok-Some.source c.mount_session.result c.move_session.result (c.in-Ok-Some.is ∙ ap Ok c.in-Ok-Some.field-0-is) c.mount_session.ensures.finds c.move_session.ensures.mapped
+pub returns-in-Ok-Some-clause-told : goal.returns-in-Ok-Some-clause-told
+returns-in-Ok-Some-clause-told g c =
+    told_found g.P.Platform c.args.from.now c.mount_session.new.platform c.in-Ok-Some.source c.mount_session.result c.move_session.result _ (c.in-Ok-Some.is ∙ ap Ok c.in-Ok-Some.field-0-is) c.mount_session.ensures.finds c.move_session.ensures.told
 
 pub returns-in-Ok-None-clause-there : goal.returns-in-Ok-None-clause-there
-returns-in-Ok-None-clause-there g c = (there_no_device _ _, few_stopped g.P.Platform g.Q.Platform c.args.from.now c.mount_session.new.platform c.args.to.now (λ told. (c.mount_session.ensures.reads told).0.by_one))
+returns-in-Ok-None-clause-there g c = (there_no_device _ _, few_stopped g.P.Platform g.Q.Platform c.args.from.now c.mount_session.new.platform c.args.to.now (λ told. (c.mount_session.ensures.reads told).0.by_one), changes_stopped g.P.Platform g.Q.Platform _ c.args.from.now c.mount_session.new.platform c.args.to.now c.mount_session.ensures.looks)
 
 pub returns-in-Err-clause-there : goal.returns-in-Err-clause-there
-returns-in-Err-clause-there g c = (there_before _ _ c.in-Err.stop, few_stopped g.P.Platform g.Q.Platform c.args.from.now c.mount_session.new.platform c.args.to.now (λ told. (c.mount_session.ensures.reads told).0.by_one))
+returns-in-Err-clause-there g c = (there_before _ _ c.in-Err.stop, few_stopped g.P.Platform g.Q.Platform c.args.from.now c.mount_session.new.platform c.args.to.now (λ told. (c.mount_session.ensures.reads told).0.by_one), changes_stopped g.P.Platform g.Q.Platform _ c.args.from.now c.mount_session.new.platform c.args.to.now c.mount_session.ensures.looks)
 
 pub returns-in-Ok-Some-clause-refused : goal.returns-in-Ok-Some-clause-refused
 returns-in-Ok-Some-clause-refused g c = refusing_behind _ _ _ _ _ _ c.move_session.result c.mount_session.ensures.looks.image c.move_session.ensures.refused
@@ -137,4 +138,5 @@ pub returns-in-Ok-Some-clause-there : goal.returns-in-Ok-Some-clause-there
 returns-in-Ok-Some-clause-there g c = (
   c.move_session.ensures.there.0,
   few_behind g.P.Platform g.Q.Platform c.args.from.now c.mount_session.new.platform c.move_session.new.from c.args.to.now c.move_session.new.to c.mount_session.ensures.looks (λ told. (c.mount_session.ensures.reads told).0.by_one) c.move_session.ensures.there.1,
+  changes_looked g.P.Platform g.Q.Platform _ c.args.from.now c.mount_session.new.platform c.move_session.new.from c.args.to.now c.move_session.new.to c.mount_session.ensures.looks c.move_session.ensures.there.2,
 )

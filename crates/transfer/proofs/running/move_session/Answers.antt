@@ -1,10 +1,11 @@
-use Rattle.std.proofs.Common.{◌∙◌, refl, sym}
+use Rattle.std.proofs.Common.{◌∙◌, refl, sym, arith}
 use Rattle.sdbt_base.specs.Arrays.{mounted, session_on}
 use Rattle.device_course.proofs.MadeLaws.{made_kept}
 use Rattle.session_calls.proofs.CallLaws.{no_draw}
 use Rattle.transfer.proofs.HaltLaws.{halted}
 use Rattle.transfer.specs.Counts.{counts}
 use Rattle.transfer.proofs.BlameLaws.{blames_as, blames_done, blames_then, clear_failed}
+use Rattle.transfer.proofs.ChangesLaws.{changes_cleared, changes_more}
 use Rattle.transfer.proofs.FromLaws.{clears_cleared, clears_not}
 use Rattle.transfer.proofs.LookedLaws.{there_as, there_behind}
 use Rattle.transfer.proofs.MoveLaws.{moves_cleared, moves_halted}
@@ -68,13 +69,17 @@ returns-clause-leads g c from_told to_told device there at stands served =
     (c.in_ok-number.ensures.leads from_told to_told device there at stands served)
 
 pub returns-in_err-number-clause-there : goal.returns-in_err-number-clause-there
-returns-in_err-number-clause-there g c = (rw (halted c.from_residual.result c.in_err-number.field-0.0 c.from_residual.ensures.1) (there_as _ _ c.in_err-number.field-0.0 c.in_err-number.ensures.there), c.fill.ensures.reads)
+returns-in_err-number-clause-there g c = (
+  rw (halted c.from_residual.result c.in_err-number.field-0.0 c.from_residual.ensures.1) (there_as _ _ c.in_err-number.field-0.0 c.in_err-number.ensures.there),
+  c.fill.ensures.reads.0,
+  rw (halted c.from_residual.result c.in_err-number.field-0.0 c.from_residual.ensures.1) (changes_more g.P.Platform g.Q.Platform 0 _ c.args.from.now c.fill.new.from c.args.to.now c.fill.new.to (omega arith) c.fill.ensures.reads.1),
+)
 
 pub returns-in-Ok-clause-there : goal.returns-in-Ok-clause-there
-returns-in-Ok-clause-there g c = (there_behind _ _ _ _ c.in_ok-number.ensures.there tt, few_cleared g.P.Platform g.Q.Platform 0 c.args.from.now c.fill.new.from c.clear.new.platform c.args.to.now c.fill.new.to (λ told. (c.clear.ensures.reads told).0) c.fill.ensures.reads)
+returns-in-Ok-clause-there g c = (there_behind _ _ _ _ c.in_ok-number.ensures.there tt, few_cleared g.P.Platform g.Q.Platform 0 c.args.from.now c.fill.new.from c.clear.new.platform c.args.to.now c.fill.new.to (λ told. (c.clear.ensures.reads told).0) c.fill.ensures.reads.0, changes_cleared g.P.Platform g.Q.Platform c.clear.result c.args.from.now c.fill.new.from c.clear.new.platform c.args.to.now c.fill.new.to c.clear.ensures.changes c.fill.ensures.reads.1)
 
 pub returns-clause-there : goal.returns-clause-there
-returns-clause-there g c = (there_behind _ _ _ _ c.in_ok-number.ensures.there tt, few_cleared g.P.Platform g.Q.Platform 0 c.args.from.now c.fill.new.from c.clear.new.platform c.args.to.now c.fill.new.to (λ told. (c.clear.ensures.reads told).0) c.fill.ensures.reads)
+returns-clause-there g c = (there_behind _ _ _ _ c.in_ok-number.ensures.there tt, few_cleared g.P.Platform g.Q.Platform 0 c.args.from.now c.fill.new.from c.clear.new.platform c.args.to.now c.fill.new.to (λ told. (c.clear.ensures.reads told).0) c.fill.ensures.reads.0, changes_cleared g.P.Platform g.Q.Platform c.clear.result c.args.from.now c.fill.new.from c.clear.new.platform c.args.to.now c.fill.new.to c.clear.ensures.changes c.fill.ensures.reads.1)
 
 pub returns-in_err-number-clause-refused : goal.returns-in_err-number-clause-refused
 returns-in_err-number-clause-refused g c = rw (halted c.from_residual.result c.in_err-number.field-0.0 c.from_residual.ensures.1) (refusing_as _ _ _ _ _ c.in_err-number.field-0.0 c.in_err-number.ensures.refused)
@@ -92,10 +97,16 @@ returns-in_err-number-clause-moves g c = (
 )
 
 pub returns-in-Ok-clause-moves : goal.returns-in-Ok-clause-moves
-returns-in-Ok-clause-moves g c = (c.in_ok-number.ensures.moves, λ told empty. c.in_ok-number.ensures.moves)
+returns-in-Ok-clause-moves g c = (c.in_ok-number.ensures.moves.0, λ told empty. c.in_ok-number.ensures.moves.0)
 
 pub returns-clause-moves : goal.returns-clause-moves
-returns-clause-moves g c = (tt, λ told empty. c.in_ok-number.ensures.moves)
+returns-clause-moves g c = (tt, λ told empty. c.in_ok-number.ensures.moves.0)
+
+pub returns-in_err-number-clause-told : goal.returns-in_err-number-clause-told
+returns-in_err-number-clause-told g c = rw (halted c.from_residual.result c.in_err-number.field-0.0 c.from_residual.ensures.1) tt
+
+pub returns-in-Ok-clause-told : goal.returns-in-Ok-clause-told
+returns-in-Ok-clause-told g c = (c.mapped-blocks.ensures, c.in_ok-number.ensures.moves.1)
 
 pub fill-requires : goal.fill-requires
 fill-requires g c = record { ready = (c.requires.ready.0, c.requires.ready.2) }

@@ -1,6 +1,7 @@
 use Rattle.std.proofs.Common.{Ok, Err, refl}
 use Rattle.transfer.specs.Counts.{counts}
 use Rattle.transfer.proofs.BlameLaws.{blames_moved, blames_told}
+use Rattle.transfer.proofs.ChangesLaws.{changes_more, put_clears, told_clears}
 use Rattle.transfer.proofs.FromLaws.{clears_weaker}
 use Rattle.transfer.proofs.ToLaws.{spans_more}
 use Rattle.transfer.proofs.running.run.Goals as goal
@@ -38,7 +39,8 @@ returns-in-Ok-clause-went g c = record {
   wrong = tt;
   looked = c.in-Ok.ensures.looked;
   there = c.in-Ok.ensures.there.0;
-  mapped = c.in-Ok.ensures.mapped;
+  mapped = c.in-Ok.ensures.told.0;
+  number = c.in-Ok.ensures.told.1;
   whole = c.in-Ok.ensures.whole;
   refused = tt;
   unlike = c.in-Ok.ensures.refused.unlike;
@@ -53,6 +55,7 @@ returns-in-Err-clause-went g c = record {
   looked = c.in-Err.ensures.looked;
   there = c.in-Err.ensures.there.0;
   mapped = tt;
+  number = tt;
   whole = c.in-Err.ensures.whole;
   refused = c.in-Err.ensures.refused.refused;
   unlike = c.in-Err.ensures.refused.unlike;
@@ -60,7 +63,13 @@ returns-in-Err-clause-went g c = record {
 }
 
 pub returns-in-Ok-clause-reads : goal.returns-in-Ok-clause-reads
-returns-in-Ok-clause-reads g c = c.in-Ok.ensures.there.1
+returns-in-Ok-clause-reads g c = (
+  c.in-Ok.ensures.there.1,
+  changes_more g.P.Platform g.Q.Platform 1 _ c.args.from.now c.move_device.new.from c.args.to.now c.move_device.new.to (put_clears c.put_moved.result _ _ c.put_moved.ensures.blame) c.in-Ok.ensures.there.2,
+)
 
 pub returns-in-Err-clause-reads : goal.returns-in-Err-clause-reads
-returns-in-Err-clause-reads g c = c.in-Err.ensures.there.1
+returns-in-Err-clause-reads g c = (
+  c.in-Err.ensures.there.1,
+  changes_more g.P.Platform g.Q.Platform _ _ c.args.from.now c.move_device.new.from c.args.to.now c.move_device.new.to (told_clears c.in-Err.halt c.put_last_line.result _ _ c.put_last_line.ensures.told) c.in-Err.ensures.there.2,
+)
