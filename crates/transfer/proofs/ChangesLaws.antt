@@ -2,7 +2,7 @@
 use Rattle.std.proofs.Common.{◌≡◌, ◌≤◌, ◌+◌, ◌∙◌, ℕ, Bool, true, false, None, Some, Option, List, Result, Ok, Err, inl, inr, refl, sym, ap, subst, arith}
 use Rattle.std.specs.Prelude.{IfOk, IsTrue}
 use Rattle.platform.specs.Calls.{Looks}
-use Rattle.platform.specs.Counts.{CountsOnce, MayRiseBy}
+use Rattle.sdbt_base.specs.Rises.{CountsOnce, MayRiseBy}
 use Rattle.platform.specs.History.{CellStays, History}
 use Rattle.platform.specs.Image.{Image}
 use Rattle.platform.specs.declared.platforms.Platform.{Ghosts as PlatformGhosts}

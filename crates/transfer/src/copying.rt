@@ -1,6 +1,6 @@
 //! The copying of blocks from one session to another, and its commit.
 ghost use Rattle.std.specs.Prelude.{◌≡◌, ◌≢◌, ◌-◌, ◌*◌, ◌<◌, ◌≤◌, ◌∷◌, [], ℕ, true, All, None, Some, Err, IfErr, IfOk, IsOk, OnOk, length};
-ghost use Rattle.platform.specs.Counts.{MayRiseBy};
+ghost use Rattle.sdbt_base.specs.Rises.{MayRiseBy};
 ghost use Rattle.device_course.specs.States.{around};
 ghost use Rattle.device_session.specs.Open.{blocks_of, is_touched, needed_by};
 ghost use Rattle.session_calls.specs.Along.{Along, Drawn, drawn_by};

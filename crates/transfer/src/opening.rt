@@ -1,6 +1,6 @@
 //! The device that another one comes to: the one that there is, or a new one.
 ghost use Rattle.std.specs.Prelude.{◌≡◌, ◌≤◌, ◌+◌, ◌%◌, None, Err};
-ghost use Rattle.platform.specs.Counts.{MayRiseBy};
+ghost use Rattle.sdbt_base.specs.Rises.{MayRiseBy};
 ghost use Rattle.transfer.specs.Opening.{OpensTarget, halt_of_format};
 ghost use Rattle.transfer.specs.Running.{LookedThere};
 
