@@ -1,5 +1,5 @@
 -- That answers are honest has at most one proof.
-use Rattle.std.specs.Prelude.{ℕ, Bool, List, [], ◌∷◌}
+use Rattle.std.specs.Prelude.{ℕ, Bool, true, false, List, [], ◌∷◌}
 use Rattle.std.proofs.Props.{props}
 use Rattle.std.specs.Coded.{→_prop, ×_prop, Unit-prop}
 use Rattle.folder_platform.specs.Files.{Files}
@@ -10,12 +10,15 @@ use Rattle.folder_platform.specs.declared.file_call.FileCall.{FileCall}
 use Rattle.folder_platform.specs.declared.file_call.FileCall.TheVariants.{CountPages, ReadPage, WritePage, SyncMedia, SyncFolder, ReadRoot, SyncRoot, RemoveRoot, RemoveNew, MakeNew, SyncNew, RenameNew, SyncCell, ReplaceInPlace, ClearInPlace}
 
 pub Answers-prop : (call : FileCall) (n : ℕ) (done : Bool) (bytes : List ℕ) (m : Model) → IsProp (Answers call n done bytes m)
-Answers-prop CountPages n done bytes m = hlevel props
-Answers-prop ReadPage n done bytes m = hlevel props
+Answers-prop CountPages n true bytes m = hlevel props
+Answers-prop CountPages n false bytes m = Unit-prop
+Answers-prop ReadPage n true bytes m = hlevel props
+Answers-prop ReadPage n false bytes m = Unit-prop
 Answers-prop WritePage n done bytes m = Unit-prop
 Answers-prop SyncMedia n done bytes m = Unit-prop
 Answers-prop SyncFolder n done bytes m = Unit-prop
-Answers-prop ReadRoot n done bytes m = hlevel props
+Answers-prop ReadRoot n true bytes m = hlevel props
+Answers-prop ReadRoot n false bytes m = Unit-prop
 Answers-prop SyncRoot n done bytes m = Unit-prop
 Answers-prop RemoveRoot n done bytes m = Unit-prop
 Answers-prop RemoveNew n done bytes m = Unit-prop

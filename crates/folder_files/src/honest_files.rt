@@ -64,6 +64,7 @@ impl PageCalls for HonestFiles {
 
     fn count_pages(&mut self) -> io::Result<u64> {
         if self.is_broken {
+            self.calls.note(FileCall::CountPages, 0, false, &[]);
             return Err(ErrorKind::Other.into());
         }
         let pages = self.pages.len() as u64;
@@ -73,6 +74,7 @@ impl PageCalls for HonestFiles {
 
     fn read_page(&mut self, addr: u64, into: &mut [u8]) -> io::Result<()> {
         if self.is_broken || addr >= self.pages.len() as u64 {
+            self.calls.note(FileCall::ReadPage, addr, false, into);
             return Err(ErrorKind::Other.into());
         }
         into.copy_from_slice(&self.pages[addr as usize]);
@@ -116,6 +118,7 @@ impl FolderCalls for HonestFiles {
 
     fn read_root(&mut self, into: &mut [u8]) -> io::Result<Option<usize>> {
         if self.is_broken {
+            self.calls.note(FileCall::ReadRoot, 0, false, &[]);
             return Err(ErrorKind::Other.into());
         }
         let Some(bytes) = self.root else {
@@ -185,6 +188,7 @@ impl CellCalls for HonestFiles {
 
     fn load(&mut self, into: &mut [u8]) -> io::Result<bool> {
         if self.is_broken {
+            self.calls.note(FileCall::ReadRoot, 0, false, &[]);
             return Err(ErrorKind::Other.into());
         }
         let Some(bytes) = self.root else {

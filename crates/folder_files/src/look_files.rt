@@ -42,11 +42,19 @@ impl<R: Files + Alloc + Clone + Drop> LookCalls for LookFiles<R> {
 
     fn look_at_cell(&mut self, into: &mut [u8]) -> io::Result<bool> {
         let mut bytes = [0; ROOT + 1];
-        let Some(n) = self.cell.read_root(&mut bytes)? else {
-            self.pages.note(FileCall::ReadRoot, 0, &[]);
-            return Ok(false);
-        };
-        self.pages.note(FileCall::ReadRoot, 1, &bytes[..n]);
-        Ok(record_in(&bytes[..n], into))
+        match self.cell.read_root(&mut bytes) {
+            Ok(None) => {
+                self.pages.note(FileCall::ReadRoot, 0, true, &[]);
+                Ok(false)
+            }
+            Ok(Some(n)) => {
+                self.pages.note(FileCall::ReadRoot, 1, true, &bytes[..n]);
+                Ok(record_in(&bytes[..n], into))
+            }
+            Err(error) => {
+                self.pages.note(FileCall::ReadRoot, 0, false, &[]);
+                Err(error)
+            }
+        }
     }
 }

@@ -1,7 +1,8 @@
 //! The pages of a device in a folder that is only looked at.
-ghost use Rattle.std.specs.Prelude.{◌≡◌, ◌∷◌, true, length, MatchResult};
+ghost use Rattle.std.specs.Prelude.{◌≡◌, ◌∷◌, is_ok, length};
 ghost use Rattle.sdbt_base.specs.declared.limits.TheConstants.{RECORD};
-ghost use Rattle.folder_platform.specs.Events.{pages_counted, page_read};
+ghost use Rattle.folder_platform.specs.Events.{page_read};
+ghost use Rattle.folder_platform.specs.Sequences.{NotesCount};
 
 use crate::media_file;
 use crate::record::Record;
@@ -20,38 +21,43 @@ pub struct LookPages<R: Files> {
 }
 
 impl<R: Files> LookPages<R> {
-    /// Notes a look at the cell of the same device: whether it found something, and bytes.
-    pub fn note(&mut self, call: FileCall, number: u64, bytes: &[u8])
-        ensures { self.new.calls.events ≡ (call, number, true, bytes.now) ∷ self.old.calls.events }
+    /// Notes a look at the cell of the same device: whether it found something, whether it was done, and bytes.
+    pub fn note(&mut self, call: FileCall, number: u64, is_done: bool, bytes: &[u8])
+        ensures { self.new.calls.events ≡ (call, number, is_done, bytes.now) ∷ self.old.calls.events }
     {
-        self.calls.note(call, number, true, bytes);
+        self.calls.note(call, number, is_done, bytes);
     }
 
     /// How many pages `media` has: none where it isn't there. A last one that is there in part counts.
     pub fn look_for_pages(&mut self) -> io::Result<u64>
-        ensures noted { MatchResult result
-            (λ n. self.new.calls.events ≡ pages_counted n ∷ self.old.calls.events)
-            (λ _. self.new.calls.events ≡ self.old.calls.events) }
+        ensures noted { NotesCount result self.old.calls.events self.new.calls.events }
     {
-        self.len = length_of(&self.media)?;
-        let pages = self.len.div_ceil(media_file::PAGE_LEN);
-        self.calls.note(FileCall::CountPages, pages, true, &[]);
-        Ok(pages)
+        match length_of(&self.media) {
+            Ok(len) => {
+                self.len = len;
+                let pages = len.div_ceil(media_file::PAGE_LEN);
+                self.calls.note(FileCall::CountPages, pages, true, &[]);
+                Ok(pages)
+            }
+            Err(error) => {
+                self.calls.note(FileCall::CountPages, 0, false, &[]);
+                Err(error)
+            }
+        }
     }
 
     /// Reads the page of `RECORD` bytes at an address. What is missing of the last one reads as zeros.
     pub fn look_at_page(&mut self, addr: u64, into: &mut [u8]) -> io::Result<()>
         requires { length into.old ≡ RECORD }
-        ensures noted { MatchResult result
-            (λ _. self.new.calls.events ≡ page_read addr into.new ∷ self.old.calls.events)
-            (λ _. self.new.calls.events ≡ self.old.calls.events) }
+        ensures noted { self.new.calls.events ≡ page_read addr (is_ok result) into.new ∷ self.old.calls.events }
     {
-        let Some(media) = &mut self.media else {
-            return Err(ErrorKind::NotFound.into());
+        let answer = match &mut self.media {
+            Some(media) => media_file::read_part_at(media, self.len, addr, into),
+            None => Err(ErrorKind::NotFound.into()),
         };
-        media_file::read_part_at(media, self.len, addr, into)?;
-        self.calls.note(FileCall::ReadPage, addr, true, into);
-        Ok(())
+        self.calls
+            .note(FileCall::ReadPage, addr, answer.is_ok(), into);
+        answer
     }
 }
 

@@ -65,7 +65,7 @@ impl<R: Files + Alloc + Clone + Drop> FolderCalls for StdFiles<R> {
         match answer {
             Ok(None) => self.pages.note(FileCall::ReadRoot, 0, true, &[]),
             Ok(Some(n)) => self.pages.note(FileCall::ReadRoot, 1, true, &into[..n]),
-            Err(_) => {}
+            Err(_) => self.pages.note(FileCall::ReadRoot, 0, false, &[]),
         }
         answer
     }

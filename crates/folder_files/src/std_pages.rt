@@ -44,17 +44,17 @@ impl<R: Files> PageCalls for StdPages<R> {
 
     fn count_pages(&mut self) -> io::Result<u64> {
         let answer = media_file::count_whole(&self.media);
-        if let Ok(pages) = answer {
-            self.calls.note(FileCall::CountPages, pages, true, &[]);
+        match answer {
+            Ok(pages) => self.calls.note(FileCall::CountPages, pages, true, &[]),
+            Err(_) => self.calls.note(FileCall::CountPages, 0, false, &[]),
         }
         answer
     }
 
     fn read_page(&mut self, addr: u64, into: &mut [u8]) -> io::Result<()> {
         let answer = media_file::read_at(&mut self.media, addr, into);
-        if answer.is_ok() {
-            self.calls.note(FileCall::ReadPage, addr, true, into);
-        }
+        self.calls
+            .note(FileCall::ReadPage, addr, answer.is_ok(), into);
         answer
     }
 
