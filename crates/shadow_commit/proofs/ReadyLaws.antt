@@ -1,6 +1,6 @@
 -- Why a commit that is ready stands.
-use Rattle.std.proofs.Common.{◌≡◌, inl, false, ℕ, zero, suc, ◌+◌, ◌-◌, ◌%◌, ◌<◌, ◌≤◌, ◌^◌, List, [], ◌∷◌, ◌++◌, Some, length, map, refl, sym, ap, subst, ◌∙◌, arith, length-append}
-use Rattle.std.specs.Prelude.{All, Contains, Option, None, ◌==◌, if◌then◌else◌}
+use Rattle.std.proofs.Common.{◌≡◌, inl, inr, false, ℕ, zero, suc, ◌+◌, ◌-◌, ◌%◌, ◌<◌, ◌≤◌, ◌^◌, List, [], ◌∷◌, ◌++◌, Some, length, map, refl, sym, ap, subst, ◌∙◌, arith, length-append}
+use Rattle.std.specs.Prelude.{All, Contains, Option, None, Err, IsErrOf, ◌==◌, if◌then◌else◌}
 use Rattle.std.proofs.lemmas.Bool.Decides.{nat_tests}
 use Rattle.std.specs.List.{AllByRecursion}
 use Rattle.std.specs.FinMap.{from_entries}
@@ -8,6 +8,12 @@ use Rattle.std.proofs.lemmas.List.{length-map}
 use Rattle.std.proofs.lemmas.List.Elements.{All-from_recursion, recursion_from_All}
 use Rattle.std.proofs.lemmas.List.Sorted.{All-permutation, Contains-permutation, IsPermutation-sym}
 use Rattle.std.specs.List.Sorted.{IsPermutation}
+use Rattle.sdbt_base.specs.Faults.{TellsOf}
+use Rattle.sdbt_base.specs.declared.tapes.Tape.{Ghosts as TapeGhosts}
+use Rattle.platform.specs.declared.platforms.Platform.{Ghosts as PlatformGhosts}
+use Rattle.page_store.specs.declared.refusals.AppendFault.{AppendFault}
+use Rattle.page_store.specs.declared.refusals.AppendFault.TheVariants as appends
+use Rattle.shadow_commit.specs.Refusals.{refused}
 use Rattle.platform.specs.Image.{Image, IsWhole, all_synced, with_cell}
 use Rattle.sdbt_base.specs.Keys.{bare, key_size, most_entries}
 use Rattle.record_versions.specs.Versions.{IsVersion}
@@ -41,7 +47,7 @@ use Rattle.shadow_commit.specs.NewTree.{place_of, keys_at, AreNodesOver}
 use Rattle.shadow_commit.specs.Handing.{StopsFrom}
 use Rattle.shadow_commit.proofs.StepLaws.{stops_none}
 use Rattle.shadow_commit.proofs.KeyLaws.{AreKnown, keys_in, append_within, known_within, listed_at, child_known}
-use Rattle.shadow_commit.specs.Ready.{CanPrepare, CanSealTop, Stand, IsNextRoot, StandsWith, CertifiesBy, IsSealed, ListsNewTree}
+use Rattle.shadow_commit.specs.Ready.{CanPrepare, CanSealTop, Stand, IsNextRoot, StandsWith, CertifiesBy, IsSealed, IsPrepareCause, ListsNewTree, SyncsBehind}
 use Rattle.shadow_commit.proofs.TreeLaws.{node_tree, has_stays, all_append}
 use Rattle.shadow_commit.proofs.OrderLaws.{node_in_order, records_at}
 use Rattle.shadow_commit.proofs.ApartLaws.{IsWithin, ReadsAs, with_fresh, fresh_within, kept_reads, fresh_reads}
@@ -351,6 +357,22 @@ stops_at version head places places' tells old new drawn drawn_now same h = subs
 
 pub within_as : (head : ℕ) (root : Root) (mapped : ℕ) (grove : Grove) (top : Child) → CanPrepare head root mapped grove → top ≡ grove.top → (now : ℕ) → now ≤ head + nodes (suc (grove.level - 1)) top → now ≤ head + grown_in grove
 within_as head root mapped grove top can same now h = omega (arith, h, ap (nodes (suc (grove.level - 1))) same, grown_are grove can.sound)
+
+-- the nodes of the top are those in memory
+pub behind_as : {S : Type 0} (P : PlatformGhosts S) (platform platform_now : S) (root : Root) (mapped : ℕ) (grove : Grove) (top : Child) → CanPrepare (P.head platform) root mapped grove → top ≡ grove.top
+    → SyncsBehind P (nodes (suc (grove.level - 1)) top) platform platform_now → SyncsBehind P (grown_in grove) platform platform_now
+behind_as P platform platform_now root mapped grove top can same behind told = elim (behind told) [
+  | inl unsynced ↦ inl unsynced
+  | inr all ↦ inr (omega (arith, all, ap (nodes (suc (grove.level - 1))) same, grown_are grove can.sound))
+]
+
+-- why a commit was not prepared where the sealing of its tree failed
+pub next_refused : {S R : Type 0} (P : PlatformGhosts S) (T : TapeGhosts R) (platform platform_now : S) (tape tape_now : R) (grown : ℕ) (fault : AppendFault) → grown ≤ P.capacity platform - P.head platform
+    → TellsOf {T = Root} {E = AppendFault} appends.PlatformFault (Err fault) (P.faults platform) (P.faults platform_now) → TellsOf {T = Root} {E = AppendFault} appends.TapeFault (Err fault) (T.faults tape) (T.faults tape_now)
+    → (P.tells → IsErrOf {T = Root} {E = AppendFault} (Err fault) appends.TapeFault → P.changes platform_now ≡ P.changes platform) → SyncsBehind P grown platform platform_now
+    → IsPrepareCause P T platform platform_now tape tape_now grown (Err (refused fault))
+next_refused P T platform platform_now tape tape_now grown appends.TapeFault fits one other unsynced behind = (fits, other.failed (cc), one.refused (λ same. absurd cc), λ told. unsynced told (cc))
+next_refused P T platform platform_now tape tape_now grown appends.PlatformFault fits one other unsynced behind = (fits, one.failed (cc), other.refused (λ same. absurd cc), behind)
 
 pub pages_sealed : (old written new : Image) (ns : List Sealed) → new ≡ all_synced written → written ≡ with_nodes old ns → new.recorded ≡ old.recorded ++ map page_of ns
 pages_sealed old written new ns synced is = ap (λ (i : Image). i.recorded) synced ∙ ap (λ (i : Image). i.recorded) is

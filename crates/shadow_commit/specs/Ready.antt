@@ -1,5 +1,5 @@
 -- A commit that is ready but for its root record.
-use Rattle.std.specs.Prelude.{◌≡◌, ◌≢◌, ◌-◌, ℕ, suc, ◌+◌, ◌<◌, ◌≤◌, List, Option, None, Some, Result, Ok, Err, All, AllPairs, Contains, length, slice_get}
+use Rattle.std.specs.Prelude.{◌≡◌, ◌≢◌, ◌⊎◌, ◌-◌, ℕ, suc, ◌+◌, ◌<◌, ◌≤◌, List, Option, None, Some, Result, Ok, Err, All, AllPairs, Contains, length, slice_get}
 use Rattle.std.specs.FinMap.{from_entries}
 use Rattle.sdbt_base.specs.Arrays.{Device}
 use Rattle.sdbt_base.specs.Faults.{Rose}
@@ -128,8 +128,12 @@ abbrev pub ListsNewTree : Image → Image → ℕ → List Stub → ℕ → Root
 ListsNewTree old new order places mapped next keys =
     (each : List Parts) → Stand old order places each mapped → All (λ p. Contains keys (bare p.key)) (joined each).places → KnowsTree keys new.readable next
 
--- there was room for the nodes in memory exactly where it isn't full; want of room and of memory leave all as it was; and but for the object that an
--- answer names none failed
+-- nothing was synced before so many pages were added
+abbrev pub SyncsBehind : {S : Type 0} → PlatformGhosts S → ℕ → S → S → Type 0
+SyncsBehind P pages platform platform_now = P.tells → (P.changes platform_now ≡ P.changes platform) ⊎ (P.head platform_now ≡ P.head platform + pages)
+
+-- there was room for the nodes in memory exactly where it isn't full; want of room and of memory leave all as it was; where no key was drawn nothing was
+-- synced, and where the platform failed not before all nodes had their pages; and but for the object that an answer names none failed
 abbrev pub IsPrepareCause : {S R : Type 0} → PlatformGhosts S → TapeGhosts R → S → S → R → R → ℕ → Result Prepared CommitRefusal → Type 0
 IsPrepareCause P T platform platform_now tape tape_now grown (Ok prepared) =
     (grown ≤ P.capacity platform - P.head platform) × (P.faults platform_now ≡ P.faults platform) × (T.faults tape_now ≡ T.faults tape)
@@ -138,9 +142,9 @@ IsPrepareCause P T platform platform_now tape tape_now grown (Err (refused.Full 
 IsPrepareCause P T platform platform_now tape tape_now grown (Err refused.Memory) =
     (grown ≤ P.capacity platform - P.head platform) × (platform_now ≡ platform) × (tape_now ≡ tape)
 IsPrepareCause P T platform platform_now tape tape_now grown (Err refused.TapeFault) =
-    (grown ≤ P.capacity platform - P.head platform) × Rose (T.faults tape) (T.faults tape_now) × (P.faults platform_now ≡ P.faults platform)
+    (grown ≤ P.capacity platform - P.head platform) × Rose (T.faults tape) (T.faults tape_now) × (P.faults platform_now ≡ P.faults platform) × (P.tells → P.changes platform_now ≡ P.changes platform)
 IsPrepareCause P T platform platform_now tape tape_now grown (Err refused.PlatformFault) =
-    (grown ≤ P.capacity platform - P.head platform) × Rose (P.faults platform) (P.faults platform_now) × (T.faults tape_now ≡ T.faults tape)
+    (grown ≤ P.capacity platform - P.head platform) × Rose (P.faults platform) (P.faults platform_now) × (T.faults tape_now ≡ T.faults tape) × SyncsBehind P grown platform platform_now
 
 -- nothing was begun, for want of room or of memory
 abbrev pub IsUnbegun : Result Prepared CommitRefusal → Type 0

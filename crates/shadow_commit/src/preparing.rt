@@ -1,12 +1,12 @@
 //! A commit up to its root record.
-ghost use Rattle.std.specs.Prelude.{◌≡◌, ◌≤◌, ◌+◌, ◌*◌, suc, vec_len, vec_capacity, IfOk, IsErr};
+ghost use Rattle.std.specs.Prelude.{◌≡◌, ◌≤◌, ◌+◌, ◌*◌, suc, vec_len, vec_capacity, IfOk, IsErr, IsErrOf};
 ghost use Rattle.sdbt_base.specs.Faults.{TellsOf};
 ghost use Rattle.page_store.specs.Keeping.{KeepsKeys};
 ghost use Rattle.btree_twigs.specs.Stubs.{stubs, nodes};
 ghost use Rattle.btree_twigs.specs.Top.{child_level};
 ghost use Rattle.btree_update.specs.Groves.{places_of, grown_in};
 ghost use Rattle.shadow_commit.specs.Handing.{OnlyAdds, KnowsPlaces, StopsFrom};
-ghost use Rattle.shadow_commit.specs.Ready.{CanPrepare, CanSealTop, IsSealed, IsReady, IsPrepareCause, IsUnbegun, ListsNewTree};
+ghost use Rattle.shadow_commit.specs.Ready.{CanPrepare, CanSealTop, IsSealed, IsReady, IsPrepareCause, IsUnbegun, ListsNewTree, SyncsBehind};
 
 use crate::certifying::certify;
 use crate::prepared::Prepared;
@@ -96,6 +96,8 @@ fn seal_all<P: Platform, T: Tape>(
     ensures stops { (at : CanSealTop (P.head platform.old) (P.capacity platform.old) root.now mapped top.now) → IsErr result →
         StopsFrom root.now.version (P.head platform.old) (stubs (suc at.level) root.now.blocks top.now) P.tells (P.history platform.old).present (P.history platform.new).present (T.drawn tape.old) (T.drawn tape.new) }
     ensures beside { OnlyAdds P.Platform T.Tape 1 platform.old platform.new tape.old tape.new }
+    ensures unsynced { P.tells → IsErrOf result AppendFault.TapeFault → P.changes platform.new ≡ P.changes platform.old }
+    ensures behind { (at : CanSealTop (P.head platform.old) (P.capacity platform.old) root.now mapped top.now) → SyncsBehind P.Platform (nodes (suc at.level) top.now) platform.old platform.new }
     ensures platform_cause { TellsOf AppendFault.PlatformFault result (P.faults platform.old) (P.faults platform.new) }
     ensures tape_cause { TellsOf AppendFault.TapeFault result (T.faults tape.old) (T.faults tape.new) }
     ensures same_room { vec_capacity entries.new ≡ vec_capacity entries.old }

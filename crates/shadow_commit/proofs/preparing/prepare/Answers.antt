@@ -10,7 +10,7 @@ use Rattle.node_cache.specs.Cached.{forgotten}
 use Rattle.shadow_commit.specs.Ready.{ListsNewTree}
 use Rattle.shadow_commit.proofs.KeyLaws.{AreKnown, keeps_sealed, keeps_stopped, places_more_keys}
 use Rattle.shadow_commit.proofs.PlanLaws.{grown_is}
-use Rattle.shadow_commit.proofs.ReadyLaws.{stops_before, stops_at, grove_twig, can_top, can_twig, sealed_as, certifies_same, knows_new_tree, same_places, pages_sealed, within_as}
+use Rattle.shadow_commit.proofs.ReadyLaws.{stops_before, stops_at, grove_twig, can_top, can_twig, sealed_as, certifies_same, knows_new_tree, same_places, pages_sealed, within_as, behind_as, next_refused}
 use Rattle.std.proofs.lemmas.Result.{err_from_is_err_and}
 use Rattle.shadow_commit.proofs.preparing.prepare.Goals as goal
 
@@ -151,3 +151,18 @@ returns-in_err-next-clause-keeps g c =
     keeps_stopped c.args.root.now.version g.P.Platform.tells (g.T.Tape.drawn c.args.tape.now) (g.T.Tape.drawn c.seal_all.new.tape) (g.P.Platform.history c.args.platform.now) (g.P.Platform.history c.seal_all.new.platform) head (places_of grove)
     c.seal_all.ensures.beside.cell (λ told. g.met.P.Platform.counts_pages told c.args.platform.now)
     (λ told. omega (arith, g.met.P.Platform.counts_pages told c.seal_all.new.platform, g.met.P.Platform.has_room c.seal_all.new.platform, g.met.P.Platform.is_limited c.seal_all.new.platform)) stops)
+
+pub returns-in_err-next-clause-cause : goal.returns-in_err-next-clause-cause
+returns-in_err-next-clause-cause g c =
+    let p = err_from_is_err_and c.from_residual-in_err-next.result c.from_residual-in_err-next.ensures.1 in
+    let can = c.requires.can in
+    let root = c.args.root.now in
+    let grove = c.args.grove.now in
+    let head = g.P.Platform.head c.args.platform.now in
+    let capacity = g.P.Platform.capacity c.args.platform.now in
+    let fits : grown_in grove ≤ capacity - head = omega (arith, c.if-needed-free.false, c.grown-needed.ensures, c.head-head.ensures.value, c.head-head.ensures.room, c.capacity.ensures.value) in
+    let room : head + grown_in grove ≤ capacity = omega (arith, c.if-needed-free.false, c.grown-needed.ensures, c.head-head.ensures.value, c.head-head.ensures.room, c.capacity.ensures.value) in
+    rw (p.1, p.2) (next_refused g.P.Platform g.T.Tape c.args.platform.now c.seal_all.new.platform c.args.tape.now c.seal_all.new.tape (grown_in grove) c.in_err-next.field-0.0 fits
+    c.in_err-next.ensures.platform_cause c.in_err-next.ensures.tape_cause c.in_err-next.ensures.unsynced
+    (behind_as g.P.Platform c.args.platform.now c.seal_all.new.platform root c.args.mapped grove c.top-2.result.now can c.top-2.ensures
+    (c.seal_all.ensures.behind (can_top head capacity root c.args.mapped grove c.top-2.result.now c.top-2.ensures can room))))

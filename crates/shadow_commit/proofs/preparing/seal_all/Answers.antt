@@ -1,20 +1,51 @@
-use Rattle.std.proofs.Common.{◌≡◌, inl, ℕ, suc, ◌+◌, ◌≤◌, ◌^◌, List, [], ◌++◌, append-nil, length, refl, sym, ap, subst, ◌∙◌, arith, rules}
+use Rattle.std.proofs.Common.{◌≡◌, inl, inr, ℕ, suc, ◌+◌, ◌≤◌, ◌^◌, List, [], ◌++◌, append-nil, length, refl, sym, ap, subst, ◌∙◌, arith, rules}
 use Rattle.platform.specs.Image.{all_synced}
 use Rattle.platform.proofs.Moments.{whole-now}
 use Rattle.root_codec.specs.declared.root.Root.{Root}
 use Rattle.btree_twigs.specs.declared.twigs.Twig.{out-Twig}
-use Rattle.btree_twigs.specs.Stubs.{children_of, stubs, stubs_below}
+use Rattle.btree_twigs.specs.Stubs.{children_of, nodes, stubs, stubs_below}
 use Rattle.btree_twigs.specs.Top.{top_least}
 use Rattle.shadow_commit.specs.Sealed.{Sealed, SealsNode, Seals}
 use Rattle.shadow_commit.specs.Caching.{AreCached}
 use Rattle.shadow_commit.specs.NewTree.{AreNodesOver, KeysAreFrom, keys_at}
 use Rattle.shadow_commit.proofs.SealLaws.{child_count}
-use Rattle.shadow_commit.specs.Ready.{IsNextRoot}
+use Rattle.shadow_commit.specs.Ready.{CanSealTop, IsNextRoot}
 use Rattle.shadow_commit.proofs.KeyLaws.{node_keys}
 use Rattle.shadow_commit.proofs.OrderLaws.{node_in_order}
 use Rattle.shadow_commit.proofs.StepLaws.{grown_level, seals_grown, beside_call, beside_then, beside_unsynced, counted_once, adds_stops, stops_none, stops_as}
 use Rattle.shadow_commit.proofs.ReadyLaws.{root_twig, can_root, top_low, stands_with, next_fits, one_more}
+use Rattle.shadow_commit.proofs.preparing.seal_all.Given.{Over}
+use Rattle.shadow_commit.proofs.preparing.seal_all.Goals.{After-sync}
 use Rattle.shadow_commit.proofs.preparing.seal_all.Goals as goal
+
+-- behind the sync each node has its page
+added : (g : Over) (c : After-sync g) → (at : CanSealTop (g.P.Platform.head c.args.platform.now) (g.P.Platform.capacity c.args.platform.now) c.args.root.now c.args.mapped c.args.top.now)
+    → g.P.Platform.head c.sync.new.self ≡ g.P.Platform.head c.args.platform.now + nodes (suc at.level) c.args.top.now
+added g c at =
+    let head = g.P.Platform.head c.args.platform.now in
+    let root = c.args.root.now in
+    let top = c.args.top.now in
+    let twig = c.in-Grown.twig in
+    let placed = c.in_ok-placed.placed in
+    let s = root_twig root.version root.order root.blocks at.level head c.in-Grown.low top twig c.in-Grown.is at.shaped at.below in
+    let A = c.in_ok-placed.ensures.sealed (can_root head (g.P.Platform.capacity c.args.platform.now) root c.args.mapped top twig at s) in
+    let ns = A.nodes in
+    let is : Seals root.version (suc at.level) head top ns (record { low = 0; addr = placed.addr; key = placed.key })
+    = subst (λ low. Seals root.version (suc at.level) head top ns (record { low = low; addr = placed.addr; key = placed.key })) (top_low root.order root.blocks at.level c.in-Grown.low top twig c.in-Grown.is at.shaped)
+    (seals_grown root.version (suc at.level) at.level head top c.in-Grown.low twig ns placed.addr placed.key c.in-Grown.is refl A.is.0) in
+    c.sync.ensures.head ∙ A.head ∙ ap (λ n. head + n) (child_count root.version (suc at.level) head top ns (record { low = 0; addr = placed.addr; key = placed.key }) is)
+
+pub returns-in_err-placed-clause-unsynced : goal.returns-in_err-placed-clause-unsynced
+returns-in_err-placed-clause-unsynced g c = λ told err. let few = c.seal_twig.ensures.beside.changes told in let least = few.rises in let most = few.at_most in omega (arith, least, most)
+
+pub returns-in_err-placed-clause-behind : goal.returns-in_err-placed-clause-behind
+returns-in_err-placed-clause-behind g c at = λ told. let few = c.seal_twig.ensures.beside.changes told in let least = few.rises in let most = few.at_most in inl (omega (arith, least, most))
+
+pub returns-in_default-sync-clause-behind : goal.returns-in_default-sync-clause-behind
+returns-in_default-sync-clause-behind g c at = λ told. inr (added g (goal.at.returns-in_default-sync-clause-behind g c).After-sync at)
+
+pub returns-clause-behind : goal.returns-clause-behind
+returns-clause-behind g c at = λ told. inr (added g (goal.at.returns-clause-behind g c).After-sync at)
 
 pub seal_twig-requires-clause-can : goal.seal_twig-requires-clause-can
 seal_twig-requires-clause-can g c =
