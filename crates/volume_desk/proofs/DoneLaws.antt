@@ -25,7 +25,7 @@ use Rattle.volume_lines.specs.Replies.{Reply, said}
 use Rattle.volume_lines.specs.declared.replies.Reply.{Reply as Given}
 use Rattle.volume_lines.specs.declared.replies.Reply.TheVariants as given
 use Rattle.volume_desk.specs.Causes.{AnswersAlong, AnswersOver, IsAccepted, IsShortOf, Sizes, TurnsTable}
-use Rattle.volume_desk.specs.Done.{DoesAny, HasCleared, HasTrimmed, IsCleared, IsLookedUp, IsUnmapped, IsWritten, KeepsAll, WasOver}
+use Rattle.volume_desk.specs.Done.{DoesAny, HasCleared, HasTrimmed, IsCleared, IsCommitted, IsLookedUp, IsUnmapped, IsWritten, KeepsAll, WasOver}
 use Rattle.volume_desk.proofs.CauseLaws.{commit_turns, destroy_turns, read_done}
 use Rattle.volume_desk.specs.Turns.{IsBlockAt, NoBlock, commit_reply, destroy_reply}
 
@@ -132,13 +132,13 @@ refused_over tells before session here table it name block reply buffer none tur
     let Known : Type 0 = tells × IsMounted before session in
     (turns, no_block_does (λ Claim. Known → Claim before session before session) (λ Claim. Known → Claim before session before session) table table it name block reply buffer (λ known. keeps_all before session) none)
 
--- behind a commit the session has no change of its own, and where too few pages are free all is as it was
-commit_does : (Did HadLeft : (Image → Session → Image → Session → Type 0) → Type 0) (table next : List Volume) (reply : CommitReply) (answer : Given) (buffer : List ℕ) → answer ≡ commit_reply reply → ((number : ℕ) → reply ≡ commits.Committed number → Did (λ before session image now. needed_by now ≡ 0))
+-- behind a commit the session has no change of its own, and the number that is told, and where too few pages are free all is as it was
+commit_does : (Did HadLeft : (Image → Session → Image → Session → Type 0) → Type 0) (table next : List Volume) (reply : CommitReply) (answer : Given) (buffer : List ℕ) → answer ≡ commit_reply reply → ((number : ℕ) → reply ≡ commits.Committed number → Did (λ before session image now. IsCommitted number now))
     → ((needed free : ℕ) → reply ≡ commits.Full needed free → Did KeepsAll) → DoesAny Did HadLeft table (said answer buffer) Commit next
 commit_does Did HadLeft table next (commits.Committed number) answer buffer is needs short = subst (λ (a : Given). DoesAny Did HadLeft table (said a buffer) Commit next) (sym is) (needs number refl)
 commit_does Did HadLeft table next (commits.Full needed free) answer buffer is needs short = subst (λ (a : Given). DoesAny Did HadLeft table (said a buffer) Commit next) (sym is) (short needed free refl)
 
-pub commit_along : (tells : Type 0) (old new : History) (session now : Session) (here : Sizes) (table : List Volume) (reply : CommitReply) (answer : Given) (buffer : List ℕ) → answer ≡ commit_reply reply → ((number : ℕ) → reply ≡ commits.Committed number → needed_by now ≡ 0)
+pub commit_along : (tells : Type 0) (old new : History) (session now : Session) (here : Sizes) (table : List Volume) (reply : CommitReply) (answer : Given) (buffer : List ℕ) → answer ≡ commit_reply reply → ((number : ℕ) → reply ≡ commits.Committed number → IsCommitted number now)
     → ((needed free : ℕ) → reply ≡ commits.Full needed free → KeepsAll old.present session new.present now)
     → ((needed free : ℕ) → reply ≡ commits.Full needed free → IsShortOf here (needed_by session)) → AnswersAlong tells old new session (Some now) here table table Commit buffer (Ok answer)
 commit_along tells old new session now here table reply answer buffer is needs short lacks = (
@@ -149,13 +149,13 @@ commit_along tells old new session now here table reply answer buffer is needs s
 
 -- a destroy left this before its commit, and where too few pages were free for that it is so still
 destroy_does : (Did HadLeft : (Image → Session → Image → Session → Type 0) → Type 0) (table next : List Volume) (name : List ℕ) (reply : CommitReply) (answer : Given) (buffer : List ℕ) → answer ≡ destroy_reply reply
-    → HadLeft (λ before session image now. IsCleared before session image now table name next) → ((number : ℕ) → reply ≡ commits.Committed number → Did (λ before session image now. needed_by now ≡ 0))
+    → HadLeft (λ before session image now. IsCleared before session image now table name next) → ((number : ℕ) → reply ≡ commits.Committed number → Did (λ before session image now. IsCommitted number now))
     → ((needed free : ℕ) → reply ≡ commits.Full needed free → Did (λ before session image now. IsCleared before session image now table name next)) → DoesAny Did HadLeft table (said answer buffer) (Destroy name) next
 destroy_does Did HadLeft table next name (commits.Committed number) answer buffer is had needs left = subst (λ (a : Given). DoesAny Did HadLeft table (said a buffer) (Destroy name) next) (sym is) (had, needs number refl)
 destroy_does Did HadLeft table next name (commits.Full needed free) answer buffer is had needs left = subst (λ (a : Given). DoesAny Did HadLeft table (said a buffer) (Destroy name) next) (sym is) (left needed free refl)
 
 pub destroy_along : (tells : Type 0) (old new : History) (session now : Session) (here : Sizes) (table next : List Volume) (name : List ℕ) (reply : CommitReply) (answer : Given) (buffer : List ℕ) → answer ≡ destroy_reply reply
-    → IsAccepted here.blocks table (Destroy name) next → (tells → WasOver (moment old) (moment new) new (λ image s. IsCleared old.present session image s table name next)) → ((number : ℕ) → reply ≡ commits.Committed number → needed_by now ≡ 0)
+    → IsAccepted here.blocks table (Destroy name) next → (tells → WasOver (moment old) (moment new) new (λ image s. IsCleared old.present session image s table name next)) → ((number : ℕ) → reply ≡ commits.Committed number → IsCommitted number now)
     → ((needed free : ℕ) → reply ≡ commits.Full needed free → tells → IsCleared old.present session new.present now table name next) → ((needed free : ℕ) → reply ≡ commits.Full needed free → IsShortOf here (needed_by now))
     → AnswersAlong tells old new session (Some now) here table next (Destroy name) buffer (Ok answer)
 destroy_along tells old new session now here table next name reply answer buffer is accepted had needs left short = (
@@ -165,9 +165,9 @@ destroy_along tells old new session now here table next name reply answer buffer
 )
 
 pub needs_behind : {S R W : Type 0} (P : PlatformGhosts S) (platform platform_now : S) (tape tape_now : R) (ledger ledger_now : W) (session now : Session) (reply : CommitReply) (number : ℕ) → reply ≡ commits.Committed number
-    → AnswersReply P platform platform_now tape tape_now ledger ledger_now session now reply → needed_by now ≡ 0
+    → AnswersReply P platform platform_now tape tape_now ledger ledger_now session now reply → IsCommitted number now
 needs_behind P platform platform_now tape tape_now ledger ledger_now session now reply number is answers =
-    let done = subst (λ (r : CommitReply). AnswersReply P platform platform_now tape tape_now ledger ledger_now session now r) is answers in done.needs
+    let done = subst (λ (r : CommitReply). AnswersReply P platform platform_now tape tape_now ledger ledger_now session now r) is answers in (done.needs, done.is_number)
 
 pub short_still : {S R W : Type 0} (P : PlatformGhosts S) (platform platform_now : S) (tape tape_now : R) (ledger ledger_now : W) (session now : Session) (reply : CommitReply) (needed free : ℕ) (Claim : Image → Session → Type 0) → reply ≡ commits.Full needed free
     → AnswersReply P platform platform_now tape tape_now ledger ledger_now session now reply → Claim (P.history platform).present session → Claim (P.history platform_now).present now

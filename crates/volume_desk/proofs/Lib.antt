@@ -4,3 +4,4 @@ pub mod CauseLaws
 pub mod ReadLaws
 pub mod DoneLaws
 pub mod DrawingLaws
+pub mod SyncLaws

@@ -4,7 +4,7 @@ use Rattle.sdbt_base.specs.Arrays.{padded}
 use Rattle.platform.specs.Image.{Image}
 use Rattle.platform.specs.History.{History, image_at}
 use Rattle.device_session.specs.Damage.{IsFound}
-use Rattle.device_session.specs.Open.{blocks_of, needed_by}
+use Rattle.device_session.specs.Open.{blocks_of, needed_by, number_of}
 use Rattle.device_session.specs.Reading.{FindsContent, KeepsBlock, KeepsOthers}
 use Rattle.device_session.specs.Sessions.{Session}
 use Rattle.script_lang.specs.Arrays.{trimmed}
@@ -81,16 +81,20 @@ pub record HasCleared (before : Image) (session : Session) (image : Image) (now 
 abbrev pub IsCleared : Image → Session → Image → Session → List Volume → List ℕ → List Volume → Type 0
 IsCleared before session image now table name next = (v : Volume) × IsNamed table name v × HasCleared before session image now v next
 
+-- the session has no change of its own, and its root record this number
+abbrev pub IsCommitted : ℕ → Session → Type 0
+IsCommitted number now = (needed_by now ≡ 0) × (number ≡ number_of now)
+
 -- ---- a reply
 
 -- what a line did, by its reply, over this table, and the table behind it: a read found what it gives, a write left its content, a trim nothing at its block, and a volume that came or went none of its blocks, and the
--- table in block 0. A destroy that was committed had left that before its commit, and behind a commit the session has no change of its own. All else is as it was
+-- table in block 0. A destroy that was committed had left that before its commit, and behind a commit the session has no change of its own, and the number that is told is that of its root record. All else is as it was
 abbrev pub DoesAny : ((Image → Session → Image → Session → Type 0) → Type 0) → ((Image → Session → Image → Session → Type 0) → Type 0) → List Volume → Reply → Line → List Volume → Type 0
 DoesAny Did HadLeft table (Content bytes) (Read name block) next = Did (λ before session image now. IsLookedUp before session table name block bytes × KeepsAll before session image now)
 DoesAny Did HadLeft table Done (Write name block bytes) next = Did (λ before session image now. IsWritten before session image now table name block bytes)
 DoesAny Did HadLeft table Done (Trim name block) next = Did (λ before session image now. IsUnmapped before session image now table name block)
 DoesAny Did HadLeft table Created (Create name count) next = Did (λ before session image now. IsCleared before session image now next name next)
-DoesAny Did HadLeft table (Destroyed number) (Destroy name) next = HadLeft (λ before session image now. IsCleared before session image now table name next) × Did (λ before session image now. needed_by now ≡ 0)
+DoesAny Did HadLeft table (Destroyed number) (Destroy name) next = HadLeft (λ before session image now. IsCleared before session image now table name next) × Did (λ before session image now. IsCommitted number now)
 DoesAny Did HadLeft table Uncommitted (Destroy name) next = Did (λ before session image now. IsCleared before session image now table name next)
-DoesAny Did HadLeft table (Committed number) Commit next = Did (λ before session image now. needed_by now ≡ 0)
+DoesAny Did HadLeft table (Committed number) Commit next = Did (λ before session image now. IsCommitted number now)
 DoesAny Did HadLeft table _ _ next = Did KeepsAll

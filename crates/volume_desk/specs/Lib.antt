@@ -3,3 +3,4 @@ pub mod Causes
 pub mod Done
 pub mod Reads
 pub mod Drawing
+pub mod Syncs

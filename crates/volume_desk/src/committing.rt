@@ -15,6 +15,8 @@ ghost use Rattle.session_calls.specs.Carrying.{Carries, IsReady};
 ghost use Rattle.volume_desk.specs.Causes.{AnswersAlong, TakesOver, answer_in, sizes};
 ghost use Rattle.volume_desk.specs.Drawing.{Spends, TakesDrew, tally};
 ghost use Rattle.volume_desk.specs.Reads.{reads_out};
+ghost use Rattle.platform.specs.Counts.{MayRiseBy};
+ghost use Rattle.volume_desk.specs.Syncs.{changes_in};
 ghost use Rattle.volume_desk.specs.Turns.{IsHeld, ServesAs, TakesOut, commit_reply, destroy_reply, goes_on};
 
 use crate::changing::change;
@@ -49,6 +51,7 @@ pub(crate) fn commit<P: Platform, T: Tape, L: Sink>(
     // Which keys it draws, each for a page, and that it reads no page.
     ensures spends { (table : List Volume) (buffer : List ℕ) → Spends P.tells tape.old tape.new (tally (T.drawn tape.old) (P.head platform.old)) (tally (T.drawn tape.new) (P.head platform.new))
         (P.reads platform.old) (P.reads platform.new) table lines.Commit buffer (answer_in result) }
+    ensures changes { P.tells → (buffer : List ℕ) → MayRiseBy (changes_in lines.Commit buffer (answer_in result)) (P.changes platform.old) (P.changes platform.new) }
 {
     match commit_session(session, platform, tape, ledger) {
         Ok(done) => Ok(Answered {
@@ -95,6 +98,7 @@ pub(crate) fn destroy<P: Platform, T: Tape, L: Sink>(
     // Which keys it draws, each for a page, and how many pages it reads.
     ensures spends { (buffer : List ℕ) → Spends P.tells tape.old tape.new (tally (T.drawn tape.old) (P.head platform.old)) (tally (T.drawn tape.new) (P.head platform.new))
         (P.reads platform.old) (P.reads platform.new) table.old (lines.Destroy name.now) buffer (answer_in result) }
+    ensures changes { P.tells → (buffer : List ℕ) → MayRiseBy (changes_in (lines.Destroy name.now) buffer (answer_in result)) (P.changes platform.old) (P.changes platform.new) }
 {
     let mut session = first;
     let refused = match take_out(table, &mut session, platform, tape, name) {

@@ -16,6 +16,8 @@ ghost use Rattle.session_calls.specs.Carrying.{Carries, IsReady};
 ghost use Rattle.volume_desk.specs.Causes.{AnswersAlong, AnswersOver, answer_in, sizes};
 ghost use Rattle.volume_desk.specs.Drawing.{Spends, tally};
 ghost use Rattle.volume_desk.specs.Reads.{reads_in};
+ghost use Rattle.platform.specs.Counts.{MayRiseBy};
+ghost use Rattle.volume_desk.specs.Syncs.{changes_in};
 ghost use Rattle.volume_desk.specs.Turns.{HasPages, IsHeld, IsOfBlocks, ServesAs, TurnsTo, goes_on};
 
 use crate::blocks::{read, trim, write};
@@ -77,6 +79,8 @@ pub fn serve_line<P: Platform, T: Tape, L: Sink>(
     // Which keys it draws, each for a page, and how many pages it reads.
     ensures spends { Spends P.tells tape.old tape.new (tally (T.drawn tape.old) (P.head platform.old)) (tally (T.drawn tape.new) (P.head platform.new))
         (P.reads platform.old) (P.reads platform.new) desk.old.table (asked line.now desk.old.buffer) desk.new.buffer (answer_in result) }
+    // How often it syncs all pages, or replaces the root record.
+    ensures changes { P.tells → MayRiseBy (changes_in (asked line.now desk.old.buffer) desk.new.buffer (answer_in result)) (P.changes platform.old) (P.changes platform.new) }
 {
     match line {
         Line::Commit => return commit(first, platform, tape, ledger),
