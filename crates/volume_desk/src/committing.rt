@@ -15,7 +15,7 @@ ghost use Rattle.session_calls.specs.Carrying.{Carries, IsReady};
 ghost use Rattle.volume_desk.specs.Causes.{AnswersAlong, TakesOver, answer_in, sizes};
 ghost use Rattle.volume_desk.specs.Drawing.{Spends, TakesDrew, tally};
 ghost use Rattle.volume_desk.specs.Reads.{reads_out};
-ghost use Rattle.platform.specs.Counts.{MayRiseBy};
+ghost use Rattle.sdbt_base.specs.Rises.{MayRiseBy};
 ghost use Rattle.volume_desk.specs.Syncs.{changes_in};
 ghost use Rattle.volume_desk.specs.Turns.{IsHeld, ServesAs, TakesOut, commit_reply, destroy_reply, goes_on};
 

@@ -16,7 +16,7 @@ ghost use Rattle.session_calls.specs.Carrying.{Carries, IsReady};
 ghost use Rattle.volume_desk.specs.Causes.{AnswersAlong, AnswersOver, answer_in, sizes};
 ghost use Rattle.volume_desk.specs.Drawing.{Spends, tally};
 ghost use Rattle.volume_desk.specs.Reads.{reads_in};
-ghost use Rattle.platform.specs.Counts.{MayRiseBy};
+ghost use Rattle.sdbt_base.specs.Rises.{MayRiseBy};
 ghost use Rattle.volume_desk.specs.Syncs.{changes_in};
 ghost use Rattle.volume_desk.specs.Turns.{HasPages, IsHeld, IsOfBlocks, ServesAs, TurnsTo, goes_on};
 
