@@ -7,11 +7,10 @@ ghost use Rattle.page_store.specs.Tree.{Parts, Mapped, Tree};
 ghost use Rattle.btree_twigs.specs.declared.twigs.Child.TheVariants.{Kept};
 ghost use Rattle.btree_twigs.specs.Stubs.{Stub, Puts, Takes, datum, stubs};
 ghost use Rattle.btree_twigs.specs.Levels.{Node, Reshape, ReshapeDown};
-ghost use Rattle.btree_update.specs.LetGo.{AreWiped, AreWipedBeside, AreAsWide, AreAsWideBeside, IsWipedRoot};
+ghost use Rattle.btree_update.specs.LetGo.{AreWiped, AreWipedBeside, AreAsWide, AreAsWideBeside, IsWipedRoot, IsWipedGrove, IsAsWide};
 ghost use Rattle.btree_update.specs.Opens.{HasWay};
 ghost use Rattle.btree_twigs.specs.Updates.{IsOpen, HasSpares, width_of};
 ghost use Rattle.btree_twigs.specs.Top.{IsTop};
-ghost use Rattle.btree_twigs.specs.Wiped.{blank as zeros};
 ghost use Rattle.btree_update.specs.Maps.{MapPuts, MapTakes, HasBlock, LacksBlock};
 ghost use Rattle.sdbt_base.specs.Faults.{TellsOf};
 ghost use Rattle.std.specs.Bool.{OnTrue, OnFalse};
@@ -37,7 +36,7 @@ use crate::lacking::lacks_root;
 use crate::opening::{note, open_root};
 use crate::refusals::ReadyRefusal;
 use crate::siblings::is_mapped;
-use btree_twigs::{Child, Spot, Twig, blank, find, level_of, put_top, take_top, wipe};
+use btree_twigs::{Child, Spot, Twig, find, level_of, put_top, take_top, wipe};
 use btree_walk::NodeReader;
 use node_cache::NodeCache;
 use node_codec::Entry;
@@ -49,7 +48,6 @@ use std::alloc::Global;
 
 /// A device's tree while it is updated: some of its nodes are in memory, and the others on the medium as the last commit left
 /// them.
-#[derive(Drop)]
 pub struct Grove {
     order: u16,
     blocks: u64,
@@ -330,42 +328,49 @@ impl Grove {
         self.level = level_of(&self.top);
     }
 
-    /// Leaves nothing of the keys that the tree has: for one that is given up. No node is in memory then, or held.
-    pub fn clear(&mut self)
-        ensures top { self.new.top ≡ zeros }
-        ensures none_held { (self.new.held.items ≡ []) × (self.new.beside.items ≡ []) }
+    /// Leaves nothing of the keys that the tree has: for one that is given up. Its nodes stay until it is let go, with zeros in the places of
+    /// their children.
+    pub fn wipe(&mut self)
+        ensures wiped { IsWipedGrove self.new }
+        ensures many { IsAsWide self.old self.new }
         ensures rest { (self.new.order ≡ self.old.order) × (self.new.blocks ≡ self.old.blocks) × (self.new.head ≡ self.old.head) × (self.new.level ≡ self.old.level)
             × (self.new.gone ≡ self.old.gone) × (self.new.never ≡ self.old.never) }
     {
-        let_go_held(&mut self.held, &mut self.beside);
-        clear_top(&mut self.top);
+        wipe_top(&mut self.top);
+        wipe_held(&mut self.held);
+        wipe_beside(&mut self.beside);
     }
 }
 
-/// Writes zeros over a root, and over the rooms of the nodes in memory.
-fn clear_top(top: &mut Child)
-    ensures { top.new ≡ zeros }
-{
-    wipe_top(top);
-    let_go_top(top);
+/// A tree is let go once no key is left of it.
+impl Drop for Grove {
+    fn drop(self)
+        requires { IsWipedGrove self }
+    {
+        let Grove {
+            order: _,
+            blocks: _,
+            head: _,
+            level: _,
+            top: _,
+            gone: _,
+            never: _,
+            held: _,
+            beside: _,
+            spares: _,
+        } = self;
+    }
 }
 
-/// Writes zeros over the room of a root that is in memory, and over those of the nodes below it.
+/// Writes zeros over the key of a root, or over the room of one that is in memory, and over those of the nodes below it.
 fn wipe_top(top: &mut Child)
     ensures wiped { IsWipedRoot (out-Child top.new) }
     ensures many { width_of top.new ≡ width_of top.old }
 {
-    if let Child::Grown { twig, .. } = top {
-        wipe(twig);
+    match top {
+        Child::Kept { key, .. } => *key = Key::from_bytes([0; 32]),
+        Child::Grown { twig, .. } => wipe(twig),
     }
-}
-
-/// Puts zeros in the place of a root whose node has no key left.
-fn let_go_top(top: &mut Child)
-    requires { IsWipedRoot (out-Child top.old) }
-    ensures { top.new ≡ zeros }
-{
-    *top = blank();
 }
 
 /// Lets the nodes go that are held, once zeros are written over their rooms.
