@@ -16,7 +16,7 @@ use Rattle.volume_serving.proofs.serving.answer.Goals as goal
 pub returns-in_default-clause-handled : goal.returns-in_default-clause-handled
 returns-in_default-clause-handled g c text kept =
     let old : World = world g.P.Platform g.T.Tape g.L.Sink (Some c.args.session) c.args.desk.now.table c.args.platform.now c.args.tape.now c.args.ledger.now in
-    line_told g.P.Platform.tells (blocks_of c.args.session) old old.outside c.args.session c.args.desk.now.table text Bad c.tell.result (g.O.Sink.written c.args.output.now) (g.O.Sink.written c.tell.new.output)
+    line_told g.P.Platform.tells (blocks_of c.args.session) old old.outside old.changes c.args.session c.args.desk.now.table text Bad c.tell.result (g.O.Sink.written c.args.output.now) (g.O.Sink.written c.tell.new.output)
     (later_none old.outside (g.met.P.Platform.has_room c.args.platform.now)) (bad_says g.P.Platform.tells (blocks_of c.args.session) old c.args.session text refl (c.in_default.ensures.none text kept)) (λ told entry on. bad_turn old c.args.session entry text refl (c.in_default.ensures.none text kept) on) c.tell.ensures.session c.tell.ensures.put
 
 pub returns-in-Ok-clause-handled : goal.returns-in-Ok-clause-handled
@@ -26,9 +26,9 @@ returns-in-Ok-clause-handled g c text kept =
     let new : Outside = around g.P.Platform g.T.Tape g.L.Sink c.serve_line.new.platform c.serve_line.new.tape c.serve_line.new.ledger in
     let it : Line = asked c.in-Some.line c.read_line.new.buffer in
     let spends = c.in-Ok.ensures.spends in
-    let says = served_says g.P.Platform.tells (blocks_of c.args.session) old c.args.session c.in-Ok.done.session c.serve_line.new.desk.table new text it (said c.in-Ok.done.reply c.serve_line.new.desk.buffer) refl (c.in-Some.ensures.found text kept) carries.keeps.keys.extends c.in-Ok.ensures.carries.ready.mounted c.in-Ok.ensures.carries.blocks
-    c.in-Ok.ensures.any spends.drew (still_of g.T.Tape.drawn c.args.tape.now c.serve_line.new.tape (g.P.Platform.head c.args.platform.now) (g.P.Platform.head c.serve_line.new.platform) it spends.undrawn spends.unadded) spends.read (λ told. g.met.P.Platform.counts_pages told c.serve_line.new.platform) in
-    line_told g.P.Platform.tells (blocks_of c.args.session) old new c.in-Ok.done.session c.serve_line.new.desk.table text (said c.in-Ok.done.reply c.serve_line.new.desk.buffer)
+    let says = served_says g.P.Platform.tells (blocks_of c.args.session) old c.args.session c.in-Ok.done.session c.serve_line.new.desk.table new (g.P.Platform.changes c.serve_line.new.platform) text it (said c.in-Ok.done.reply c.serve_line.new.desk.buffer) refl (c.in-Some.ensures.found text kept) carries.keeps.keys.extends c.in-Ok.ensures.carries.ready.mounted c.in-Ok.ensures.carries.blocks
+    c.in-Ok.ensures.any spends.drew (still_of g.T.Tape.drawn c.args.tape.now c.serve_line.new.tape (g.P.Platform.head c.args.platform.now) (g.P.Platform.head c.serve_line.new.platform) it spends.undrawn spends.unadded) spends.read c.in-Ok.ensures.changes (λ told. g.met.P.Platform.counts_pages told c.serve_line.new.platform) in
+    line_told g.P.Platform.tells (blocks_of c.args.session) old new (g.P.Platform.changes c.serve_line.new.platform) c.in-Ok.done.session c.serve_line.new.desk.table text (said c.in-Ok.done.reply c.serve_line.new.desk.buffer)
     c.tell-in-Ok.result (g.O.Sink.written c.args.output.now) (g.O.Sink.written c.tell-in-Ok.new.output)
     (record { capacity = carries.capacity; rises = carries.rises; within = g.met.P.Platform.has_room c.serve_line.new.platform })
     says
@@ -46,7 +46,7 @@ returns-in-Err-clause-handled g c text kept =
     (record { capacity = carries.capacity; rises = carries.rises; within = g.met.P.Platform.has_room c.serve_line.new.platform }) carries.keeps.keys.extends
     (until_cut (tally_of old.outside) (tally_of new.outside) text it carries.keeps.keys.grew (c.in-Some.ensures.found text kept)
     (still_of g.T.Tape.drawn c.args.tape.now c.serve_line.new.tape (g.P.Platform.head c.args.platform.now) (g.P.Platform.head c.serve_line.new.platform) it spends.undrawn spends.unadded) carries.keeps.keys.drew)
-    spends.read
+    spends.read c.in-Err.ensures.changes
     (λ told entry held. c.in-Err.ensures.serves told entry held)
 
 pub returns-in_default-clause-carries : goal.returns-in_default-clause-carries
