@@ -38,7 +38,7 @@ use Rattle.volume_desk.specs.Done.{DoesAny, WasOver}
 use Rattle.volume_desk.specs.Drawing.{DrewFor, tally}
 use Rattle.volume_desk.specs.Reads.{reads_for, reads_with}
 use Rattle.volume_desk.proofs.ReadLaws.{with_reply}
-use Rattle.platform.specs.Counts.{MayRiseBy}
+use Rattle.sdbt_base.specs.Rises.{MayRiseBy}
 use Rattle.volume_desk.specs.Syncs.{changes_for, changes_with}
 use Rattle.volume_desk.proofs.SyncLaws.{with_most}
 use Rattle.volume_desk.specs.Turns.{HasPages, IsHeld, Served, Shows, Stopped, StopsAt}

@@ -1,6 +1,6 @@
 -- How often a run syncs all pages, or replaces the root record, for its lines.
 use Rattle.std.specs.Prelude.{◌≡◌, ◌⊎◌, ◌+◌, ℕ, List, [], ◌∷◌}
-use Rattle.platform.specs.Counts.{MayRiseBy}
+use Rattle.sdbt_base.specs.Rises.{MayRiseBy}
 use Rattle.volume_lines.specs.Grammar.{IsBad, Spells}
 use Rattle.volume_lines.specs.Lines.{Line}
 use Rattle.volume_lines.specs.Replies.{Reply}
