@@ -227,7 +227,7 @@ returns-clause-discloses g c =
 pub returns-then-is_full-clause-cause : goal.returns-then-is_full-clause-cause
 returns-then-is_full-clause-cause g c = (
   λ told. full_cell c.in-Ok.is_full (g.P.Platform.history c.args.platform.now).present.cell c.if-is_full.true (c.in-Ok.ensures.full told),
-  (record { head = c.load_root.ensures.head; image = c.load_root.ensures.image; changes = c.load_root.ensures.changes; drawn = refl }, λ told. one_look _ _ (c.load_root.ensures.time told) (c.load_root.ensures.image told)),
+  (record { head = c.load_root.ensures.head; image = c.load_root.ensures.image; changes = λ told. (c.load_root.ensures.reads told).2; drawn = refl }, λ told. one_look _ _ (c.load_root.ensures.time told) (c.load_root.ensures.image told)),
   ap (λ (n : ℕ). counts n (g.T.Tape.faults c.args.tape.now) 0 0 (g.L.Sink.faults c.args.ledger.now)) c.in-Ok.ensures.cause,
 )
 
@@ -235,7 +235,7 @@ pub returns-then-head-capacity-clause-cause : goal.returns-then-head-capacity-cl
 returns-then-head-capacity-clause-cause g c = (
   λ told. empty_cell c.in-Ok.is_full (g.P.Platform.history c.args.platform.now).present.cell c.if-is_full.false (c.in-Ok.ensures.full told),
   omega (arith, c.head.ensures.value, c.capacity.ensures.value, c.load_root.ensures.head, c.load_root.ensures.capacity, c.if-head-capacity.true),
-  (record { head = c.load_root.ensures.head; image = c.load_root.ensures.image; changes = c.load_root.ensures.changes; drawn = refl }, λ told. one_look _ _ (c.load_root.ensures.time told) (c.load_root.ensures.image told)),
+  (record { head = c.load_root.ensures.head; image = c.load_root.ensures.image; changes = λ told. (c.load_root.ensures.reads told).2; drawn = refl }, λ told. one_look _ _ (c.load_root.ensures.time told) (c.load_root.ensures.image told)),
   ap (λ (n : ℕ). counts n (g.T.Tape.faults c.args.tape.now) 0 0 (g.L.Sink.faults c.args.ledger.now)) c.in-Ok.ensures.cause,
 )
 
@@ -243,7 +243,7 @@ pub returns-in_default-new-clause-cause : goal.returns-in_default-new-clause-cau
 returns-in_default-new-clause-cause g c = (
   λ told. empty_cell c.in-Ok.is_full (g.P.Platform.history c.args.platform.now).present.cell c.if-is_full.false (c.in-Ok.ensures.full told),
   λ none. absurd (omega (arith, none, c.head.ensures.value, c.capacity.ensures.value, c.load_root.ensures.head, c.load_root.ensures.capacity, c.if-head-capacity.false)),
-  (record { head = c.load_root.ensures.head; image = c.load_root.ensures.image; changes = c.load_root.ensures.changes; drawn = refl }, λ told. one_look _ _ (c.load_root.ensures.time told) (c.load_root.ensures.image told)),
+  (record { head = c.load_root.ensures.head; image = c.load_root.ensures.image; changes = λ told. (c.load_root.ensures.reads told).2; drawn = refl }, λ told. one_look _ _ (c.load_root.ensures.time told) (c.load_root.ensures.image told)),
   ap (λ (n : ℕ). counts n (g.T.Tape.faults c.args.tape.now) 0 0 (g.L.Sink.faults c.args.ledger.now)) c.in-Ok.ensures.cause,
 )
 
@@ -251,7 +251,7 @@ pub returns-in_default-first_entry-clause-cause : goal.returns-in_default-first_
 returns-in_default-first_entry-clause-cause g c = (
   λ told. empty_cell c.in-Ok.is_full (g.P.Platform.history c.args.platform.now).present.cell c.if-is_full.false (c.in-Ok.ensures.full told),
   λ none. absurd (omega (arith, none, c.head.ensures.value, c.capacity.ensures.value, c.load_root.ensures.head, c.load_root.ensures.capacity, c.if-head-capacity.false)),
-  (record { head = c.load_root.ensures.head; image = c.load_root.ensures.image; changes = c.load_root.ensures.changes; drawn = refl }, λ told. one_look _ _ (c.load_root.ensures.time told) (c.load_root.ensures.image told)),
+  (record { head = c.load_root.ensures.head; image = c.load_root.ensures.image; changes = λ told. (c.load_root.ensures.reads told).2; drawn = refl }, λ told. one_look _ _ (c.load_root.ensures.time told) (c.load_root.ensures.image told)),
   ap (λ (n : ℕ). counts n (g.T.Tape.faults c.args.tape.now) 0 0 (g.L.Sink.faults c.args.ledger.now)) c.in-Ok.ensures.cause,
 )
 
@@ -263,7 +263,7 @@ returns-in-Err-TapeFault-clause-cause g c = let idle = c.append.ensures.idle (cc
     record {
       head = ap g.P.Platform.head idle.0 ∙ c.load_root.ensures.head;
       image = λ told. ap (λ platform. (g.P.Platform.history platform).present) idle.0 ∙ c.load_root.ensures.image told;
-      changes = λ told. ap g.P.Platform.changes idle.0 ∙ c.load_root.ensures.changes told;
+      changes = λ told. ap g.P.Platform.changes idle.0 ∙ (c.load_root.ensures.reads told).2;
       drawn = idle.1;
     },
     λ told. call_more _ _ _ (one_look _ _ (c.load_root.ensures.time told) (c.load_root.ensures.image told)) (c.append.ensures.adds.time told) (c.append.ensures.adds.cell told),
