@@ -1,8 +1,8 @@
 //! A device whose root record is in a TPM.
-ghost use Rattle.std.specs.Prelude.{◌≡◌, ◌∷◌, ℕ, List, Option, Some, None, true, if◌then◌else◌, length, is_ok, IfErr, IfOk, IsErr, IsSomeAnd, MatchResult, OnErr, OnOk};
-ghost use Rattle.folder_platform.specs.Events.{pages_counted, page_read, page_written, media_synced, folder_synced, root_synced, new_removed, cell_synced};
+ghost use Rattle.std.specs.Prelude.{◌≡◌, ◌∷◌, ℕ, List, Option, Some, None, true, if◌then◌else◌, length, is_ok, IfErr, IfOk, IsErr, IsSomeAnd, OnErr, OnOk};
+ghost use Rattle.folder_platform.specs.Events.{page_read, page_written, media_synced, folder_synced, root_synced, new_removed, cell_synced};
 ghost use Rattle.folder_platform.specs.Refusals.{ShowsCause, TellsLast};
-ghost use Rattle.folder_platform.specs.Sequences.{NotesCell, Replaces, Clears};
+ghost use Rattle.folder_platform.specs.Sequences.{NotesCount, NotesCell, Replaces, Clears};
 ghost use Rattle.tpm_nv.specs.Messages.{read_bytes};
 ghost use Rattle.tpm_nv.specs.Replies.{IsContent};
 ghost use Rattle.tpm_cell.specs.Asking.{no_root, FailsAs, IsApart, IsInCell, Reads, Stores, StoresNot};
@@ -60,9 +60,7 @@ impl<R: Files, T: TpmCalls + Drop> PageCalls for InTpm<R, T> {
     ghost occurred = { λ _. tt };
 
     fn count_pages(&mut self) -> io::Result<u64>
-        ensures noted { MatchResult result
-            (λ n. self.new.pages.calls.events ≡ pages_counted n ∷ self.old.pages.calls.events)
-            (λ _. self.new.pages.calls.events ≡ self.old.pages.calls.events) }
+        ensures noted { NotesCount result self.old.pages.calls.events self.new.pages.calls.events }
         // A call that is not on the cell leaves it, and asks nothing of the TPM.
         ensures apart { IsApart self.old.cell self.new.cell self.old.failure self.new.failure }
     {
@@ -71,9 +69,7 @@ impl<R: Files, T: TpmCalls + Drop> PageCalls for InTpm<R, T> {
 
     fn read_page(&mut self, addr: u64, into: &mut [u8]) -> io::Result<()>
         requires { length into.old ≡ RECORD }
-        ensures noted { MatchResult result
-            (λ _. self.new.pages.calls.events ≡ page_read addr into.new ∷ self.old.pages.calls.events)
-            (λ _. self.new.pages.calls.events ≡ self.old.pages.calls.events) }
+        ensures noted { self.new.pages.calls.events ≡ page_read addr (is_ok result) into.new ∷ self.old.pages.calls.events }
         ensures apart { IsApart self.old.cell self.new.cell self.old.failure self.new.failure }
     {
         self.pages.read_page(addr, into)
@@ -153,7 +149,10 @@ impl<R: Files, T: TpmCalls + Drop> CellCalls for InTpm<R, T> {
                 self.pages.note(FileCall::ReadRoot, 0, true, &[]);
                 Ok(false)
             }
-            Err(fault) => failed(&mut self.failure, fault),
+            Err(fault) => {
+                self.pages.note(FileCall::ReadRoot, 0, false, &[]);
+                failed(&mut self.failure, fault)
+            }
         }
     }
 

@@ -1,7 +1,7 @@
 //! A device whose root record is in a TPM, and that is only looked at.
-ghost use Rattle.std.specs.Prelude.{◌≡◌, ◌∷◌, ℕ, List, Option, Some, None, if◌then◌else◌, length, IfOk, IsSomeAnd, MatchResult, OnErr, OnOk};
-ghost use Rattle.folder_platform.specs.Events.{pages_counted, page_read};
-ghost use Rattle.folder_platform.specs.Sequences.{NotesCell};
+ghost use Rattle.std.specs.Prelude.{◌≡◌, ◌∷◌, ℕ, List, Option, Some, None, if◌then◌else◌, is_ok, length, IfOk, IsSomeAnd, OnErr, OnOk};
+ghost use Rattle.folder_platform.specs.Events.{page_read};
+ghost use Rattle.folder_platform.specs.Sequences.{NotesCount, NotesCell};
 ghost use Rattle.tpm_nv.specs.Messages.{read_bytes};
 ghost use Rattle.tpm_nv.specs.Replies.{IsContent};
 ghost use Rattle.tpm_cell.specs.Asking.{FailsAs, IsApart, IsInCell, Reads};
@@ -58,9 +58,7 @@ impl<R: Files, T: TpmCalls + Drop> LookCalls for LookInTpm<R, T> {
     ghost occurred = { λ _. tt };
 
     fn look_for_pages(&mut self) -> io::Result<u64>
-        ensures noted { MatchResult result
-            (λ n. self.new.pages.calls.events ≡ pages_counted n ∷ self.old.pages.calls.events)
-            (λ _. self.new.pages.calls.events ≡ self.old.pages.calls.events) }
+        ensures noted { NotesCount result self.old.pages.calls.events self.new.pages.calls.events }
         // A look that is not at the cell leaves it, and asks nothing of the TPM.
         ensures apart { IsApart self.old.cell self.new.cell self.old.failure self.new.failure }
     {
@@ -69,9 +67,7 @@ impl<R: Files, T: TpmCalls + Drop> LookCalls for LookInTpm<R, T> {
 
     fn look_at_page(&mut self, addr: u64, into: &mut [u8]) -> io::Result<()>
         requires { length into.old ≡ RECORD }
-        ensures noted { MatchResult result
-            (λ _. self.new.pages.calls.events ≡ page_read addr into.new ∷ self.old.pages.calls.events)
-            (λ _. self.new.pages.calls.events ≡ self.old.pages.calls.events) }
+        ensures noted { self.new.pages.calls.events ≡ page_read addr (is_ok result) into.new ∷ self.old.pages.calls.events }
         ensures apart { IsApart self.old.cell self.new.cell self.old.failure self.new.failure }
     {
         self.pages.look_at_page(addr, into)
@@ -90,14 +86,17 @@ impl<R: Files, T: TpmCalls + Drop> LookCalls for LookInTpm<R, T> {
     {
         match self.cell.load(into) {
             Ok(true) => {
-                self.pages.note(FileCall::ReadRoot, 1, into);
+                self.pages.note(FileCall::ReadRoot, 1, true, into);
                 Ok(true)
             }
             Ok(false) => {
-                self.pages.note(FileCall::ReadRoot, 0, &[]);
+                self.pages.note(FileCall::ReadRoot, 0, true, &[]);
                 Ok(false)
             }
-            Err(fault) => failed(&mut self.failure, fault),
+            Err(fault) => {
+                self.pages.note(FileCall::ReadRoot, 0, false, &[]);
+                failed(&mut self.failure, fault)
+            }
         }
     }
 }
