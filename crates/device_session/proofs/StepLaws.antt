@@ -47,8 +47,8 @@ use Rattle.device_session.specs.Keys.{HoldsListed}
 use Rattle.device_session.specs.Finishing.{PutsLine, IsPublishCause, TakesUp}
 use Rattle.device_terms.specs.Certifying.{PutsSynced}
 use Rattle.device_terms.specs.Effects.{NamesLast}
-use Rattle.device_terms.specs.Effects.{Discloses, GrowsBy}
-use Rattle.device_session.specs.Publishing.{Commits, HasRaised, IsCommitCause, commit_counts}
+use Rattle.device_terms.specs.Effects.{ChangesBehind, Discloses, GrowsBy}
+use Rattle.device_session.specs.Publishing.{Commits, HasRaised, IsCommitCause, commit_counts, most_commit}
 use Rattle.device_session.specs.Replies.{device_after}
 use Rattle.device_terms.proofs.MomentLaws.{still, then_published, once, stays_once, stays_then}
 use Rattle.device_terms.proofs.ServedLaws.{serves_still, serves_turned, served_published}
@@ -63,6 +63,10 @@ use Rattle.device_session.proofs.TakingLaws.{taken_open, taken_pages, taken_hold
 -- a commit was done
 abbrev done : Result CommitReply CommitFault → Type 0
 done result = IsOk result
+
+-- the cell stays, and nothing is synced or changed
+abbrev pub Still : {S : Type 0} → PlatformGhosts S → S → S → Type 0
+Still P old new = P.tells → CellStays (P.history old) (P.history new) × (P.changes new ≡ P.changes old)
 
 abbrev refused : CommitFault → Result (Unit {0}) CommitFault
 refused fault = Err fault
@@ -106,6 +110,7 @@ commits_nothing P T L platform tape ledger session result opened array cause =
       grows = record { rises = omega arith; at_most = omega arith; capacity = refl; platform_faults = omega arith; tape_faults = omega arith; ledger_faults = omega arith };
       unread = λ told. refl;
       changes = λ told. record { rises = omega arith; at_most = omega arith };
+      behind = λ told. inl refl;
     }
 
 -- a commit for which there was no room
@@ -125,8 +130,12 @@ pub same_counts : {S R W : Type 0} (P : PlatformGhosts S) (T : TapeGhosts R) (L 
 same_counts P T L platform platform_now tape tape_now ledger same_platform same_tape = λ k. commit_counts P T L (same_platform k) (same_tape k) ledger
 
 -- a sync alone, and a sync and a replacement of the root record
-few_of_two : (old new : ℕ) → MayRiseBy 1 old new → MayRiseBy 2 old new
+pub few_of_two : (old new : ℕ) → MayRiseBy 1 old new → MayRiseBy 2 old new
 few_of_two old new one = record { rises = one.rises; at_most = let most = one.at_most in omega (arith, most) }
+
+-- no call, and so neither
+pub unsynced : (old new : ℕ) → new ≡ old → MayRiseBy 0 old new
+unsynced old new same = record { rises = omega (arith, same); at_most = omega (arith, same) }
 
 sync_and_swap : (old mid new : ℕ) → MayRiseBy 1 old mid → MayRiseByOne mid new → MayRiseBy 2 old new
 sync_and_swap old mid new sync swap = let a = sync.rises in let b = sync.at_most in let c = swap.rises in let d = swap.by_one in record { rises = omega (arith, a, c); at_most = omega (arith, b, d) }
@@ -135,8 +144,9 @@ pub commits_stopped : {S R W : Type 0} (P : PlatformGhosts S) (T : TapeGhosts R)
     → OnlyAdds P T 1 platform platform_now tape tape_now → P.head platform_now ≤ P.head platform + needed_by session
     → KeepsKeys P.tells (T.drawn tape) (T.drawn tape_now) (P.history platform) (P.history platform_now) (KnowsPlaces (P.history platform).present (places_of session.grove)) (λ keys. Unit {0})
     → IsCommitCause P T platform platform_now tape tape_now ledger ledger (commit_counts P T L platform tape ledger) (commit_counts P T L platform_now tape_now ledger) fault
+    → (P.tells → MayRiseBy (most_commit (Err fault)) (P.changes platform) (P.changes platform_now)) → ChangesBehind P (needed_by session) platform platform_now
     → Commits P T L platform platform_now tape tape_now ledger ledger session now (Err fault)
-commits_stopped P T L platform platform_now tape tape_now ledger session now fault adds within keeps cause =
+commits_stopped P T L platform platform_now tape tape_now ledger session now fault adds within keeps cause changes behind =
     let old = P.history platform in
     let new = P.history platform_now in
     record {
@@ -155,7 +165,8 @@ commits_stopped P T L platform platform_now tape tape_now ledger session now fau
       quiet = tt;
       grows = record { rises = adds.head; at_most = within; capacity = adds.capacity; platform_faults = adds.platform_faults; tape_faults = adds.tape_faults; ledger_faults = omega arith };
       unread = adds.reads;
-      changes = λ told. few_of_two _ _ (adds.changes told);
+      changes = changes;
+      behind = behind;
     }
 
 -- ---- a commit whose last step was taken or failed
@@ -221,7 +232,7 @@ commit_synced P T L platform mid new tape tape_now ledger ledger_now session pre
 -- why the last steps failed
 failed_cause : {S R W : Type 0} (P : PlatformGhosts S) (T : TapeGhosts R) (L : SinkGhosts W) (platform mid new : S) (tape tape_now : R) (ledger ledger_now : W) (session : Session) (prepared : Prepared) (Was : Type 0) (fault : CommitFault)
     → IsCommitting P T L platform mid new tape tape_now ledger ledger_now session prepared Was
-    → IsPublishCause (P.tells → CellStays (P.history mid) (P.history new)) (counts (P.faults mid) 0 0 0 (L.faults ledger)) (counts (P.faults new) 0 0 0 (L.faults ledger_now)) (refused fault)
+    → IsPublishCause (Still P mid new) (counts (P.faults mid) 0 0 0 (L.faults ledger)) (counts (P.faults new) 0 0 0 (L.faults ledger_now)) (refused fault)
     → IsCommitCause P T platform new tape tape_now ledger ledger_now (commit_counts P T L platform tape ledger) (commit_counts P T L new tape_now ledger_now) fault
 failed_cause P T L platform mid new tape tape_now ledger ledger_now session prepared Was fault.PlatformFault all cause = (
   subst (λ (n : ℕ). Rose n (P.faults new)) all.quiet.0 cause.0,
@@ -230,15 +241,26 @@ failed_cause P T L platform mid new tape tape_now ledger ledger_now session prep
 failed_cause P T L platform mid new tape tape_now ledger ledger_now session prepared Was fault.LedgerFault all cause =
     let before_put : P.faults new ≡ P.faults platform = ap (λ (c : Counts). c.platform) cause.0.1 ∙ all.quiet.0 in (
       (cause.0.0, λ k. counts (before_put k) (all.quiet.1 k) 0 0 (L.faults ledger_now)),
-      λ told. stays_then (P.history platform) (P.history mid) (P.history new) (all.adds.cell told) (cause.1 told),
+      λ told. stays_then (P.history platform) (P.history mid) (P.history new) (all.adds.cell told) (cause.1 told).0,
     )
 failed_cause P T L platform mid new tape tape_now ledger ledger_now session prepared Was fault.TapeFault all cause = absurd cause
 failed_cause P T L platform mid new tape tape_now ledger ledger_now session prepared Was fault.Memory all cause = absurd cause
 
+-- how often they synced and replaced the root record
+failed_changes : {S R W : Type 0} (P : PlatformGhosts S) (T : TapeGhosts R) (L : SinkGhosts W) (platform mid new : S) (tape tape_now : R) (ledger ledger_now : W) (session : Session) (prepared : Prepared) (Was : Type 0) (fault : CommitFault)
+    → IsCommitting P T L platform mid new tape tape_now ledger ledger_now session prepared Was
+    → IsPublishCause (Still P mid new) (counts (P.faults mid) 0 0 0 (L.faults ledger)) (counts (P.faults new) 0 0 0 (L.faults ledger_now)) (refused fault)
+    → P.tells → MayRiseBy (most_commit (Err fault)) (P.changes platform) (P.changes new)
+failed_changes P T L platform mid new tape tape_now ledger ledger_now session prepared Was fault.PlatformFault all cause told = sync_and_swap (P.changes platform) (P.changes mid) (P.changes new) (all.adds.changes told) (all.swaps.changes told)
+failed_changes P T L platform mid new tape tape_now ledger ledger_now session prepared Was fault.LedgerFault all cause told =
+    let same = (cause.1 told).1 in let one = all.adds.changes told in let least = one.rises in let most = one.at_most in record { rises = omega (arith, same, least); at_most = omega (arith, same, most) }
+failed_changes P T L platform mid new tape tape_now ledger ledger_now session prepared Was fault.TapeFault all cause told = absurd cause
+failed_changes P T L platform mid new tape tape_now ledger ledger_now session prepared Was fault.Memory all cause told = absurd cause
+
 -- where the last step failed
 pub commits_failed : {S R W : Type 0} (P : PlatformGhosts S) (T : TapeGhosts R) (L : SinkGhosts W) (platform mid new : S) (tape tape_now : R) (ledger ledger_now : W) (session now : Session) (prepared : Prepared) (Was : Type 0) (fault : CommitFault)
     → IsCommitting P T L platform mid new tape tape_now ledger ledger_now session prepared Was
-    → IsPublishCause (P.tells → CellStays (P.history mid) (P.history new)) (counts (P.faults mid) 0 0 0 (L.faults ledger)) (counts (P.faults new) 0 0 0 (L.faults ledger_now)) (refused fault)
+    → IsPublishCause (Still P mid new) (counts (P.faults mid) 0 0 0 (L.faults ledger)) (counts (P.faults new) 0 0 0 (L.faults ledger_now)) (refused fault)
     → Commits P T L platform new tape tape_now ledger ledger_now session now (Err fault)
 commits_failed P T L platform mid new tape tape_now ledger ledger_now session now prepared Was fault all cause = record {
   array = λ told device contents h. tt;
@@ -252,7 +274,8 @@ commits_failed P T L platform mid new tape tape_now ledger ledger_now session no
   quiet = tt;
   grows = commit_grows P T L platform mid new tape tape_now ledger ledger_now session prepared Was all;
   unread = λ told. all.swaps.reads told ∙ all.adds.reads told;
-  changes = λ told. sync_and_swap _ _ _ (all.adds.changes told) (all.swaps.changes told);
+  changes = failed_changes P T L platform mid new tape tape_now ledger ledger_now session prepared Was fault all cause;
+  behind = λ told. inr (all.swaps.head ∙ all.readied.ready.is.grown);
 }
 
 -- ---- the session after a commit
@@ -331,6 +354,7 @@ commits_done P T L platform mid new tape tape_now ledger ledger_now session now 
       grows = commit_grows P T L platform mid new tape tape_now ledger ledger_now session prepared Was all;
       unread = λ told. all.swaps.reads told ∙ all.adds.reads told;
       changes = λ told. sync_and_swap _ _ _ (all.adds.changes told) (all.swaps.changes told);
+      behind = λ told. inr (all.swaps.head ∙ all.readied.ready.is.grown);
     }
 
 pub commits_raised : {S R W : Type 0} (P : PlatformGhosts S) (T : TapeGhosts R) (L : SinkGhosts W) (platform mid new : S) (tape tape_now : R) (ledger ledger_now : W) (session now : Session) (prepared : Prepared) (Was : Type 0) (number : ℕ)

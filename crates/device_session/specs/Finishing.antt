@@ -20,7 +20,7 @@ PutsLine tells written written_now old new line root Done =
     (Got written line written_now × (tells → (new.present.cell ≡ Some (root_bytes root)) ⊎ (CellStays old new × (Done → ⊥))))
     ⊎ (GotPart written line written_now × (tells → CellStays old new) × (Done → ⊥))
 
--- a root record was published and nothing failed; or it was not since the platform failed, or the ledger, and the cell is as it was then
+-- a root record was published and nothing failed; or it was not since the platform failed, or the ledger, and what is `Still` holds then
 abbrev pub IsPublishCause : {T : Type 0} → Type 0 → Counts → Counts → Result T CommitFault → Type 0
 IsPublishCause Still before now (Ok done) = now ≡ before
 IsPublishCause Still before now (Err commit.PlatformFault) = PlatformRose before now

@@ -1,5 +1,5 @@
 -- What a commit says: how it makes a session's changes the device's.
-use Rattle.std.specs.Prelude.{◌≡◌, ◌≢◌, ◌+◌, ℕ, false, [], List, Some, Result, IfOk, OnOk, IfErr, IsOk, All, length}
+use Rattle.std.specs.Prelude.{◌≡◌, ◌≢◌, ◌+◌, ℕ, false, [], List, Some, Result, Ok, Err, IfOk, OnOk, IfErr, IsOk, All, length}
 use Rattle.sdbt_base.specs.Counts.{Counts, counts, PlatformRose, TapeRose, LedgerRose}
 use Rattle.sdbt_base.specs.Arrays.{Device, Blocks, committed_with}
 use Rattle.sdbt_base.specs.declared.sinks.Sink.{Ghosts as SinkGhosts}
@@ -21,11 +21,11 @@ use Rattle.shadow_commit.specs.Sealed.{Sealed}
 use Rattle.shadow_commit.specs.Caching.{with_sealed}
 use Rattle.shadow_commit.specs.NewTree.{AreFrom}
 use Rattle.device_session.specs.declared.refusals.CommitReply.{CommitReply}
-use Rattle.device_session.specs.declared.refusals.CommitReply.TheVariants.{Committed}
+use Rattle.device_session.specs.declared.refusals.CommitReply.TheVariants.{Committed, Full}
 use Rattle.device_session.specs.declared.refusals.CommitFault.{CommitFault}
 use Rattle.device_session.specs.declared.refusals.CommitFault.TheVariants as commit
 use Rattle.device_terms.specs.Certifying.{Certifies, PutsSynced}
-use Rattle.device_terms.specs.Effects.{Discloses, AddsNothing, GrowsBy, NamesLast}
+use Rattle.device_terms.specs.Effects.{ChangesBehind, Discloses, AddsNothing, GrowsBy, NamesLast}
 use Rattle.device_session.specs.Certifying.{IsOfCommit}
 use Rattle.device_session.specs.Holds.{Holds}
 use Rattle.device_session.specs.Finishing.{HoldsNone}
@@ -72,6 +72,15 @@ pub record HasRaised {S R : Type 0} (P : PlatformGhosts S) (T : TapeGhosts R) (p
   pub cell : P.tells → (P.history platform_now).present.cell ≡ Some (root_bytes (root_of now))
   pub keys : P.tells → (device : Device) (contents : Blocks) → Holds session (P.history platform).present device contents → HasTreeKeys now (P.history platform_now).present.readable
 
+-- so often a commit syncs and replaces the root record, at most: not at all where it is refused before its sync, and where the ledger failed it has only synced
+abbrev pub most_commit : Result CommitReply CommitFault → ℕ
+most_commit (Ok (Committed number)) = 2
+most_commit (Ok (Full needed free)) = 0
+most_commit (Err commit.Memory) = 0
+most_commit (Err commit.TapeFault) = 0
+most_commit (Err commit.LedgerFault) = 1
+most_commit (Err commit.PlatformFault) = 2
+
 -- a commit fails where the platform, the tape or the ledger failed, and no other of them, or no memory was given, for which nothing was handed over and none
 -- failed. But for a fault of the platform the cell is as it was at each moment; and where no key was drawn, or no memory given, the ledger is as it was
 abbrev pub IsCommitCause : {S R W : Type 0} → PlatformGhosts S → TapeGhosts R → S → S → R → R → W → W → Counts → Counts → CommitFault → Type 0
@@ -107,5 +116,6 @@ pub record Commits {S R W : Type 0} (P : PlatformGhosts S) (T : TapeGhosts R) (L
   pub grows : GrowsBy P T L (needed_by session) platform platform_now tape tape_now ledger ledger_now
   -- no page is read, and the cell isn't looked at
   pub unread : P.tells → P.reads platform_now ≡ P.reads platform
-  -- it syncs once and replaces the root record once, at most
-  pub changes : P.tells → MayRiseBy 2 (P.changes platform) (P.changes platform_now)
+  -- it syncs once and replaces the root record once, at most, neither where it is refused before, and not before each node in memory has its page
+  pub changes : P.tells → MayRiseBy (most_commit result) (P.changes platform) (P.changes platform_now)
+  pub behind : ChangesBehind P (needed_by session) platform platform_now

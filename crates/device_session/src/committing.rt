@@ -107,7 +107,7 @@ fn publish<P: Platform, L: Sink>(
         prepared.line prepared.root (IsOk result) }
     ensures beside { Swaps P.Platform platform.old platform.new }
     ensures count { L.faults ledger.old ≤ L.faults ledger.new }
-    ensures cause { IsPublishCause (P.tells → CellStays (P.history platform.old) (P.history platform.new))
+    ensures cause { IsPublishCause (P.tells → CellStays (P.history platform.old) (P.history platform.new) × (P.changes platform.new ≡ P.changes platform.old))
         (counts (P.faults platform.old) 0 0 0 (L.faults ledger.old)) (counts (P.faults platform.new) 0 0 0 (L.faults ledger.new)) result }
 {
     let Ok(()) = ledger.put(prepared.line()) else {
