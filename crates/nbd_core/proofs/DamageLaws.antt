@@ -25,57 +25,78 @@ use Rattle.nbd_core.specs.Meets.{HasMet, MeetsAt}
 use Rattle.nbd_core.specs.Found.{FindsSame}
 use Rattle.nbd_core.specs.Halts.{commit_outcome, outcome_after}
 use Rattle.nbd_core.specs.Serving.{bytes_of_reply, reply_of}
+use Rattle.nbd_core.specs.Stopped.{HasStopped}
 use Rattle.nbd_core.proofs.FoundLaws.{same_start}
 use Rattle.nbd_core.specs.declared.halts.Halt.{Halt}
 use Rattle.nbd_core.specs.declared.serving.Performed.{Performed}
+use Rattle.nbd_core.specs.Arrays.{AddsOne}
 
-by_stop : (IsSo : ℕ → Type 0) (Did Nothing : Type 0) (stop : DeviceStop) (outcome : Outcome) → MeetsAt IsSo stop → outcome_after stop ≡ Ok outcome → SaysTrue ((at : ℕ) × IsSo at) Did Nothing outcome
-by_stop IsSo Did Nothing (device.BadRecord addr) outcome meets is = let same : outcomes.Damaged ≡ outcome = cc in subst (SaysTrue ((at : ℕ) × IsSo at) Did Nothing) same (addr, meets)
-by_stop IsSo Did Nothing device.Memory outcome meets is = let same : outcomes.NoMemory ≡ outcome = cc in subst (SaysTrue ((at : ℕ) × IsSo at) Did Nothing) same tt
-by_stop IsSo Did Nothing device.Platform outcome meets is = absurd cc
-by_stop IsSo Did Nothing device.Tape outcome meets is = absurd cc
-by_stop IsSo Did Nothing device.Ledger outcome meets is = absurd cc
-by_stop IsSo Did Nothing device.BadRoot outcome meets is = absurd cc
+-- such a stop has a reply
+abbrev pub HasReply : DeviceStop → Type 0
+HasReply device.Memory = Unit {0}
+HasReply (device.BadRecord addr) = Unit {0}
+HasReply device.Platform = ⊥
+HasReply device.Tape = ⊥
+HasReply device.Ledger = ⊥
+HasReply device.BadRoot = ⊥
+
+-- and adds no page
+pub adds_reply : (head head_now : ℕ) (stop : DeviceStop) → HasReply stop → AddsOne head head_now (Err stop) → head_now ≡ head
+adds_reply head head_now device.Memory has adds = adds
+adds_reply head head_now (device.BadRecord addr) has adds = adds
+adds_reply head head_now device.Platform has adds = absurd has
+adds_reply head head_now device.Tape has adds = absurd has
+adds_reply head head_now device.Ledger has adds = absurd has
+adds_reply head head_now device.BadRoot has adds = absurd has
+
+by_stop : (IsSo : ℕ → Type 0) (Lacked Met Did Nothing : Type 0) (stop : DeviceStop) (outcome : Outcome) → (HasReply stop → Lacked) → (HasReply stop → (addr : ℕ) → IsSo addr → Met) → MeetsAt IsSo stop → outcome_after stop ≡ Ok outcome → SaysTrue Lacked Met Did Nothing outcome
+by_stop IsSo Lacked Met Did Nothing (device.BadRecord addr) outcome lacked met meets is = let same : outcomes.Damaged ≡ outcome = cc in subst (SaysTrue Lacked Met Did Nothing) same (met tt addr meets)
+by_stop IsSo Lacked Met Did Nothing device.Memory outcome lacked met meets is = let same : outcomes.NoMemory ≡ outcome = cc in subst (SaysTrue Lacked Met Did Nothing) same (lacked tt)
+by_stop IsSo Lacked Met Did Nothing device.Platform outcome lacked met meets is = absurd cc
+by_stop IsSo Lacked Met Did Nothing device.Tape outcome lacked met meets is = absurd cc
+by_stop IsSo Lacked Met Did Nothing device.Ledger outcome lacked met meets is = absurd cc
+by_stop IsSo Lacked Met Did Nothing device.BadRoot outcome lacked met meets is = absurd cc
 
 -- a call that stopped, and what a request comes to
-pub stop_given : (IsSo : ℕ → Type 0) (Did Nothing : Type 0) (stop : DeviceStop) (result : Result Outcome Halt) → MeetsAt IsSo stop → IfOk result (λ outcome. outcome_after stop ≡ Ok outcome) → IfOk result (SaysTrue ((at : ℕ) × IsSo at) Did Nothing)
-stop_given IsSo Did Nothing stop (Ok outcome) meets is = by_stop IsSo Did Nothing stop outcome meets is
-stop_given IsSo Did Nothing stop (Err halt) meets is = tt
+pub stop_given : (IsSo : ℕ → Type 0) (Lacked Met Did Nothing : Type 0) (stop : DeviceStop) (result : Result Outcome Halt) → (HasReply stop → Lacked) → (HasReply stop → (addr : ℕ) → IsSo addr → Met) → MeetsAt IsSo stop → IfOk result (λ outcome. outcome_after stop ≡ Ok outcome)
+    → IfOk result (SaysTrue Lacked Met Did Nothing)
+stop_given IsSo Lacked Met Did Nothing stop (Ok outcome) lacked met meets is = by_stop IsSo Lacked Met Did Nothing stop outcome lacked met meets is
+stop_given IsSo Lacked Met Did Nothing stop (Err halt) lacked met meets is = tt
 
 same_after : (stop : DeviceStop) (result : Result Outcome Halt) → result ≡ outcome_after stop → IfOk result (λ outcome. outcome_after stop ≡ Ok outcome)
 same_after stop (Ok outcome) is = sym is
 same_after stop (Err halt) is = tt
 
-pub stop_after : (IsSo : ℕ → Type 0) (Did Nothing : Type 0) (stop : DeviceStop) (result : Result Outcome Halt) → MeetsAt IsSo stop → result ≡ outcome_after stop → IfOk result (SaysTrue ((at : ℕ) × IsSo at) Did Nothing)
-stop_after IsSo Did Nothing stop result meets is = stop_given IsSo Did Nothing stop result meets (same_after stop result is)
+pub stop_after : (IsSo : ℕ → Type 0) (Lacked Met Did Nothing : Type 0) (stop : DeviceStop) (result : Result Outcome Halt) → (HasReply stop → Lacked) → (HasReply stop → (addr : ℕ) → IsSo addr → Met) → MeetsAt IsSo stop → result ≡ outcome_after stop → IfOk result (SaysTrue Lacked Met Did Nothing)
+stop_after IsSo Lacked Met Did Nothing stop result lacked met meets is = stop_given IsSo Lacked Met Did Nothing stop result lacked met meets (same_after stop result is)
 
 -- one that says what is true whatever was met
-pub given_says : (Met Did Nothing : Type 0) (one : Outcome) (result : Result Outcome Halt) → SaysTrue Met Did Nothing one → IfOk result (λ outcome. outcome ≡ one) → IfOk result (SaysTrue Met Did Nothing)
-given_says Met Did Nothing one (Ok outcome) says is = subst (SaysTrue Met Did Nothing) (sym is) says
-given_says Met Did Nothing one (Err halt) says is = tt
+pub given_says : (Lacked Met Did Nothing : Type 0) (one : Outcome) (result : Result Outcome Halt) → SaysTrue Lacked Met Did Nothing one → IfOk result (λ outcome. outcome ≡ one) → IfOk result (SaysTrue Lacked Met Did Nothing)
+given_says Lacked Met Did Nothing one (Ok outcome) says is = subst (SaysTrue Lacked Met Did Nothing) (sym is) says
+given_says Lacked Met Did Nothing one (Err halt) says is = tt
 
-refused_by : (Met Did Nothing : Type 0) → Nothing → (kind : RequestKind) (flags long past : Bool) (why : Outcome) → refusal_by kind flags long past ≡ Some why → SaysTrue Met Did Nothing why
-refused_by Met Did Nothing nothing kinds.Read true long past why is = let same : outcomes.Invalid ≡ why = cc in subst (SaysTrue Met Did Nothing) same nothing
-refused_by Met Did Nothing nothing kinds.Read false true past why is = let same : outcomes.Invalid ≡ why = cc in subst (SaysTrue Met Did Nothing) same nothing
-refused_by Met Did Nothing nothing kinds.Read false false true why is = let same : outcomes.Invalid ≡ why = cc in subst (SaysTrue Met Did Nothing) same nothing
-refused_by Met Did Nothing nothing kinds.Read false false false why is = absurd cc
-refused_by Met Did Nothing nothing kinds.Write true long past why is = let same : outcomes.Invalid ≡ why = cc in subst (SaysTrue Met Did Nothing) same nothing
-refused_by Met Did Nothing nothing kinds.Write false true past why is = let same : outcomes.Invalid ≡ why = cc in subst (SaysTrue Met Did Nothing) same nothing
-refused_by Met Did Nothing nothing kinds.Write false false true why is = let same : outcomes.NoSpace ≡ why = cc in subst (SaysTrue Met Did Nothing) same nothing
-refused_by Met Did Nothing nothing kinds.Write false false false why is = absurd cc
-refused_by Met Did Nothing nothing kinds.Disconnect flags long past why is = absurd cc
-refused_by Met Did Nothing nothing kinds.Flush true long past why is = let same : outcomes.Invalid ≡ why = cc in subst (SaysTrue Met Did Nothing) same nothing
-refused_by Met Did Nothing nothing kinds.Flush false long past why is = absurd cc
-refused_by Met Did Nothing nothing kinds.Trim true long past why is = let same : outcomes.Invalid ≡ why = cc in subst (SaysTrue Met Did Nothing) same nothing
-refused_by Met Did Nothing nothing kinds.Trim false long true why is = let same : outcomes.Invalid ≡ why = cc in subst (SaysTrue Met Did Nothing) same nothing
-refused_by Met Did Nothing nothing kinds.Trim false long false why is = absurd cc
-refused_by Met Did Nothing nothing (kinds.Other number) flags long past why is = let same : outcomes.Invalid ≡ why = cc in subst (SaysTrue Met Did Nothing) same nothing
+refused_by : (Lacked Met Did Nothing : Type 0) → Nothing → (kind : RequestKind) (flags long past : Bool) (why : Outcome) → refusal_by kind flags long past ≡ Some why → SaysTrue Lacked Met Did Nothing why
+refused_by Lacked Met Did Nothing nothing kinds.Read true long past why is = let same : outcomes.Invalid ≡ why = cc in subst (SaysTrue Lacked Met Did Nothing) same nothing
+refused_by Lacked Met Did Nothing nothing kinds.Read false true past why is = let same : outcomes.Invalid ≡ why = cc in subst (SaysTrue Lacked Met Did Nothing) same nothing
+refused_by Lacked Met Did Nothing nothing kinds.Read false false true why is = let same : outcomes.Invalid ≡ why = cc in subst (SaysTrue Lacked Met Did Nothing) same nothing
+refused_by Lacked Met Did Nothing nothing kinds.Read false false false why is = absurd cc
+refused_by Lacked Met Did Nothing nothing kinds.Write true long past why is = let same : outcomes.Invalid ≡ why = cc in subst (SaysTrue Lacked Met Did Nothing) same nothing
+refused_by Lacked Met Did Nothing nothing kinds.Write false true past why is = let same : outcomes.Invalid ≡ why = cc in subst (SaysTrue Lacked Met Did Nothing) same nothing
+refused_by Lacked Met Did Nothing nothing kinds.Write false false true why is = let same : outcomes.NoSpace ≡ why = cc in subst (SaysTrue Lacked Met Did Nothing) same nothing
+refused_by Lacked Met Did Nothing nothing kinds.Write false false false why is = absurd cc
+refused_by Lacked Met Did Nothing nothing kinds.Disconnect flags long past why is = absurd cc
+refused_by Lacked Met Did Nothing nothing kinds.Flush true long past why is = let same : outcomes.Invalid ≡ why = cc in subst (SaysTrue Lacked Met Did Nothing) same nothing
+refused_by Lacked Met Did Nothing nothing kinds.Flush false long past why is = absurd cc
+refused_by Lacked Met Did Nothing nothing kinds.Trim true long past why is = let same : outcomes.Invalid ≡ why = cc in subst (SaysTrue Lacked Met Did Nothing) same nothing
+refused_by Lacked Met Did Nothing nothing kinds.Trim false long true why is = let same : outcomes.Invalid ≡ why = cc in subst (SaysTrue Lacked Met Did Nothing) same nothing
+refused_by Lacked Met Did Nothing nothing kinds.Trim false long false why is = absurd cc
+refused_by Lacked Met Did Nothing nothing (kinds.Other number) flags long past why is = let same : outcomes.Invalid ≡ why = cc in subst (SaysTrue Lacked Met Did Nothing) same nothing
 
 -- what its head is refused with says that nothing was done
 pub refused_says : (image : Image) (session : Session) (size : ℕ) (request : Request) (gone room : List ℕ) (refused : Option Outcome) (why : Outcome) (result : Result Outcome Halt) → refused ≡ refusal size request → refused ≡ Some why → IfOk result (λ outcome. outcome ≡ why)
     → IfOk result (λ outcome. TellsTrue image image session session (record { head = request; bytes = gone }) (reply_of request outcome room))
 refused_says image session size request gone room refused why (Ok outcome) whole is same = record {
-  says = refused_by (HasMet request.kind image request.offset request.length) (HasDone request.kind image image session session request gone (bytes_of_reply request.kind request.length outcome room)) (FindsSame image image session session) (same_start image session)
+  says = refused_by (HasStopped request.kind image image session session request gone (λ there. Unit {0})) (HasStopped request.kind image image session session request gone (λ there. HasMet request.kind there image request.offset request.length)) (HasDone request.kind image image session session request gone (bytes_of_reply request.kind request.length outcome room)) (FindsSame image image session session) (same_start image session)
       request.kind (nat_lt 0 request.flags) (nat_lt 33554432 request.length) (nat_lt size (request.offset + request.length)) outcome (sym whole ∙ is ∙ (λ i. Some (sym same i)));
   reads = λ read. same_start image session;
 }
@@ -83,44 +104,48 @@ refused_says image session size request gone room refused why (Err halt) whole i
 
 -- ---- a request of a kind
 
--- what was done for a request of this kind, if it is done, and what was met, if it is damage
-done_as : (image after : Image) (session now : Session) (request : Request) (gone room : List ℕ) (kind : RequestKind) (Met Did : Type 0) (outcome : Outcome) → request.kind ≡ kind → (Met → HasMet kind after request.offset request.length)
-    → (Did → HasDone kind image after session now request gone (bytes_of_reply kind request.length outcomes.Done room)) → SaysTrue Met Did (FindsSame image after session now) outcome
-    → SaysTrue (HasMet request.kind after request.offset request.length) (HasDone request.kind image after session now request gone (bytes_of_reply request.kind request.length outcome room)) (FindsSame image after session now) outcome
-done_as image after session now request gone room kind Met Did outcomes.Done is so then' says =
+-- what was done for a request of this kind, if it is done, and how it stopped, if it did
+done_as : (image after : Image) (session now : Session) (request : Request) (gone room : List ℕ) (kind : RequestKind) (Lacked Met Did : Type 0) (outcome : Outcome) → request.kind ≡ kind
+    → (Lacked → HasStopped kind image after session now request gone (λ there. Unit {0})) → (Met → HasStopped kind image after session now request gone (λ there. HasMet kind there after request.offset request.length))
+    → (Did → HasDone kind image after session now request gone (bytes_of_reply kind request.length outcomes.Done room)) → SaysTrue Lacked Met Did (FindsSame image after session now) outcome
+    → SaysTrue (HasStopped request.kind image after session now request gone (λ there. Unit {0})) (HasStopped request.kind image after session now request gone (λ there. HasMet request.kind there after request.offset request.length))
+    (HasDone request.kind image after session now request gone (bytes_of_reply request.kind request.length outcome room)) (FindsSame image after session now) outcome
+done_as image after session now request gone room kind Lacked Met Did outcomes.Done is lacks so then' says =
     subst (λ (k : RequestKind). HasDone k image after session now request gone (bytes_of_reply k request.length outcomes.Done room)) (sym is) (then' says)
-done_as image after session now request gone room kind Met Did outcomes.Damaged is so then' says = subst (λ (k : RequestKind). HasMet k after request.offset request.length) (sym is) (so says)
-done_as image after session now request gone room kind Met Did outcomes.NoMemory is so then' says = tt
-done_as image after session now request gone room kind Met Did outcomes.Invalid is so then' says = says
-done_as image after session now request gone room kind Met Did outcomes.NoSpace is so then' says = says
+done_as image after session now request gone room kind Lacked Met Did outcomes.Damaged is lacks so then' says =
+    subst (λ (k : RequestKind). HasStopped k image after session now request gone (λ there. HasMet k there after request.offset request.length)) (sym is) (so says)
+done_as image after session now request gone room kind Lacked Met Did outcomes.NoMemory is lacks so then' says = subst (λ (k : RequestKind). HasStopped k image after session now request gone (λ there. Unit {0})) (sym is) (lacks says)
+done_as image after session now request gone room kind Lacked Met Did outcomes.Invalid is lacks so then' says = says
+done_as image after session now request gone room kind Lacked Met Did outcomes.NoSpace is lacks so then' says = says
 
-pub kind_says : (image after : Image) (session now : Session) (request : Request) (gone room : List ℕ) (kind : RequestKind) (Did : Type 0) (result : Result Outcome Halt) → request.kind ≡ kind
+pub kind_says : (image after : Image) (session now : Session) (request : Request) (gone room : List ℕ) (kind : RequestKind) (Lacked Met Did : Type 0) (result : Result Outcome Halt) → request.kind ≡ kind
+    → (Lacked → HasStopped kind image after session now request gone (λ there. Unit {0})) → (Met → HasStopped kind image after session now request gone (λ there. HasMet kind there after request.offset request.length))
     → (Did → HasDone kind image after session now request gone (bytes_of_reply kind request.length outcomes.Done room)) → (kind ≡ kinds.Read → FindsSame image after session now)
-    → IfOk result (SaysTrue (HasMet kind after request.offset request.length) Did (FindsSame image after session now))
+    → IfOk result (SaysTrue Lacked Met Did (FindsSame image after session now))
     → IfOk result (λ outcome. TellsTrue image after session now (record { head = request; bytes = gone }) (reply_of request outcome room))
-kind_says image after session now request gone room kind Did (Ok outcome) is then' reads says = record {
-  says = done_as image after session now request gone room kind (HasMet kind after request.offset request.length) Did outcome is (λ met. met) then' says;
+kind_says image after session now request gone room kind Lacked Met Did (Ok outcome) is lacks so then' reads says = record {
+  says = done_as image after session now request gone room kind Lacked Met Did outcome is lacks so then' says;
   reads = λ read. reads (sym is ∙ read);
 }
-kind_says image after session now request gone room kind Did (Err halt) is then' reads says = tt
+kind_says image after session now request gone room kind Lacked Met Did (Err halt) is lacks so then' reads says = tt
 
 -- a flush
 pub flush_says : (image after : Image) (session : Session) (request : Request) (gone room : List ℕ) (result : Result Performed Halt) → request.kind ≡ kinds.Flush
-    → IfOk result (λ done. SaysTrue ⊥ (needed_by done.session ≡ 0) (FindsSame image after session done.session) done.outcome)
+    → IfOk result (λ done. SaysTrue ⊥ ⊥ (needed_by done.session ≡ 0) (FindsSame image after session done.session) done.outcome)
     → IfOk result (λ done. TellsTrue image after session done.session (record { head = request; bytes = gone }) (reply_of request done.outcome room))
 flush_says image after session request gone room (Err halt) is says = tt
 flush_says image after session request gone room (Ok done) is says = record {
-  says = done_as image after session done.session request gone room kinds.Flush ⊥ (needed_by done.session ≡ 0) done.outcome is (λ never. absurd never) (λ none. none) says;
+  says = done_as image after session done.session request gone room kinds.Flush ⊥ ⊥ (needed_by done.session ≡ 0) done.outcome is (λ never. absurd never) (λ never. absurd never) (λ none. none) says;
   reads = λ read. absurd (let no : kinds.Flush ≡ kinds.Read = sym is ∙ read in cc);
 }
 
 -- and its commit: the next one needs no page, or all is as it was
 pub commit_says : {S R W : Type 0} (P : PlatformGhosts S) (platform platform_now : S) (tape tape_now : R) (ledger ledger_now : W) (session now : Session) (reply : CommitReply) (outcome : Outcome) → outcome ≡ commit_outcome reply
-    → AnswersReply P platform platform_now tape tape_now ledger ledger_now session now reply → SaysTrue ⊥ (needed_by now ≡ 0) (FindsSame (P.history platform).present (P.history platform_now).present session now) outcome
+    → AnswersReply P platform platform_now tape tape_now ledger ledger_now session now reply → SaysTrue ⊥ ⊥ (needed_by now ≡ 0) (FindsSame (P.history platform).present (P.history platform_now).present session now) outcome
 commit_says P platform platform_now tape tape_now ledger ledger_now session now (replies.Committed number) outcome is answers =
-    subst (SaysTrue ⊥ (needed_by now ≡ 0) (FindsSame (P.history platform).present (P.history platform_now).present session now)) (sym is) answers.needs
+    subst (SaysTrue ⊥ ⊥ (needed_by now ≡ 0) (FindsSame (P.history platform).present (P.history platform_now).present session now)) (sym is) answers.needs
 commit_says P platform platform_now tape tape_now ledger ledger_now session now (replies.Full needed free) outcome is answers =
-    subst (SaysTrue ⊥ (needed_by now ≡ 0) (FindsSame (P.history platform).present (P.history platform_now).present session now)) (sym is)
+    subst (SaysTrue ⊥ ⊥ (needed_by now ≡ 0) (FindsSame (P.history platform).present (P.history platform_now).present session now)) (sym is)
     (record { pages = ap (λ p. (P.history p).present.readable) answers.same.1; grove = ap (λ (s : Session). s.grove) answers.same.0 })
 
 -- ---- at moments of a run

@@ -1,6 +1,6 @@
 -- Blocks of which look-ups find behind a call what they found before, and those that a trim or a write changed.
 use Rattle.std.proofs.Common.{◌≡◌, ◌≢◌, ◌<◌, ◌≤◌, ◌+◌, ◌-◌, ◌*◌, ◌++◌, ◌⊎◌, ◌∙◌, ℕ, List, [], None, Some, Result, Ok, Err, false, inl, inr, length, length-append, take, drop, get_or, refl, sym, ap, subst, arith}
-use Rattle.std.specs.Prelude.{◌/◌, ◌%◌, All, Contains, IfErr, OnOk, slice_get}
+use Rattle.std.specs.Prelude.{◌/◌, ◌%◌, All, Contains, IfErr, OnErr, OnOk, slice_get}
 use Rattle.session_calls.specs.declared.stops.DeviceStop.{DeviceStop}
 use Rattle.std.proofs.lemmas.Bool.{cases_lt}
 use Rattle.std.proofs.lemmas.List.{take_all}
@@ -12,12 +12,14 @@ use Rattle.byte_arrays.proofs.ArrayLaws.{byte_in_block, get_or-bytes_at, length-
 use Rattle.byte_arrays.proofs.RangeLaws.{get_or-blocks_from, in_blocks_from, is_touched, length-blocks_from, length-touched_blocks, touched_is}
 use Rattle.platform.specs.Image.{Image}
 use Rattle.device_session.specs.Damage.{HasPut, HasTaken, IsFound}
-use Rattle.device_session.specs.Open.{blocks_of}
+use Rattle.device_session.specs.Open.{blocks_of, needed_by}
 use Rattle.device_session.specs.Reading.{FindsContent, KeepsBlock}
 use Rattle.device_session.specs.Sessions.{Session}
 use Rattle.nbd_lang.specs.declared.requests.RequestKind.TheVariants as kinds
 use Rattle.nbd_core.specs.Meets.{MayMeet, MeetsAt}
 use Rattle.nbd_core.specs.Found.{FindsByte, FindsBytes, FindsSame, HasTrimmed, HasWritten, WritesFound}
+use Rattle.nbd_core.specs.Stopped.{LeavesCounts, TrimmedFirst, WroteFirst}
+use Rattle.nbd_core.proofs.ArrayLaws.{take_blocks}
 use Rattle.nbd_core.proofs.FoundLaws.{finds_all, finds_in, finds_nothing, finds_then}
 
 -- ---- one call behind another
@@ -234,7 +236,77 @@ written_all image after session now offset count n bytes size all written = reco
 
 -- ---- calls for blocks
 
-pub writes_found : (image after : Image) (session now : Session) (place : ℕ) (bytes : List ℕ) (result : Result (Unit {0}) DeviceStop) {Put : Type 0} → IfErr result (MeetsAt (MayMeet kinds.Write after place (length bytes))) → OnOk result Put → (Put → HasWritten image after session now place bytes)
+pub writes_found : (image after : Image) (session now : Session) (place : ℕ) (bytes : List ℕ) (result : Result (Unit {0}) DeviceStop) {Put : Type 0} → IfErr result (MeetsAt (MayMeet kinds.Write session after place (length bytes))) → OnOk result Put → (Put → HasWritten image after session now place bytes)
     → WritesFound image after session now place bytes result
 writes_found image after session now place bytes (Ok done) meets put then' = then' put
 writes_found image after session now place bytes (Err stop) meets put then' = meets
+
+-- ---- the first blocks, where one behind them stopped
+
+-- the pages as they were behind these
+trimmed_still : (image mid after : Image) (session there : Session) (blocks : List ℕ) → after.readable ≡ mid.readable → HasTrimmed image mid session there blocks → HasTrimmed image after session there blocks
+trimmed_still image mid after session there blocks same trimmed = record {
+  gone = subst (λ (pages : List (List ℕ)). All (IsFound false pages there) blocks) (sym same) trimmed.gone;
+  others = λ other within out. subst (λ (pages : List (List ℕ)). KeepsBlock image.readable pages session there other) (sym same) (trimmed.others other within out);
+}
+
+pub trimmed_first : (image mid after : Image) (session there now : Session) (first count end : ℕ) (blocks : List ℕ) → blocks ≡ blocks_from first (end - first) → first + count < end → after.readable ≡ mid.readable → TrimmedTo image mid session there first count
+    → session.mapped ≤ there.mapped + count → LeavesCounts there now → TrimmedFirst image after session there now blocks
+trimmed_first image mid after session there now first count end blocks is below same trimmed counted left =
+    let some : take count blocks ≡ blocks_from first ((first + count) - first) =
+    ap (take count) is ∙ take_blocks first count (end - first) (omega (arith, below)) ∙ ap (blocks_from first) (let e : count ≡ (first + count) - first = omega arith in e) in
+    record {
+      count = count;
+      less = omega (arith, below, ap length is, length-blocks_from first (end - first));
+      trimmed = trimmed_still image mid after session there (take count blocks) same (trimmed_all image mid session there first count (first + count) (take count blocks) some (omega arith) trimmed);
+      counted = omega (arith, counted, left.mapped);
+      left = left;
+    }
+
+written_still : (image mid after : Image) (session there : Session) (offset : ℕ) (bytes : List ℕ) → after.readable ≡ mid.readable → HasWritten image mid session there offset bytes → HasWritten image after session there offset bytes
+written_still image mid after session there offset bytes same written = record {
+  came = λ i byte is.
+      let finds = written.came i byte is in
+      byte_still (offset + i) byte finds;
+  beside = λ place beside.
+      let was = written.beside place beside in
+      (was.0, was.1, byte_still place was.0 was.2);
+  others = λ other within out. subst (λ (pages : List (List ℕ)). KeepsBlock image.readable pages session there other) (sym same) (written.others other within out);
+}
+  where
+    byte_still : (place byte : ℕ) → FindsByte mid there place byte → FindsByte after there place byte
+    byte_still place byte finds = record { content = finds.content; finds = subst (λ (pages : List (List ℕ)). FindsContent pages there.grove (place / 4096) finds.content) (sym same) finds.finds; is = finds.is }
+
+-- so many blocks have the bytes up to a part
+touched_before : (offset done parts : ℕ) → IsAtPart offset done parts → length (touched_blocks offset done) ≡ parts
+touched_before offset done parts (inl (none, first)) = ap (λ (n : ℕ). length (touched_blocks offset n)) none ∙ sym first
+touched_before offset done parts (inr end) = elim (cases_lt 0 done) [
+  | inl some ↦ omega (arith, end, some, length-touched_blocks offset done some)
+  | inr nothing ↦
+      let none : done ≡ 0 = omega (arith, nothing) in
+      ap (λ (n : ℕ). length (touched_blocks offset n)) none ∙ omega (arith, end, none)
+]
+
+pub wrote_first : (image mid after : Image) (session there now : Session) (offset done parts : ℕ) (gone bytes : List ℕ) → take done bytes ≡ gone → length gone ≡ done → done < length bytes → IsAtPart offset done parts → after.readable ≡ mid.readable
+    → length after.recorded ≡ length image.recorded + parts → WrittenTo image mid session there offset gone (offset / 4096) parts → LeavesCounts there now → WroteFirst image after session there now offset bytes
+wrote_first image mid after session there now offset done parts gone bytes front size less at same pages written left =
+    let count : length (touched_blocks offset done) ≡ parts = touched_before offset done parts at in
+    record {
+      count = done;
+      less = less;
+      at = subst (IsAtPart offset done) (sym count) at;
+      written = subst (HasWritten image after session there offset) (sym front) (written_still image mid after session there offset gone same (written_all image mid session there offset parts done gone size count written));
+      pages = omega (arith, pages, count);
+      left = left;
+    }
+
+-- ---- what a call that stopped leaves
+
+pub left_both : {X : Type 0} (result : Result X DeviceStop) (session now : Session) → blocks_of now ≡ blocks_of session → OnErr result (now.mapped ≡ session.mapped) → OnErr result (needed_by now ≡ needed_by session) → OnErr result (LeavesCounts session now)
+left_both (Ok done) session now blocks mapped needs = tt
+left_both (Err stop) session now blocks mapped needs = record { blocks = blocks; mapped = mapped; needs = omega (arith, needs) }
+
+-- behind one that adds nothing
+pub left_behind : {X : Type 0} (result : Result X DeviceStop) (session between now : Session) → blocks_of between ≡ blocks_of session → between.mapped ≡ session.mapped → needed_by between ≤ needed_by session + 41 * 0 → OnErr result (LeavesCounts between now) → OnErr result (LeavesCounts session now)
+left_behind (Ok done) session between now blocks mapped needs left = tt
+left_behind (Err stop) session between now blocks mapped needs left = record { blocks = left.blocks ∙ blocks; mapped = left.mapped ∙ mapped; needs = omega (arith, left.needs, needs) }

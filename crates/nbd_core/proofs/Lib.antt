@@ -11,6 +11,8 @@ pub mod StatusLaws
 pub mod ServedLaws
 pub mod ArrayLaws
 pub mod ReadLaws
+pub mod ChangeLaws
+pub mod KeepLaws
 pub mod MeetLaws
 pub mod TurnLaws
 pub mod FoundLaws

@@ -1,17 +1,18 @@
 -- Where calls for blocks meet a page that doesn't fit its place.
-use Rattle.std.proofs.Common.{◌≡◌, ◌≢◌, ◌≤◌, ◌<◌, ◌+◌, ◌*◌, ℕ, List, Result, Ok, Err, inl, inr, arith}
+use Rattle.std.proofs.Common.{◌≡◌, ◌≢◌, ◌≤◌, ◌<◌, ◌+◌, ◌*◌, ℕ, List, Result, Ok, Err, ap, inl, inr, arith}
 use Rattle.std.specs.Prelude.{IfErr}
 use Rattle.std.proofs.lemmas.Bool.{cases_lt}
 use Rattle.byte_arrays.specs.Parts.{IsPart}
 use Rattle.byte_arrays.specs.Ranges.{IsCovered}
 use Rattle.platform.specs.Image.{Image}
+use Rattle.device_session.specs.Damage.{IsAtLimit}
+use Rattle.device_session.specs.Open.{blocks_of}
 use Rattle.device_session.specs.Sessions.{Session}
 use Rattle.nbd_lang.specs.declared.requests.RequestKind.TheVariants as kinds
-use Rattle.session_calls.specs.Damage.{IsWrongPlace, IsWrongStep, ReadsAny, TrimsAny, WritesAny}
+use Rattle.session_calls.specs.Damage.{IsWrongPlace, ReadsAny, TrimsAny, WritesAny}
 use Rattle.session_calls.specs.declared.stops.DeviceStop.{DeviceStop}
 use Rattle.session_calls.specs.declared.stops.DeviceStop.TheVariants as stops
-use Rattle.session_calls.proofs.NodeLaws.{wrong_page}
-use Rattle.nbd_core.specs.Meets.{CutsBlock, MayMeet, MeetsAt}
+use Rattle.nbd_core.specs.Meets.{CutsBlock, IsStepAt, MayMeet, MeetsAt}
 
 -- what is so at an address is so too in another way
 pub meets_more : (One Other : ℕ → Type 0) (stop : DeviceStop) → ((addr : ℕ) → One addr → Other addr) → MeetsAt One stop → MeetsAt Other stop
@@ -37,23 +38,23 @@ read_stops Known image after session block bytes (Err stops.Ledger) any known = 
 read_stops Known image after session block bytes (Err stops.BadRoot) any known = absurd any
 read_stops Known image after session block bytes (Err (stops.BadRecord addr)) any known = any known
 
-pub write_stops : (Known : Type 0) (image after : Image) (session : Session) (block : ℕ) (result : Result (Unit {0}) DeviceStop) → WritesAny Known image after session block result → Known → IfErr result (MeetsAt (IsWrongStep after))
+pub write_stops : (Known : Type 0) (image after : Image) (session : Session) (block : ℕ) (result : Result (Unit {0}) DeviceStop) → WritesAny Known image after session block result → Known → IfErr result (MeetsAt (IsStepAt (IsAtLimit session) after))
 write_stops Known image after session block (Ok done) any known = tt
 write_stops Known image after session block (Err stops.Platform) any known = tt
 write_stops Known image after session block (Err stops.Memory) any known = tt
 write_stops Known image after session block (Err stops.Tape) any known = tt
 write_stops Known image after session block (Err stops.Ledger) any known = absurd any
 write_stops Known image after session block (Err stops.BadRoot) any known = absurd any
-write_stops Known image after session block (Err (stops.BadRecord addr)) any known = wrong_page (any known)
+write_stops Known image after session block (Err (stops.BadRecord addr)) any known = elim (any known) [ inl node ↦ inl node | inr past ↦ inr (past.0, past.1.1) ]
 
-pub trim_stops : (Known : Type 0) (image after : Image) (session : Session) (block : ℕ) (result : Result (Unit {0}) DeviceStop) → TrimsAny Known image after session block result → Known → IfErr result (MeetsAt (IsWrongStep after))
+pub trim_stops : (Known : Type 0) (image after : Image) (session : Session) (block : ℕ) (result : Result (Unit {0}) DeviceStop) → TrimsAny Known image after session block result → Known → IfErr result (MeetsAt (IsStepAt (session.mapped ≡ 0) after))
 trim_stops Known image after session block (Ok done) any known = tt
 trim_stops Known image after session block (Err stops.Platform) any known = tt
 trim_stops Known image after session block (Err stops.Memory) any known = tt
 trim_stops Known image after session block (Err stops.Tape) any known = absurd any
 trim_stops Known image after session block (Err stops.Ledger) any known = absurd any
 trim_stops Known image after session block (Err stops.BadRoot) any known = absurd any
-trim_stops Known image after session block (Err (stops.BadRecord addr)) any known = wrong_page (any known)
+trim_stops Known image after session block (Err (stops.BadRecord addr)) any known = elim (any known) [ inl node ↦ inl node | inr none ↦ inr (none.0, none.1.1) ]
 
 -- ---- parts of a range
 
@@ -95,8 +96,18 @@ part_cuts offset n done block start count size part same cut =
     )
 
 -- what a write of a part meets, one of the range does
-pub part_meets : (image : Image) (offset n done block start count size : ℕ) (stop : DeviceStop) → IsPart offset n done block start count → size ≡ count
-    → MeetsAt (MayMeet kinds.Write image (4096 * block + start) size) stop → MeetsAt (MayMeet kinds.Write image offset n) stop
-part_meets image offset n done block start count size stop part same meets =
-    meets_more (MayMeet kinds.Write image (4096 * block + start) size) (MayMeet kinds.Write image offset n) stop
+pub part_meets : (image : Image) (session : Session) (offset n done block start count size : ℕ) (stop : DeviceStop) → IsPart offset n done block start count → size ≡ count
+    → MeetsAt (MayMeet kinds.Write session image (4096 * block + start) size) stop → MeetsAt (MayMeet kinds.Write session image offset n) stop
+part_meets image session offset n done block start count size stop part same meets =
+    meets_more (MayMeet kinds.Write session image (4096 * block + start) size) (MayMeet kinds.Write session image offset n) stop
     (λ addr may. elim may [ inl step ↦ inl step | inr cut ↦ inr (part_cuts offset n done block start count size part same cut.0, cut.1) ]) meets
+
+-- ---- behind a read
+
+-- the same bound behind a call that leaves what is counted, and the tree
+pub limit_before : (session between : Session) → blocks_of between ≡ blocks_of session → between.mapped ≡ session.mapped → between.grove ≡ session.grove → IsAtLimit between → IsAtLimit session
+limit_before session between blocks mapped grove (inl full) = inl (omega (arith, full, blocks, mapped))
+limit_before session between blocks mapped grove (inr high) = inr (omega (arith, high, ap (λ g. g.level) grove))
+
+pub step_before : (One Other : Type 0) (image : Image) (result : Result (Unit {0}) DeviceStop) → (One → Other) → IfErr result (MeetsAt (IsStepAt One image)) → IfErr result (MeetsAt (IsStepAt Other image))
+step_before One Other image result then' = if_meets (IsStepAt One image) (IsStepAt Other image) result (λ addr step. elim step [ inl node ↦ inl node | inr root ↦ inr (root.0, then' root.1) ])

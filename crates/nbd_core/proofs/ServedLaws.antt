@@ -50,6 +50,9 @@ use Rattle.nbd_core.specs.declared.halts.Halt.TheVariants as halts
 use Rattle.nbd_core.proofs.CameLaws.{came_nothing, came_then, came_weaker}
 use Rattle.nbd_core.proofs.AmpleLaws.{leads_room, room_finished}
 use Rattle.nbd_core.proofs.TurnLaws.{Ending, LedTo, led_start, led_more, led_end}
+use Rattle.nbd_core.specs.Changes.{HasChanged, changes_for, changes_in, tally}
+use Rattle.nbd_core.proofs.ChangeLaws.{changes_is, rises_within}
+use Rattle.sdbt_base.specs.Rises.{MayRiseBy}
 
 -- ---- a head, and fewer bytes than follow it
 
@@ -126,7 +129,7 @@ same_count exchanges = length-map exchanges told_of ∙ sym (length-map exchange
 pub replied_more : (From : Held → Type 0) (tells : Type 0) (before mid_outside after : Outside) (session next : Session) (size : ℕ) (a b c d : Option (List ℕ)) (old mid read now : Room) (w0 w1 w2 : Option (List ℕ)) (exchanges : List Exchange) (request : Request)
     → ((entry : Held) → From entry → tells) → mid_outside.capacity ≡ before.capacity → after.capacity ≡ mid_outside.capacity → mid_outside.head ≤ after.head → (tells → Extends before.history mid_outside.history) → (tells → Extends mid_outside.history after.history) → request.kind ≢ kinds.Disconnect
     → 4096 * blocks_of session ≡ size → (tells → IsMounted mid_outside.history.present session) → (tells → IsMounted after.history.present next) → Replied From tells before mid_outside session size a b old mid w0 w1 exchanges → HeadCame b c mid read (Ok (Some request)) → Answered tells mid_outside after session size request c d read now w1 w2 (Ok next)
-    → (exchange : Exchange) × Replied From tells before after next size a d old now w0 w2 (exchanges ++ exchange ∷ [])
+    → (exchange : Exchange) × (exchange.sent.head ≡ request) × Replied From tells before after next size a d old now w0 w2 (exchanges ++ exchange ∷ [])
 replied_more From tells before mid_outside after session next size a b c d old mid read now w0 w1 w2 exchanges request told same room rises until on other size_is mounted mounted_now so_far head answered =
     let sent : RequestSent = record { head = request; bytes = answered.gone } in
     let reply : Reply = answered.ends.1 in
@@ -135,6 +138,7 @@ replied_more From tells before mid_outside after session next size a b c d old m
     let answers : flat_map replied_bytes (exchanges ++ exchange ∷ []) ≡ flat_map replied_bytes exchanges ++ (reply_bytes reply ++ []) = flat_map-append replied_bytes exchanges (exchange ∷ []) in
     let came : List ℕ = request_head request ++ (answered.gone ++ now.ahead) in (
       exchange,
+      refl,
       record {
         came = flat_map sent_bytes exchanges ++ came;
         put = so_far.put ++ reply_bytes reply;
@@ -168,13 +172,13 @@ halt_same one other same = cc
 unfinished_at : (capacity size : ℕ) (rest tail part : List ℕ) (result : Result (Unit {0}) Halt) (last : Held) (ahead : List Held) → result ≡ Err halts.Unfinished → IsAhead capacity size rest tail part result last ahead → IsUnfinished capacity last
 unfinished_at capacity size rest tail part result last ahead is ends = (subst (λ (r : Result (Unit {0}) Halt). IsAhead capacity size rest tail part r last ahead) is ends).1
 
-served_by : (From : Held → Type 0) (tells : Type 0) (before there after : Outside) (session : Session) (size : ℕ) (a b c : Option (List ℕ)) (old mid now : Room) (w0 w1 w2 : Option (List ℕ)) (exchanges : List Exchange) (rest part : List ℕ) (result : Result (Unit {0}) Halt)
+served_by : (From : Held → Type 0) (tells : Type 0) (changes changes_now : ℕ) (before there after : Outside) (session : Session) (size : ℕ) (a b c : Option (List ℕ)) (old mid now : Room) (w0 w1 w2 : Option (List ℕ)) (exchanges : List Exchange) (rest part : List ℕ) (result : Result (Unit {0}) Halt)
     → Replied From tells before there session size a b old mid w0 w1 exchanges → Came b c mid now.left AwaitsRequest rest → Got w1 part w2 → ServedEnd size rest part c now.ahead result
     → IfErr result (λ halt. halt ≡ halts.Client stops.Limit → now.left ≡ 0) → (tells → Extends there.history after.history)
     → after.capacity ≡ there.capacity → there.head ≤ after.head → (result ≡ Err halts.Unfinished → after.capacity - after.head < needed_by session)
-    → (tells → HasRead size rest (before.reads + reads_in size exchanges) after.reads) → ((entry : Held) → From entry → (last : Held) → IsHeld there.history.present there.head session last → Ending before.capacity there after (EndsFrom before.capacity size rest now.ahead part after.head result) last)
-    → Served From tells 0 before after size a c old now w0 w2 result
-served_by From tells before there after session size a b c old mid now w0 w1 w2 exchanges rest part result so_far next got ends limit on room rises lacks read made = record {
+    → (tells → HasRead size rest (before.reads + reads_in size exchanges) after.reads) → (tells → HasChanged size rest (changes_in size exchanges) changes changes_now) → ((entry : Held) → From entry → (last : Held) → IsHeld there.history.present there.head session last → Ending before.capacity there after (EndsFrom before.capacity size rest now.ahead part after.head result) last)
+    → Served From tells (tally 0 changes changes_now) before after size a c old now w0 w2 result
+served_by From tells changes changes_now before there after session size a b c old mid now w0 w1 w2 exchanges rest part result so_far next got ends limit on room rises lacks read changed made = record {
   exchanges = exchanges;
   came = flat_map sent_bytes exchanges ++ rest;
   put = so_far.put ++ part;
@@ -190,6 +194,7 @@ served_by From tells before there after session size a b c old mid now w0 w1 w2 
   damage = λ told. (moment there.history, session, told_later size before.history there.history after.history exchanges (moment there.history) session (on told) (so_far.damage told));
   short = short_less size (there.capacity - there.head) (after.capacity - after.head) 0 exchanges (omega (arith, room, rises)) so_far.short;
   reads = λ told. read_more size rest (before.reads + reads_in size exchanges) (before.reads + 0 + reads_in size exchanges) after.reads (omega arith) (read told);
+  changes = changed;
   unfinished = λ is. omega (arith, lacks is, so_far.needs);
   led = λ entry from.
       let led = so_far.led entry from in
@@ -212,16 +217,16 @@ nothing_ahead capacity here session last Is held is = record {
 }
 
 -- without a head that is whole
-pub served_stopped : (From : Held → Type 0) (tells : Type 0) (before there : Outside) (session : Session) (size : ℕ) (a b c : Option (List ℕ)) (old mid now : Room) (w0 w1 : Option (List ℕ)) (exchanges : List Exchange) (halt : Halt)
-    → Replied From tells before there session size a b old mid w0 w1 exchanges → HeadCame b c mid now (Err halt) → Served From tells 0 before there size a c old now w0 w1 (Err halt)
-served_stopped From tells before there session size a b c old mid now w0 w1 exchanges halt so_far head = by halt head.limit head.ends
+pub served_stopped : (From : Held → Type 0) (tells : Type 0) (changes changes_now : ℕ) (before there : Outside) (session : Session) (size : ℕ) (a b c : Option (List ℕ)) (old mid now : Room) (w0 w1 : Option (List ℕ)) (exchanges : List Exchange) (halt : Halt)
+    → (tells → MayRiseBy (changes_in size exchanges) changes changes_now) → Replied From tells before there session size a b old mid w0 w1 exchanges → HeadCame b c mid now (Err halt) → Served From tells (tally 0 changes changes_now) before there size a c old now w0 w1 (Err halt)
+served_stopped From tells changes changes_now before there session size a b c old mid now w0 w1 exchanges halt changed so_far head = by halt head.limit head.ends
   where
-    stop : (h : Halt) → (h ≢ halts.Unfinished) → (h ≡ halts.Client stops.Limit → now.left ≡ 0) → ServedEnd size head.came [] c now.ahead (Err h) → ((last : Held) → last.pages ≡ there.head → EndsFrom before.capacity size head.came now.ahead [] there.head (Err h) last []) → Served From tells 0 before there size a c old now w0 w1 (Err h)
-    stop h other limit ends none = served_by From tells before there there session size a b c old mid now w0 w1 w1 exchanges head.came [] (Err h) so_far head.takes (Got-nothing w1) ends limit (λ told. Extends-refl there.history) refl (omega arith) (λ is. absurd (other (halt_same h halts.Unfinished is)))
-        (λ told. inl (so_far.reads told))
+    stop : (h : Halt) → (h ≢ halts.Unfinished) → (h ≡ halts.Client stops.Limit → now.left ≡ 0) → ServedEnd size head.came [] c now.ahead (Err h) → ((last : Held) → last.pages ≡ there.head → EndsFrom before.capacity size head.came now.ahead [] there.head (Err h) last []) → Served From tells (tally 0 changes changes_now) before there size a c old now w0 w1 (Err h)
+    stop h other limit ends none = served_by From tells changes changes_now before there there session size a b c old mid now w0 w1 w1 exchanges head.came [] (Err h) so_far head.takes (Got-nothing w1) ends limit (λ told. Extends-refl there.history) refl (omega arith) (λ is. absurd (other (halt_same h halts.Unfinished is)))
+        (λ told. inl (so_far.reads told)) (λ told. inl (changed told))
         (λ entry from last held. nothing_ahead before.capacity there session last (EndsFrom before.capacity size head.came now.ahead [] there.head (Err h)) held (none last held.pages))
 
-    by : (h : Halt) → (h ≡ halts.Client stops.Limit → now.left ≡ 0) → HeadEnd c now.ahead head.came (Err h) → Served From tells 0 before there size a c old now w0 w1 (Err h)
+    by : (h : Halt) → (h ≡ halts.Client stops.Limit → now.left ≡ 0) → HeadEnd c now.ahead head.came (Err h) → Served From tells (tally 0 changes changes_now) before there size a c old now w0 w1 (Err h)
     by (halts.Client stops.Source) limit ends = stop (halts.Client stops.Source) (λ e. cc) limit (refl, ends) (λ last pages. record { to = refl; near = inl (sym pages) })
     by (halts.Client stops.Limit) limit ends = stop (halts.Client stops.Limit) (λ e. cc) limit (refl, ends) (λ last pages. record { to = refl; near = inl (sym pages) })
     by (halts.Client stops.Broken) limit ends = stop (halts.Client stops.Broken) (λ e. cc) limit (refl, ends) (λ last pages. record { to = refl; near = inl (sym pages) })
@@ -235,10 +240,10 @@ served_stopped From tells before there session size a b c old mid now w0 w1 exch
     by halts.Memory limit ends = absurd ends
 
 -- where the input ended between two requests
-pub served_over : (From : Held → Type 0) (tells : Type 0) (before there : Outside) (session : Session) (size : ℕ) (a b c : Option (List ℕ)) (old mid now : Room) (w0 w1 : Option (List ℕ)) (exchanges : List Exchange)
-    → Replied From tells before there session size a b old mid w0 w1 exchanges → HeadCame b c mid now (Ok None) → Served From tells 0 before there size a c old now w0 w1 (Ok tt)
-served_over From tells before there session size a b c old mid now w0 w1 exchanges so_far head =
-    served_by From tells before there there session size a b c old mid now w0 w1 w1 exchanges head.came [] (Ok tt) so_far head.takes (Got-nothing w1) (refl, inl head.ends) tt (λ told. Extends-refl there.history) refl (omega arith) (λ is. absurd cc) (λ told. inl (so_far.reads told))
+pub served_over : (From : Held → Type 0) (tells : Type 0) (changes changes_now : ℕ) (before there : Outside) (session : Session) (size : ℕ) (a b c : Option (List ℕ)) (old mid now : Room) (w0 w1 : Option (List ℕ)) (exchanges : List Exchange)
+    → (tells → MayRiseBy (changes_in size exchanges) changes changes_now) → Replied From tells before there session size a b old mid w0 w1 exchanges → HeadCame b c mid now (Ok None) → Served From tells (tally 0 changes changes_now) before there size a c old now w0 w1 (Ok tt)
+served_over From tells changes changes_now before there session size a b c old mid now w0 w1 exchanges changed so_far head =
+    served_by From tells changes changes_now before there there session size a b c old mid now w0 w1 w1 exchanges head.came [] (Ok tt) so_far head.takes (Got-nothing w1) (refl, inl head.ends) tt (λ told. Extends-refl there.history) refl (omega arith) (λ is. absurd cc) (λ told. inl (so_far.reads told)) (λ told. inl (changed told))
     (λ entry from last held. nothing_ahead before.capacity there session last (EndsFrom before.capacity size head.came now.ahead [] there.head (Ok tt)) held (record { to = inl (head.ends.0, refl); near = sym held.pages }))
 
 -- a disconnect isn't refused
@@ -325,21 +330,22 @@ goodbye_limit (Err halts.Unfinished) left ends = λ is. absurd cc
 goodbye_limit (Err halts.BadRoot) left ends = absurd ends
 goodbye_limit (Err halts.NoDevice) left ends = absurd ends
 
-pub served_goodbye : (From : Held → Type 0) (tells : Type 0) (before there after : Outside) (session : Session) (size : ℕ) (a b c : Option (List ℕ)) (old mid now : Room) (w0 w1 : Option (List ℕ)) (exchanges : List Exchange) (request : Request) (result : Result (Unit {0}) Halt)
+pub served_goodbye : (From : Held → Type 0) (tells : Type 0) (changes changes_now : ℕ) (before there after : Outside) (session : Session) (size : ℕ) (a b c : Option (List ℕ)) (old mid now : Room) (w0 w1 : Option (List ℕ)) (exchanges : List Exchange) (request : Request) (result : Result (Unit {0}) Halt)
     → ((entry : Held) → From entry → tells) → there.capacity ≡ before.capacity → (tells → Extends there.history after.history) → after.capacity ≡ there.capacity → there.head ≤ after.head
     → (result ≡ Err halts.Unfinished → after.capacity - after.head < needed_by session) → IfErr result (λ halt. after.head ≤ there.head + left_by halt (needed_by session)) → (tells → after.reads ≡ there.reads) → request.kind ≡ kinds.Disconnect
-    → Replied From tells before there session size a b old mid w0 w1 exchanges → HeadCame b c mid now (Ok (Some request)) → EndsByDisconnect result → Finishes tells there after session result → Served From tells 0 before after size a c old now w0 w1 result
-served_goodbye From tells before there after session size a b c old mid now w0 w1 exchanges request result told same on room rises lacks adds unread is so_far head ends finishes =
+    → (tells → MayRiseBy (changes_in size exchanges + 2) changes changes_now) → Replied From tells before there session size a b old mid w0 w1 exchanges → HeadCame b c mid now (Ok (Some request)) → EndsByDisconnect result → Finishes tells there after session result → Served From tells (tally 0 changes changes_now) before after size a c old now w0 w1 result
+served_goodbye From tells changes changes_now before there after session size a b c old mid now w0 w1 exchanges request result told same on room rises lacks adds unread is changed so_far head ends finishes =
     let bye : IsGoodbye head.came now.ahead = (request, is, head.ends.1) in
-    served_by From tells before there after session size a b c old mid now w0 w1 w1 exchanges head.came [] result so_far head.takes (Got-nothing w1) (goodbye_end size head.came now.ahead c result bye ends) (goodbye_limit result now.left ends) on room rises lacks
+    served_by From tells changes changes_now before there after session size a b c old mid now w0 w1 w1 exchanges head.came [] result so_far head.takes (Got-nothing w1) (goodbye_end size head.came now.ahead c result bye ends) (goodbye_limit result now.left ends) on room rises lacks
     (λ told_so. inl (omega (arith, so_far.reads told_so, unread told_so)))
+    (λ told_so. inr (request, now.ahead, head.ends.0, head.ends.1, rises_within (changes_in size exchanges + 2) (changes_in size exchanges + changes_for size request) changes changes_now (omega (arith, changes_is size request kinds.Disconnect (never_refused size request is) is)) (changed told_so)))
     (λ entry from last held. goodbye_ends before.capacity size tells there after session head.came now.ahead last result (told entry from) same rises bye head.ends.0 ends adds held finishes)
 
 -- in a request: without its reply, or with a part of it
-pub served_halted : (From : Held → Type 0) (tells : Type 0) (before there after : Outside) (session : Session) (size : ℕ) (a b c d : Option (List ℕ)) (old mid read now : Room) (w0 w1 w2 : Option (List ℕ)) (exchanges : List Exchange) (request : Request) (halt : Halt)
+pub served_halted : (From : Held → Type 0) (tells : Type 0) (changes changes_now : ℕ) (before there after : Outside) (session : Session) (size : ℕ) (a b c d : Option (List ℕ)) (old mid read now : Room) (w0 w1 w2 : Option (List ℕ)) (exchanges : List Exchange) (request : Request) (halt : Halt)
     → ((entry : Held) → From entry → tells) → there.capacity ≡ before.capacity → (tells → Extends there.history after.history) → after.capacity ≡ there.capacity → there.head ≤ after.head → request.kind ≢ kinds.Disconnect
-    → Replied From tells before there session size a b old mid w0 w1 exchanges → HeadCame b c mid read (Ok (Some request)) → Answered tells there after session size request c d read now w1 w2 (Err halt) → Served From tells 0 before after size a d old now w0 w2 (Err halt)
-served_halted From tells before there after session size a b c d old mid read now w0 w1 w2 exchanges request halt told same on room rises other so_far head answered = by halt answered.limit answered.ends
+    → (tells → MayRiseBy (changes_in size exchanges + changes_for size request) changes changes_now) → Replied From tells before there session size a b old mid w0 w1 exchanges → HeadCame b c mid read (Ok (Some request)) → Answered tells there after session size request c d read now w1 w2 (Err halt) → Served From tells (tally 0 changes changes_now) before after size a d old now w0 w2 (Err halt)
+served_halted From tells changes changes_now before there after session size a b c d old mid read now w0 w1 w2 exchanges request halt told same on room rises other changed so_far head answered = by halt answered.limit answered.ends
   where
     rest : List ℕ
     rest = request_head request ++ (answered.gone ++ now.ahead)
@@ -350,19 +356,22 @@ served_halted From tells before there after session size a b c d old mid read no
     reads : tells → HasRead size rest (before.reads + reads_in size exchanges) after.reads
     reads told_so = inr (request, answered.gone ++ now.ahead, head.ends.0, refl, omega (arith, so_far.reads told_so, answered.reads told_so))
 
+    has_changed : tells → HasChanged size rest (changes_in size exchanges) changes changes_now
+    has_changed told_so = inr (request, answered.gone ++ now.ahead, head.ends.0, refl, changed told_so)
+
     none : (h : Halt) → (h ≢ halts.Unfinished) → (h ≡ halts.Client stops.Limit → now.left ≡ 0) → w2 ≡ w1 → ServedEnd size rest [] d now.ahead (Err h) → IsLate h → h ≢ halts.Client stops.Sink → Halts tells there after session request.kind h
-        → ((n : ℕ) → needed_by session ≤ 41 * n → after.head ≤ there.head + left_by h (needed_for size request n)) → Served From tells 0 before after size a d old now w0 w2 (Err h)
-    none h finished limit same_put ends late no_sink halts_so adds = served_by From tells before there after session size a b d old mid now w0 w1 w2 exchanges rest [] (Err h) so_far takes (subst (Got w1 []) (sym same_put) (Got-nothing w1)) ends limit on room rises (λ is. absurd (finished (halt_same h halts.Unfinished is))) reads
+        → ((n : ℕ) → needed_by session ≤ 41 * n → after.head ≤ there.head + left_by h (needed_for size request n)) → Served From tells (tally 0 changes changes_now) before after size a d old now w0 w2 (Err h)
+    none h finished limit same_put ends late no_sink halts_so adds = served_by From tells changes changes_now before there after session size a b d old mid now w0 w1 w2 exchanges rest [] (Err h) so_far takes (subst (Got w1 []) (sym same_put) (Got-nothing w1)) ends limit on room rises (λ is. absurd (finished (halt_same h halts.Unfinished is))) reads has_changed
         (λ entry from last held. halted_end before.capacity size there after rest now.ahead last request.kind h same (λ of. (request, answered.gone ++ now.ahead, of, refl)) late no_sink
         (added size there.head after.head rest (answered.gone ++ now.ahead) request last h head.ends.0 refl held.pages rises (adds last.updates held.needs)) (halts_so (told entry from) last held))
 
-    by : (h : Halt) → (h ≡ halts.Client stops.Limit → now.left ≡ 0) → AnswerEnd tells there after session size request d answered.gone now.ahead w1 w2 (Err h) → Served From tells 0 before after size a d old now w0 w2 (Err h)
+    by : (h : Halt) → (h ≡ halts.Client stops.Limit → now.left ≡ 0) → AnswerEnd tells there after session size request d answered.gone now.ahead w1 w2 (Err h) → Served From tells (tally 0 changes changes_now) before after size a d old now w0 w2 (Err h)
     by (halts.Client stops.Sink) limit (whole, reply, is, part, turns, damage) =
         let sent : RequestSent = record { head = request; bytes = answered.gone } in
         let exchange : Exchange = record { sent = sent; reply = reply } in
         let fits : FitsExchange size exchange = record { sent = record { head = head.ends.0; bytes = whole }; other = other; reply = is } in
         let cut : IsCutOff size rest now.ahead (take part.0 (reply_bytes reply)) = record { exchange = exchange; fits = fits; is = sym (append_assoc (request_head request) answered.gone now.ahead); count = part.0; put = refl } in
-        served_by From tells before there after session size a b d old mid now w0 w1 w2 exchanges rest (take part.0 (reply_bytes reply)) (Err (halts.Client stops.Sink)) so_far takes part.1 cut limit on room rises (λ is. absurd cc) reads
+        served_by From tells changes changes_now before there after session size a b d old mid now w0 w1 w2 exchanges rest (take part.0 (reply_bytes reply)) (Err (halts.Client stops.Sink)) so_far takes part.1 cut limit on room rises (λ is. absurd cc) reads has_changed
         (λ entry from last held.
         let turned = turns (told entry from) last held in
         record { ahead = turned.next ∷ []; made = turned.made; is = record { to = (cut, turned.next, refl, subst (λ (n : ℕ). Turn n last sent reply turned.next) same turned.turn); near = sym turned.pages } })
@@ -464,6 +473,6 @@ pub answered_on : (tells : Type 0) (before after : Outside) (session : Session) 
     → Answered tells before after session size request a c old new written written_now result → Answered tells before after session other request a c old new written written_now result
 answered_on tells before after session size other request a c old new written written_now result same answered = subst (λ (n : ℕ). Answered tells before after session n request a c old new written written_now result) same answered
 
-pub late_of : (From : Held → Type 0) (tells : Type 0) (before after : Outside) (size : ℕ) (a c : Option (List ℕ)) (old new : Room) (written written_now : Option (List ℕ)) (result : Result (Unit {0}) Halt) → Served From tells 0 before after size a c old new written written_now result → IfErr result IsLate
-late_of From tells before after size a c old new written written_now (Ok done) served = tt
-late_of From tells before after size a c old new written written_now (Err halt) served = late_served size served.rest served.part c new.ahead halt served.ends
+pub late_of : (From : Held → Type 0) (tells : Type 0) (changes changes_now : ℕ) (before after : Outside) (size : ℕ) (a c : Option (List ℕ)) (old new : Room) (written written_now : Option (List ℕ)) (result : Result (Unit {0}) Halt) → Served From tells (tally 0 changes changes_now) before after size a c old new written written_now result → IfErr result IsLate
+late_of From tells changes changes_now before after size a c old new written written_now (Ok done) served = tt
+late_of From tells changes changes_now before after size a c old new written written_now (Err halt) served = late_served size served.rest served.part c new.ahead halt served.ends

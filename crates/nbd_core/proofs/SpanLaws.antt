@@ -45,6 +45,7 @@ use Rattle.session_calls.proofs.MountLaws.{bad_served}
 use Rattle.nbd_core.proofs.DamageLaws.{told_since}
 use Rattle.nbd_core.proofs.ReadLaws.{read_more}
 use Rattle.nbd_core.proofs.TurnLaws.{array_since}
+use Rattle.nbd_core.specs.Changes.{HasChanged, Tally, changes_in, tally}
 
 -- a look at the platform, and what comes behind it
 pub spans_looked : (tells : Type 0) (old mid new : Outside) (Going : Type 0) → mid.drawn ≡ old.drawn → mid.written ≡ old.written → mid.head ≡ old.head → mid.capacity ≡ old.capacity
@@ -89,9 +90,9 @@ late_mount tells cell pages (device.BadRecord addr) halt told served is e = absu
 
 -- ---- what was said, and a mount that was answered
 
-pub conversed_of : (From : Held → Type 0) (tells : Type 0) (before after : Outside) (size other : ℕ) (left left_then left_now written written_then written_now : Option (List ℕ)) (first room : Room) (was agreed : Result Agreed Stop) (result : Result (Unit {0}) Halt) → size ≡ other → was ≡ agreed → first.ahead ≡ [] → first.left ≡ 2 ^ 40 → IfErr was (λ stop. stop ≡ stops.Limit → room.left ≡ 0)
-    → Haggled size left left_then first room written written_then was → GoesOn From tells 0 before after other agreed room left_then left_now written_then written_now result → Conversed From tells 0 before after other left left_now written written_now result
-conversed_of From tells before after size other left left_then left_now written written_then written_now first room was agreed result same is none most limit haggled goes = record {
+pub conversed_of : (From : Held → Type 0) (tells : Type 0) (count : Tally) (before after : Outside) (size other : ℕ) (left left_then left_now written written_then written_now : Option (List ℕ)) (first room : Room) (was agreed : Result Agreed Stop) (result : Result (Unit {0}) Halt) → size ≡ other → was ≡ agreed → first.ahead ≡ [] → first.left ≡ 2 ^ 40 → IfErr was (λ stop. stop ≡ stops.Limit → room.left ≡ 0)
+    → Haggled size left left_then first room written written_then was → GoesOn From tells count before after other agreed room left_then left_now written_then written_now result → Conversed From tells count before after other left left_now written written_now result
+conversed_of From tells count before after size other left left_then left_now written written_then written_now first room was agreed result same is none most limit haggled goes = record {
   first = first;
   room = room;
   fresh = (none, most);
@@ -109,19 +110,23 @@ conversed_of From tells before after size other left left_then left_now written 
 abbrev pub Since : (Held → Type 0) → (Held → Type 0) → Outside → Outside → Type 0
 Since Earlier From first second = (entry : Held) → Earlier entry → From entry × MadeBetween first.history second.history entry.device [] entry.device
 
-stayed_since : (Earlier From : Held → Type 0) (tells : Type 0) (looks : ℕ) (first second third : Outside) → second.head ≡ first.head → (tells → second.reads ≤ first.reads + 1) → Since Earlier From first second
-    → Stayed From tells looks second third → Stayed Earlier tells (looks + 1) first third
-stayed_since Earlier From tells looks first second third head once since stayed = record {
+abbrev pub earlier : Tally → ℕ → Tally
+earlier count was = record { looks = count.looks + 1; changes = was; changes_now = count.changes_now }
+
+stayed_since : (Earlier From : Held → Type 0) (tells : Type 0) (count : Tally) (was : ℕ) (first second third : Outside) → second.head ≡ first.head → (tells → second.reads ≤ first.reads + 1) → (tells → count.changes ≡ was) → Since Earlier From first second
+    → Stayed From tells count second third → Stayed Earlier tells (earlier count was) first third
+stayed_since Earlier From tells count was first second third head once still since stayed = record {
   pages = stayed.pages ∙ head;
   reads = λ told. omega (arith, stayed.reads told, once told);
+  changes = λ told. stayed.changes told ∙ still told;
   made = λ entry early.
       let s = since entry early in
       made_since first.history second.history third.history entry.device entry.device [] s.1 (stayed.made entry s.0);
 }
 
-served_since : (Earlier From : Held → Type 0) (tells : Type 0) (looks : ℕ) (first second third : Outside) (size : ℕ) (left left_now : Option (List ℕ)) (old new : Room) (written written_now : Option (List ℕ)) (result : Result (Unit {0}) Halt) → second.capacity ≡ first.capacity → (tells → second.reads ≤ first.reads + 1) → (tells → Extends first.history second.history) → Since Earlier From first second
-    → Served From tells looks second third size left left_now old new written written_now result → Served Earlier tells (looks + 1) first third size left left_now old new written written_now result
-served_since Earlier From tells looks first second third size left left_now old new written written_now result same once extends since served = record {
+served_since : (Earlier From : Held → Type 0) (tells : Type 0) (count : Tally) (was : ℕ) (first second third : Outside) (size : ℕ) (left left_now : Option (List ℕ)) (old new : Room) (written written_now : Option (List ℕ)) (result : Result (Unit {0}) Halt) → second.capacity ≡ first.capacity → (tells → second.reads ≤ first.reads + 1) → (tells → count.changes ≡ was) → (tells → Extends first.history second.history) → Since Earlier From first second
+    → Served From tells count second third size left left_now old new written written_now result → Served Earlier tells (earlier count was) first third size left left_now old new written written_now result
+served_since Earlier From tells count was first second third size left left_now old new written written_now result same once still extends since served = record {
   exchanges = served.exchanges;
   came = served.came;
   put = served.put;
@@ -142,20 +147,21 @@ served_since Earlier From tells looks first second third size left left_now old 
       let was = served.damage told in
       (was.0, was.1, told_since size first.history second.history third.history served.exchanges was.0 was.1 (extends told) was.2);
   short = served.short;
-  reads = λ told. read_more size served.rest (second.reads + looks + reads_in size served.exchanges) (first.reads + (looks + 1) + reads_in size served.exchanges) third.reads (omega (arith, once told)) (served.reads told);
+  reads = λ told. read_more size served.rest (second.reads + count.looks + reads_in size served.exchanges) (first.reads + (count.looks + 1) + reads_in size served.exchanges) third.reads (omega (arith, once told)) (served.reads told);
+  changes = λ told. subst (λ (n : ℕ). HasChanged size served.rest (changes_in size served.exchanges) n count.changes_now) (still told) (served.changes told);
   unfinished = served.unfinished;
   complete = λ entry early is room. served.complete entry (since entry early).0 is (subst (λ (n : ℕ). HasRoom n size entry served.exchanges) (sym same) room);
 }
 
-goes_since : (Earlier From : Held → Type 0) (tells : Type 0) (looks : ℕ) (first second third : Outside) (size : ℕ) (result_of : Result Agreed Stop) (room : Room) (left left_now written written_now : Option (List ℕ)) (result : Result (Unit {0}) Halt) → second.capacity ≡ first.capacity → second.head ≡ first.head → (tells → second.reads ≤ first.reads + 1) → (tells → Extends first.history second.history) → Since Earlier From first second
-    → GoesOn From tells looks second third size result_of room left left_now written written_now result → GoesOn Earlier tells (looks + 1) first third size result_of room left left_now written written_now result
-goes_since Earlier From tells looks first second third size (Ok agreed.Requests) room left left_now written written_now result same head once extends since (last, served) = (last, served_since Earlier From tells looks first second third size left left_now room last written written_now result same once extends since served)
-goes_since Earlier From tells looks first second third size (Ok agreed.Nothing) room left left_now written written_now result same head once extends since (a, b, c, stayed) = (a, b, c, stayed_since Earlier From tells looks first second third head once since stayed)
-goes_since Earlier From tells looks first second third size (Err stop) room left left_now written written_now result same head once extends since (a, b, c, stayed) = (a, b, c, stayed_since Earlier From tells looks first second third head once since stayed)
+goes_since : (Earlier From : Held → Type 0) (tells : Type 0) (count : Tally) (was : ℕ) (first second third : Outside) (size : ℕ) (result_of : Result Agreed Stop) (room : Room) (left left_now written written_now : Option (List ℕ)) (result : Result (Unit {0}) Halt) → second.capacity ≡ first.capacity → second.head ≡ first.head → (tells → second.reads ≤ first.reads + 1) → (tells → count.changes ≡ was) → (tells → Extends first.history second.history) → Since Earlier From first second
+    → GoesOn From tells count second third size result_of room left left_now written written_now result → GoesOn Earlier tells (earlier count was) first third size result_of room left left_now written written_now result
+goes_since Earlier From tells count was first second third size (Ok agreed.Requests) room left left_now written written_now result same head once still extends since (last, served) = (last, served_since Earlier From tells count was first second third size left left_now room last written written_now result same once still extends since served)
+goes_since Earlier From tells count was first second third size (Ok agreed.Nothing) room left left_now written written_now result same head once still extends since (a, b, c, stayed) = (a, b, c, stayed_since Earlier From tells count was first second third head once still since stayed)
+goes_since Earlier From tells count was first second third size (Err stop) room left left_now written written_now result same head once still extends since (a, b, c, stayed) = (a, b, c, stayed_since Earlier From tells count was first second third head once still since stayed)
 
-pub conversed_since : (Earlier From : Held → Type 0) (tells : Type 0) (looks : ℕ) (first second third : Outside) (size : ℕ) (left left_now written written_now : Option (List ℕ)) (result : Result (Unit {0}) Halt) → second.capacity ≡ first.capacity → second.head ≡ first.head → (tells → second.reads ≤ first.reads + 1) → (tells → Extends first.history second.history) → Since Earlier From first second
-    → Conversed From tells looks second third size left left_now written written_now result → Conversed Earlier tells (looks + 1) first third size left left_now written written_now result
-conversed_since Earlier From tells looks first second third size left left_now written written_now result same head once extends since conversed = record {
+pub conversed_since : (Earlier From : Held → Type 0) (tells : Type 0) (count : Tally) (was : ℕ) (first second third : Outside) (size : ℕ) (left left_now written written_now : Option (List ℕ)) (result : Result (Unit {0}) Halt) → second.capacity ≡ first.capacity → second.head ≡ first.head → (tells → second.reads ≤ first.reads + 1) → (tells → count.changes ≡ was) → (tells → Extends first.history second.history) → Since Earlier From first second
+    → Conversed From tells count second third size left left_now written written_now result → Conversed Earlier tells (earlier count was) first third size left left_now written written_now result
+conversed_since Earlier From tells count was first second third size left left_now written written_now result same head once still extends since conversed = record {
   first = conversed.first;
   room = conversed.room;
   fresh = conversed.fresh;
@@ -164,26 +170,26 @@ conversed_since Earlier From tells looks first second third size left left_now w
   agreed = conversed.agreed;
   haggled = conversed.haggled;
   limit = conversed.limit;
-  goes_on = goes_since Earlier From tells looks first second third size conversed.agreed conversed.room conversed.left_then left_now conversed.written_then written_now result same head once extends since conversed.goes_on;
+  goes_on = goes_since Earlier From tells count was first second third size conversed.agreed conversed.room conversed.left_then left_now conversed.written_then written_now result same head once still extends since conversed.goes_on;
 }
 
-pub silent_since : (Earlier From : Held → Type 0) (tells : Type 0) (looks : ℕ) (first second third : Outside) (left left_now written written_now : Option (List ℕ)) (result : Result (Unit {0}) Halt) → second.head ≡ first.head → (tells → second.reads ≤ first.reads + 1) → Since Earlier From first second
-    → IsSilent From tells looks second third left left_now written written_now result → IsSilent Earlier tells (looks + 1) first third left left_now written written_now result
-silent_since Earlier From tells looks first second third left left_now written written_now result head once since silent = record {
+pub silent_since : (Earlier From : Held → Type 0) (tells : Type 0) (count : Tally) (was : ℕ) (first second third : Outside) (left left_now written written_now : Option (List ℕ)) (result : Result (Unit {0}) Halt) → second.head ≡ first.head → (tells → second.reads ≤ first.reads + 1) → (tells → count.changes ≡ was) → Since Earlier From first second
+    → IsSilent From tells count second third left left_now written written_now result → IsSilent Earlier tells (earlier count was) first third left left_now written written_now result
+silent_since Earlier From tells count was first second third left left_now written written_now result head once still since silent = record {
   untaken = silent.untaken;
   unput = silent.unput;
   early = silent.early;
-  stayed = stayed_since Earlier From tells looks first second third head once since silent.stayed;
+  stayed = stayed_since Earlier From tells count was first second third head once still since silent.stayed;
 }
 
 -- a run that only looks says nothing
-pub silent_look : (tells : Type 0) (looks : ℕ) (old new : Outside) (left written : Option (List ℕ)) (result : Result (Unit {0}) Halt) → IsEarly result → new.head ≡ old.head → (tells → new.reads ≤ old.reads + looks) → (tells → CellStays old.history new.history)
-    → IsSilent (IsStart tells old) tells looks old new left left written written result
-silent_look tells looks old new left written result early head reads stays = record {
+pub silent_look : (tells : Type 0) (count : Tally) (old new : Outside) (left written : Option (List ℕ)) (result : Result (Unit {0}) Halt) → IsEarly result → new.head ≡ old.head → (tells → new.reads ≤ old.reads + count.looks) → (tells → count.changes_now ≡ count.changes) → (tells → CellStays old.history new.history)
+    → IsSilent (IsStart tells old) tells count old new left left written written result
+silent_look tells count old new left written result early head reads still stays = record {
   untaken = refl;
   unput = refl;
   early = early;
-  stayed = record { pages = head; reads = reads; made = λ entry start. made_kept old.history new.history entry.device start.stands start.served (stays start.told) };
+  stayed = record { pages = head; reads = reads; changes = still; made = λ entry start. made_kept old.history new.history entry.device start.stands start.served (stays start.told) };
 }
 
 pub early_mount : (tells : Type 0) (cell : Option (List ℕ)) (pages : ℕ) (stop : DeviceStop) (halt : Halt) → IsMountStop tells cell pages stop → halt ≡ mount_halt stop → IsEarly (Err halt)
@@ -252,32 +258,33 @@ room_found P nodes platform platform_now session result is finds =
 
 pub talks_mounted : {S R W : Type 0} (P : PlatformGhosts S) (T : TapeGhosts R) (L : SinkGhosts W) (nodes : ℕ) (platform platform_now : S) (tape : R) (ledger : W) (after : Outside) (session : Session) (result : Result (Option Session) DeviceStop)
     (left left_now written written_now : Option (List ℕ)) (ending : Result (Unit {0}) Halt) → result ≡ Ok (Some session) → Looks P platform platform_now → IfOk result (IsFound P nodes platform platform_now)
-    → (P.tells → (entry : State) → IsAt (P.history platform).present None entry → MountLeads (P.history platform_now).present entry result) → (P.tells → P.reads platform_now ≤ P.reads platform + 1)
-    → Says (IsFrom P.tells (around P T L platform_now tape ledger) session) P.tells 0 (around P T L platform_now tape ledger) after (4096 * blocks_of session) left left_now written written_now ending
-    → Talks P.tells 1 (around P T L platform tape ledger) after left left_now written written_now ending
-talks_mounted P T L nodes platform platform_now tape ledger after session result left left_now written written_now ending is looks finds leads once says =
+    → (P.tells → (entry : State) → IsAt (P.history platform).present None entry → MountLeads (P.history platform_now).present entry result) → (P.tells → P.reads platform_now ≤ P.reads platform + 1) → (changes_end : ℕ)
+    → Says (IsFrom P.tells (around P T L platform_now tape ledger) session) P.tells (tally 0 (P.changes platform_now) changes_end) (around P T L platform_now tape ledger) after (4096 * blocks_of session) left left_now written written_now ending
+    → Talks P.tells (tally 1 (P.changes platform) changes_end) (around P T L platform tape ledger) after left left_now written written_now ending
+talks_mounted P T L nodes platform platform_now tape ledger after session result left left_now written written_now ending is looks finds leads once changes_end says =
+    let count : Tally = tally 0 (P.changes platform_now) changes_end in
     let old : Outside = around P T L platform tape ledger in
     let mid : Outside = around P T L platform_now tape ledger in
     let since : Since (IsStart P.tells old) (IsFrom P.tells mid session) old mid = since_mount P nodes platform platform_now old mid session result is refl refl refl refl looks finds leads in
     elim says [
-      | inl silent ↦ inl (silent_since (IsStart P.tells old) (IsFrom P.tells mid session) P.tells 0 old mid after left left_now written written_now ending looks.head once since silent)
+      | inl silent ↦ inl (silent_since (IsStart P.tells old) (IsFrom P.tells mid session) P.tells count (P.changes platform) old mid after left left_now written written_now ending looks.head once looks.changes since silent)
       | inr conversed ↦ inr record {
         size = 4096 * blocks_of session;
         is = blocks_found P nodes platform platform_now session result is finds;
-        conversed = conversed_since (IsStart P.tells old) (IsFrom P.tells mid session) P.tells 0 old mid after (4096 * blocks_of session) left left_now written written_now ending looks.capacity looks.head once (λ told. (looks.time told).extends) since conversed;
+        conversed = conversed_since (IsStart P.tells old) (IsFrom P.tells mid session) P.tells count (P.changes platform) old mid after (4096 * blocks_of session) left left_now written written_now ending looks.capacity looks.head once looks.changes (λ told. (looks.time told).extends) since conversed;
       }
     ]
 
-pub talks_looked : (tells : Type 0) (looks : ℕ) (old mid after : Outside) (left left_now written written_now : Option (List ℕ)) (ending : Result (Unit {0}) Halt) → mid.head ≡ old.head → mid.capacity ≡ old.capacity
-    → (tells → mid.reads ≤ old.reads + 1) → (tells → mid.history.present ≡ old.history.present) → (tells → CellStays old.history mid.history) → Talks tells looks mid after left left_now written written_now ending
-    → Talks tells (looks + 1) old after left left_now written written_now ending
-talks_looked tells looks old mid after left left_now written written_now ending head capacity once same stays talks =
+pub talks_looked : (tells : Type 0) (count : Tally) (was : ℕ) (old mid after : Outside) (left left_now written written_now : Option (List ℕ)) (ending : Result (Unit {0}) Halt) → mid.head ≡ old.head → mid.capacity ≡ old.capacity
+    → (tells → mid.reads ≤ old.reads + 1) → (tells → count.changes ≡ was) → (tells → mid.history.present ≡ old.history.present) → (tells → CellStays old.history mid.history) → Talks tells count mid after left left_now written written_now ending
+    → Talks tells (earlier count was) old after left left_now written written_now ending
+talks_looked tells count was old mid after left left_now written written_now ending head capacity once still same stays talks =
     let since : Since (IsStart tells old) (IsStart tells mid) old mid = since_look tells old mid head same stays in
     elim talks [
-      | inl silent ↦ inl (silent_since (IsStart tells old) (IsStart tells mid) tells looks old mid after left left_now written written_now ending head once since silent)
+      | inl silent ↦ inl (silent_since (IsStart tells old) (IsStart tells mid) tells count was old mid after left left_now written written_now ending head once still since silent)
       | inr there ↦ inr record {
         size = there.size;
         is = λ told device stands. there.is told device (subst (λ (i : Image). Stands i (Some device)) (sym (same told)) stands);
-        conversed = conversed_since (IsStart tells old) (IsStart tells mid) tells looks old mid after there.size left left_now written written_now ending capacity head once (λ told. (stays told).extends) since there.conversed;
+        conversed = conversed_since (IsStart tells old) (IsStart tells mid) tells count was old mid after there.size left left_now written written_now ending capacity head once still (λ told. (stays told).extends) since there.conversed;
       }
     ]

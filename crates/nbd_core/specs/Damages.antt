@@ -18,17 +18,18 @@ use Rattle.nbd_core.specs.Exchanges.{Exchange}
 use Rattle.nbd_core.specs.Meets.{HasMet}
 use Rattle.nbd_core.specs.Found.{FindsBytes, FindsSame, HasTrimmed, HasWritten}
 use Rattle.nbd_core.specs.Serving.{reply_of}
+use Rattle.nbd_core.specs.Stopped.{HasStopped, StopsWriting}
 use Rattle.nbd_core.specs.declared.halts.Halt.{Halt}
 use Rattle.nbd_core.specs.declared.serving.Performed.{Performed}
 
--- an outcome says what is true: that this was done, that a page was met that doesn't fit its place, or that
--- nothing was done
-abbrev pub SaysTrue : Type 0 → Type 0 → Type 0 → Outcome → Type 0
-SaysTrue Met Did Nothing outcomes.Done = Did
-SaysTrue Met Did Nothing outcomes.Damaged = Met
-SaysTrue Met Did Nothing outcomes.Invalid = Nothing
-SaysTrue Met Did Nothing outcomes.NoSpace = Nothing
-SaysTrue Met Did Nothing outcomes.NoMemory = Unit {0}
+-- an outcome says what is true: that this was done; that it was stopped by want of memory, or by a page that
+-- doesn't fit its place; or that nothing was done
+abbrev pub SaysTrue : Type 0 → Type 0 → Type 0 → Type 0 → Outcome → Type 0
+SaysTrue Lacked Met Did Nothing outcomes.Done = Did
+SaysTrue Lacked Met Did Nothing outcomes.Damaged = Met
+SaysTrue Lacked Met Did Nothing outcomes.Invalid = Nothing
+SaysTrue Lacked Met Did Nothing outcomes.NoSpace = Nothing
+SaysTrue Lacked Met Did Nothing outcomes.NoMemory = Lacked
 
 -- a request was done, whose bytes these are, with those of its reply: what look-ups find before it and
 -- behind it. Behind a flush the session has no changes of its own
@@ -43,13 +44,14 @@ HasDone (kinds.Other number) image after session now request sent told = Unit {0
 -- a reply says what is true of the image and the session before its request and behind it; and a read leaves
 -- what look-ups find, whatever its reply
 pub record TellsTrue (image after : Image) (session now : Session) (sent : RequestSent) (reply : Reply) : Type 0 where
-  pub says : SaysTrue (HasMet sent.head.kind after sent.head.offset sent.head.length) (HasDone sent.head.kind image after session now sent.head sent.bytes reply.bytes) (FindsSame image after session now) reply.outcome
+  pub says : SaysTrue (HasStopped sent.head.kind image after session now sent.head sent.bytes (λ there. Unit {0})) (HasStopped sent.head.kind image after session now sent.head sent.bytes (λ there. HasMet sent.head.kind there after sent.head.offset sent.head.length))
+      (HasDone sent.head.kind image after session now sent.head sent.bytes reply.bytes) (FindsSame image after session now) reply.outcome
   pub reads : sent.head.kind ≡ kinds.Read → FindsSame image after session now
 
 -- so does what a write of a range comes to, of which these bytes came
 abbrev pub WritesTrue : {S : Type 0} → PlatformGhosts S → S → S → Session → Session → ℕ → ℕ → List ℕ → Result Outcome Halt → Type 0
 WritesTrue P platform platform_now session now offset n bytes result =
-    P.tells → IsMounted (P.history platform).present session → IfOk result (SaysTrue (HasMet kinds.Write (P.history platform_now).present offset n) (HasWritten (P.history platform).present (P.history platform_now).present session now offset bytes) (FindsSame (P.history platform).present (P.history platform_now).present session now))
+    P.tells → IsMounted (P.history platform).present session → IfOk result (SaysTrue (StopsWriting (P.history platform).present (P.history platform_now).present session now offset bytes (λ there. Unit {0})) (StopsWriting (P.history platform).present (P.history platform_now).present session now offset bytes (λ there. HasMet kinds.Write there (P.history platform_now).present offset n)) (HasWritten (P.history platform).present (P.history platform_now).present session now offset bytes) (FindsSame (P.history platform).present (P.history platform_now).present session now))
 
 -- and the reply to a request that comes to an outcome, with so much in the room of a reply
 abbrev pub AnswersTrue : {S : Type 0} → PlatformGhosts S → S → S → Session → Session → RequestSent → List ℕ → Result Outcome Halt → Type 0

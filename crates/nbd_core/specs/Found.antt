@@ -30,7 +30,7 @@ pub record FindsSame (image after : Image) (session now : Session) : Type 0 wher
 pub record ReadsFound (image after : Image) (session now : Session) (place : ℕ) (bytes : List ℕ) (result : Result (Unit {0}) DeviceStop) : Type 0 where
   pub same : FindsSame image after session now
   pub found : OnOk result (FindsBytes image session place bytes)
-  pub met : IfErr result (MeetsAt (MayMeet kinds.Read after place (length bytes)))
+  pub met : IfErr result (MeetsAt (MayMeet kinds.Read session after place (length bytes)))
 
 -- a trim that was done: behind it look-ups find none of these blocks, and of each other one of the device
 -- what they found before
@@ -54,4 +54,4 @@ pub record HasWritten (image after : Image) (session now : Session) (offset : �
 -- stopped at that
 abbrev pub WritesFound : Image → Image → Session → Session → ℕ → List ℕ → Result (Unit {0}) DeviceStop → Type 0
 WritesFound image after session now place bytes (Ok done) = HasWritten image after session now place bytes
-WritesFound image after session now place bytes (Err stop) = MeetsAt (MayMeet kinds.Write after place (length bytes)) stop
+WritesFound image after session now place bytes (Err stop) = MeetsAt (MayMeet kinds.Write session after place (length bytes)) stop

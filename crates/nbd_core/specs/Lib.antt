@@ -9,11 +9,14 @@ pub mod Turns
 pub mod Exchanges
 pub mod Meets
 pub mod Found
+pub mod Stopped
 pub mod Damages
 pub mod Ample
 pub mod Short
 pub mod Near
 pub mod Reads
+pub mod Rooms
+pub mod Changes
 pub mod Served
 pub mod Arrays
 pub mod Running

@@ -20,6 +20,7 @@ use Rattle.nbd_core.specs.declared.stop.Stop.{Stop}
 use Rattle.nbd_core.specs.Running.{GoesOn, Talks, Untouched}
 use Rattle.nbd_core.specs.declared.halts.Halt.{Halt}
 use Rattle.nbd_core.specs.declared.halts.Halt.TheVariants as halts
+use Rattle.nbd_core.specs.Changes.{Tally, tally as counted}
 
 -- the exit status of a run that ends so
 abbrev pub exit_of : Result (Unit {0}) Halt → ℕ
@@ -59,17 +60,17 @@ pub record Refuses {S R I O L : Type 0} (tells : Type 0) (words : List (List ℕ
   pub no_device : tells → old.outside.history.present.cell ≡ None → words ≡ [] → ((status ≡ 10) × IsAsBefore tells old new) ⊎ (status ≡ 5)
 
 -- the requests that came in what was said, with their replies
-abbrev pub exchanges_behind : (From : Held → Type 0) (tells : Type 0) (looks : ℕ) (before after : Outside) (size : ℕ) (agreed : Result Agreed Stop) (room : Room) (left left_now written written_now : Option (List ℕ)) (ending : Result (Unit {0}) Halt)
-    → GoesOn From tells looks before after size agreed room left left_now written written_now ending → List Exchange
-exchanges_behind From tells looks before after size (Ok agreed.Requests) room left left_now written written_now ending (last, served) = served.exchanges
-exchanges_behind From tells looks before after size (Ok agreed.Nothing) room left left_now written written_now ending goes_on = []
-exchanges_behind From tells looks before after size (Err stop) room left left_now written written_now ending goes_on = []
+abbrev pub exchanges_behind : (From : Held → Type 0) (tells : Type 0) (tally : Tally) (before after : Outside) (size : ℕ) (agreed : Result Agreed Stop) (room : Room) (left left_now written written_now : Option (List ℕ)) (ending : Result (Unit {0}) Halt)
+    → GoesOn From tells tally before after size agreed room left left_now written written_now ending → List Exchange
+exchanges_behind From tells tally before after size (Ok agreed.Requests) room left left_now written written_now ending (last, served) = served.exchanges
+exchanges_behind From tells tally before after size (Ok agreed.Nothing) room left left_now written written_now ending goes_on = []
+exchanges_behind From tells tally before after size (Err stop) room left left_now written written_now ending goes_on = []
 
-abbrev pub exchanges_in : (tells : Type 0) (looks : ℕ) (before after : Outside) (left left_now written written_now : Option (List ℕ)) (ending : Result (Unit {0}) Halt) → Talks tells looks before after left left_now written written_now ending → List Exchange
-exchanges_in tells looks before after left left_now written written_now ending (inl silent) = []
-exchanges_in tells looks before after left left_now written written_now ending (inr there) =
+abbrev pub exchanges_in : (tells : Type 0) (tally : Tally) (before after : Outside) (left left_now written written_now : Option (List ℕ)) (ending : Result (Unit {0}) Halt) → Talks tells tally before after left left_now written written_now ending → List Exchange
+exchanges_in tells tally before after left left_now written written_now ending (inl silent) = []
+exchanges_in tells tally before after left left_now written written_now ending (inr there) =
     let conversed = there.conversed in
-    exchanges_behind (IsStart tells before) tells looks before after there.size conversed.agreed conversed.room conversed.left_then left_now conversed.written_then written_now ending conversed.goes_on
+    exchanges_behind (IsStart tells before) tells tally before after there.size conversed.agreed conversed.room conversed.left_then left_now conversed.written_then written_now ending conversed.goes_on
 
 -- the run did all that it was asked for, as far as memory was given: each request is done that its head
 -- doesn't refuse
@@ -78,14 +79,14 @@ pub record IsComplete (size : ℕ) (status : ℕ) (exchanges : List Exchange) : 
   pub done : All (IsServedOut size) exchanges
 
 -- what was said: nothing, or the greeting and the answers to the options that came, and what goes on
--- from there; the cell was looked at twice at most before. A run completes over an image that stands for a
+-- from there; the cell was looked at twice at most before, and the platform had synced or changed it so often where the run began and where it ended. A run completes over an image that stands for a
 -- device, if no count of faults rises, the client sends nothing that is none of its words, fewer bytes come
 -- than may be taken, and 42 pages are free for each block that its requests change
-pub record Serving {S R I O L : Type 0} (tells : Type 0) (status : ℕ) (old new : Handed S R I O L) : Type 0 where
+pub record Serving {S R I O L : Type 0} (tells : Type 0) (status changes changes_now : ℕ) (old new : Handed S R I O L) : Type 0 where
   pub ending : Result (Unit {0}) Halt
   pub status_is : status ≡ exit_of ending
   pub no_device : tells → ending ≡ Err halts.NoDevice → old.outside.history.present.cell ≡ None
-  pub talks : Talks tells 2 old.outside new.outside old.left new.left old.written new.written ending
+  pub talks : Talks tells (counted 2 changes changes_now) old.outside new.outside old.left new.left old.written new.written ending
   pub complete : tells → (there : Device) → Stands old.outside.history.present (Some there) → IsServedImage old.outside.history.present → NoneRose old.counts new.counts → status ≢ 12 → status ≢ 14
-      → old.outside.head + 42 * changed_in (4096 * there.blocks) (exchanges_in tells 2 old.outside new.outside old.left new.left old.written new.written ending talks) ≤ old.outside.capacity
-      → IsComplete (4096 * there.blocks) status (exchanges_in tells 2 old.outside new.outside old.left new.left old.written new.written ending talks)
+      → old.outside.head + 42 * changed_in (4096 * there.blocks) (exchanges_in tells (counted 2 changes changes_now) old.outside new.outside old.left new.left old.written new.written ending talks) ≤ old.outside.capacity
+      → IsComplete (4096 * there.blocks) status (exchanges_in tells (counted 2 changes changes_now) old.outside new.outside old.left new.left old.written new.written ending talks)

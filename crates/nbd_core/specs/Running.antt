@@ -19,6 +19,7 @@ use Rattle.nbd_core.specs.declared.halts.Halt.{Halt}
 use Rattle.nbd_core.specs.declared.halts.Halt.TheVariants as halts
 use Rattle.nbd_core.specs.declared.haggling.Agreed.{Agreed}
 use Rattle.nbd_core.specs.declared.haggling.Agreed.TheVariants as agreed
+use Rattle.nbd_core.specs.Changes.{Tally}
 
 -- all that a run is handed is as it was, at each moment
 pub record Untouched {R I O L : Type 0} (tells : Type 0) (tape tape_now : R) (input input_now : I) (output output_now : O) (ledger ledger_now : L) (head head_now : ℕ) (old new : History) : Type 0 where
@@ -81,14 +82,14 @@ pub record IsOnCell (image : Image) : Type 0 where
   pub served : IsServedImage image
 
 -- how a run goes on behind the options, and so many looks at the cell: with requests, or not at all
-abbrev pub GoesOn : (Held → Type 0) → Type 0 → ℕ → Outside → Outside → ℕ → Result Agreed Stop → Room → Option (List ℕ) → Option (List ℕ) → Option (List ℕ) → Option (List ℕ) → Result (Unit {0}) Halt → Type 0
-GoesOn From tells looks before after size (Ok agreed.Requests) room left left_now written written_now result = (last : Room) × Served From tells looks before after size left left_now room last written written_now result
-GoesOn From tells looks before after size (Ok agreed.Nothing) room left left_now written written_now result = (left_now ≡ left) × (written_now ≡ written) × (result ≡ Ok tt) × Stayed From tells looks before after
-GoesOn From tells looks before after size (Err stop) room left left_now written written_now result = (left_now ≡ left) × (written_now ≡ written) × (result ≡ Err (halts.Client stop)) × Stayed From tells looks before after
+abbrev pub GoesOn : (Held → Type 0) → Type 0 → Tally → Outside → Outside → ℕ → Result Agreed Stop → Room → Option (List ℕ) → Option (List ℕ) → Option (List ℕ) → Option (List ℕ) → Result (Unit {0}) Halt → Type 0
+GoesOn From tells tally before after size (Ok agreed.Requests) room left left_now written written_now result = (last : Room) × Served From tells tally before after size left left_now room last written written_now result
+GoesOn From tells tally before after size (Ok agreed.Nothing) room left left_now written written_now result = (left_now ≡ left) × (written_now ≡ written) × (result ≡ Ok tt) × Stayed From tells tally before after
+GoesOn From tells tally before after size (Err stop) room left left_now written written_now result = (left_now ≡ left) × (written_now ≡ written) × (result ≡ Err (halts.Client stop)) × Stayed From tells tally before after
 
 -- what is said on a device of so many bytes: with nothing taken yet the greeting and the answers to
 -- options, and what goes on from there
-pub record Conversed (From : Held → Type 0) (tells : Type 0) (looks : ℕ) (before after : Outside) (size : ℕ) (left left_now written written_now : Option (List ℕ)) (result : Result (Unit {0}) Halt) : Type 0 where
+pub record Conversed (From : Held → Type 0) (tells : Type 0) (tally : Tally) (before after : Outside) (size : ℕ) (left left_now written written_now : Option (List ℕ)) (result : Result (Unit {0}) Halt) : Type 0 where
   pub first : Room
   pub room : Room
   pub fresh : (first.ahead ≡ []) × (first.left ≡ 2 ^ 40)
@@ -97,7 +98,7 @@ pub record Conversed (From : Held → Type 0) (tells : Type 0) (looks : ℕ) (be
   pub agreed : Result Agreed Stop
   pub haggled : Haggled size left left_then first room written written_then agreed
   pub limit : IfErr agreed (λ stop. stop ≡ stops.Limit → room.left ≡ 0)
-  pub goes_on : GoesOn From tells looks before after size agreed room left_then left_now written_then written_now result
+  pub goes_on : GoesOn From tells tally before after size agreed room left_then left_now written_then written_now result
 
 -- a run that ends before it says anything
 abbrev pub IsEarly : Result (Unit {0}) Halt → Type 0
@@ -111,25 +112,25 @@ IsEarly (Err halts.Ledger) = ⊥
 IsEarly (Err halts.Unfinished) = ⊥
 IsEarly (Err (halts.Client stop)) = ⊥
 
-pub record IsSilent (From : Held → Type 0) (tells : Type 0) (looks : ℕ) (before after : Outside) (left left_now written written_now : Option (List ℕ)) (result : Result (Unit {0}) Halt) : Type 0 where
+pub record IsSilent (From : Held → Type 0) (tells : Type 0) (tally : Tally) (before after : Outside) (left left_now written written_now : Option (List ℕ)) (result : Result (Unit {0}) Halt) : Type 0 where
   pub untaken : left_now ≡ left
   pub unput : written_now ≡ written
   pub early : IsEarly result
-  pub stayed : Stayed From tells looks before after
+  pub stayed : Stayed From tells tally before after
 
 -- a run says nothing, or has such a talk, behind so many looks at the cell
-abbrev pub Says : (Held → Type 0) → Type 0 → ℕ → Outside → Outside → ℕ → Option (List ℕ) → Option (List ℕ) → Option (List ℕ) → Option (List ℕ) → Result (Unit {0}) Halt → Type 0
-Says From tells looks before after size left left_now written written_now result =
-    IsSilent From tells looks before after left left_now written written_now result ⊎ Conversed From tells looks before after size left left_now written written_now result
+abbrev pub Says : (Held → Type 0) → Type 0 → Tally → Outside → Outside → ℕ → Option (List ℕ) → Option (List ℕ) → Option (List ℕ) → Option (List ℕ) → Result (Unit {0}) Halt → Type 0
+Says From tells tally before after size left left_now written written_now result =
+    IsSilent From tells tally before after left left_now written written_now result ⊎ Conversed From tells tally before after size left left_now written written_now result
 
 -- the same on a device: the one that the image stands for
-pub record Conversation (tells : Type 0) (looks : ℕ) (before after : Outside) (left left_now written written_now : Option (List ℕ)) (result : Result (Unit {0}) Halt) : Type 0 where
+pub record Conversation (tells : Type 0) (tally : Tally) (before after : Outside) (left left_now written written_now : Option (List ℕ)) (result : Result (Unit {0}) Halt) : Type 0 where
   pub size : ℕ
   pub is : tells → (there : Device) → Stands before.history.present (Some there) → size ≡ 4096 * there.blocks
-  pub conversed : Conversed (IsStart tells before) tells looks before after size left left_now written written_now result
+  pub conversed : Conversed (IsStart tells before) tells tally before after size left left_now written written_now result
 
 -- a run says nothing, or has a conversation, on the array of bytes of the device that there is, if the
 -- image stands for one, behind so many looks at the cell
-abbrev pub Talks : Type 0 → ℕ → Outside → Outside → Option (List ℕ) → Option (List ℕ) → Option (List ℕ) → Option (List ℕ) → Result (Unit {0}) Halt → Type 0
-Talks tells looks before after left left_now written written_now result =
-    IsSilent (IsStart tells before) tells looks before after left left_now written written_now result ⊎ Conversation tells looks before after left left_now written written_now result
+abbrev pub Talks : Type 0 → Tally → Outside → Outside → Option (List ℕ) → Option (List ℕ) → Option (List ℕ) → Option (List ℕ) → Result (Unit {0}) Halt → Type 0
+Talks tells tally before after left left_now written written_now result =
+    IsSilent (IsStart tells before) tells tally before after left left_now written written_now result ⊎ Conversation tells tally before after left left_now written written_now result

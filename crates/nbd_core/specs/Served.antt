@@ -29,6 +29,7 @@ use Rattle.nbd_core.specs.Turns.{Turns, Halts, BeginsWith, ComesTo, DrawsKeys, I
 use Rattle.nbd_core.specs.declared.stop.Stop.TheVariants as stops
 use Rattle.nbd_core.specs.declared.halts.Halt.{Halt}
 use Rattle.nbd_core.specs.declared.halts.Halt.TheVariants as halts
+use Rattle.nbd_core.specs.Changes.{HasChanged, Tally, changes_in}
 
 -- how many bytes a reply has behind its head: those of a read that was done
 abbrev pub bytes_told : RequestKind → Outcome → ℕ → ℕ
@@ -141,8 +142,8 @@ pub record EndsFrom (capacity size : ℕ) (rest tail part : List ℕ) (now : ℕ
 -- tells of damage, which none does from such a state, was put where a page didn't fit its place; and one
 -- that tells of want of pages says what is true of those that are free at the end. No more pages were read
 -- than these requests read at most, and the last one that came without a reply, beside so many looks at the
--- cell before them
-pub record Served (From : Held → Type 0) (tells : Type 0) (looks : ℕ) (before after : Outside) (size : ℕ) (left left_now : Option (List ℕ)) (old new : Room) (written written_now : Option (List ℕ)) (result : Result (Unit {0}) Halt) : Type 0 where
+-- cell before them; and so it is of how often the platform synced or changed the cell
+pub record Served (From : Held → Type 0) (tells : Type 0) (tally : Tally) (before after : Outside) (size : ℕ) (left left_now : Option (List ℕ)) (old new : Room) (written written_now : Option (List ℕ)) (result : Result (Unit {0}) Halt) : Type 0 where
   pub exchanges : List Exchange
   pub came : List ℕ
   pub put : List ℕ
@@ -158,7 +159,8 @@ pub record Served (From : Held → Type 0) (tells : Type 0) (looks : ℕ) (befor
   pub led : (entry : Held) → From entry → OnArray before after entry (map sent_of exchanges) (map told_of exchanges) (EndsFrom before.capacity size rest new.ahead part after.head result)
   pub damage : tells → (end : ℕ) × (last : Session) × ToldTrue size before.history after.history exchanges end last
   pub short : AreShort size (after.capacity - after.head) 0 exchanges
-  pub reads : tells → HasRead size rest (before.reads + looks + reads_in size exchanges) after.reads
+  pub reads : tells → HasRead size rest (before.reads + tally.looks + reads_in size exchanges) after.reads
+  pub changes : tells → HasChanged size rest (changes_in size exchanges) tally.changes tally.changes_now
   pub unfinished : result ≡ Err halts.Unfinished → after.capacity - after.head < 41 * updates_in size 0 exchanges
   pub complete : (entry : Held) → From entry → size ≡ size_of entry → HasRoom before.capacity size entry exchanges → Completes size exchanges result
 

@@ -1,5 +1,5 @@
 -- Exit statuses of a run that its client doesn't end.
-use Rattle.std.specs.Prelude.{◌≡◌, ℕ, Result, Ok, Err}
+use Rattle.std.specs.Prelude.{◌≡◌, ◌≤◌, ◌+◌, ℕ, Result, Ok, Err, IfOk}
 use Rattle.sdbt_base.specs.Faults.{Rose}
 use Rattle.nbd_core.specs.declared.stop.Stop.{Stop}
 use Rattle.nbd_core.specs.declared.stop.Stop.TheVariants.{Source, Sink, Limit, Broken}
@@ -30,3 +30,8 @@ TellsTalk (Err Source) input input_now output output_now = Rose input input_now 
 TellsTalk (Err Sink) input input_now output output_now = Rose output output_now × (input_now ≡ input)
 TellsTalk (Err Limit) input input_now output output_now = (input_now ≡ input) × (output_now ≡ output)
 TellsTalk (Err Broken) input input_now output output_now = (input_now ≡ input) × (output_now ≡ output)
+
+-- an input is asked no more once it has answered that it is at its end: where what came goes on it has answered no more of that, and else once more at most
+pub record EndsOnce {X E : Type 0} (result : Result X E) (GoesOn : X → Type 0) (before now : ℕ) : Type 0 where
+  pub once : now ≤ before + 1
+  pub open_yet : IfOk result (λ x. GoesOn x → now ≡ before)

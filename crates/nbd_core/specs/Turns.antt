@@ -22,6 +22,7 @@ use Rattle.nbd_core.specs.Serving.{reply_of}
 use Rattle.nbd_core.specs.declared.halts.Halt.{Halt}
 use Rattle.nbd_core.specs.declared.halts.Halt.TheVariants as halts
 use Rattle.nbd_core.specs.declared.serving.Performed.{Performed}
+use Rattle.nbd_core.specs.Changes.{Tally}
 
 -- calls for blocks that came to an outcome: from each state that the session and the image stood for
 -- they led to one of the same device that these stand for now
@@ -169,10 +170,11 @@ pub record OnArray (old new : Outside) (entry : Held) (asked : List RequestSent)
   pub led : Led (Turn old.capacity) device_of (MadeBetween old.history new.history) entry asked replies ahead
   pub ends : IsEnd (last_of entry led.states) ahead
 
--- no page was added or read, beside so many looks at the cell; and from each of these states the device stayed
-pub record Stayed (From : Held → Type 0) (tells : Type 0) (looks : ℕ) (old new : Outside) : Type 0 where
+-- no page was added or read, beside so many looks at the cell, and nothing was synced; and from each of these states the device stayed
+pub record Stayed (From : Held → Type 0) (tells : Type 0) (tally : Tally) (old new : Outside) : Type 0 where
   pub pages : new.head ≡ old.head
-  pub reads : tells → new.reads ≤ old.reads + looks
+  pub reads : tells → new.reads ≤ old.reads + tally.looks
+  pub changes : tells → tally.changes_now ≡ tally.changes
   pub made : (entry : Held) → From entry → MadeBetween old.history new.history entry.device [] entry.device
 
 -- the device that the image stands for, with a session just mounted on it

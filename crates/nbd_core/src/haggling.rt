@@ -3,7 +3,7 @@ ghost use Rattle.std.specs.Prelude.{◌≡◌, ◌⊎◌, ◌<◌, ◌≤◌, �
 ghost use Rattle.sdbt_base.specs.Told.{Got, GotPart};
 ghost use Rattle.nbd_lang.specs.Options.{OptionSent, option_bytes};
 ghost use Rattle.nbd_lang.specs.Answers.{option_reply, export_answer};
-ghost use Rattle.nbd_core.specs.Stops.{TellsPut, TellsTake, TellsTalk};
+ghost use Rattle.nbd_core.specs.Stops.{EndsOnce, TellsPut, TellsTake, TellsTalk};
 ghost use Rattle.nbd_core.specs.Haggling.{answer_by, FlagsCame, OptionCame, Talk, Haggled};
 
 use crate::intake::Intake;
@@ -38,6 +38,7 @@ pub fn haggle<I: Source, O: Sink>(
     ensures cause { TellsTalk result (I.faults input.old) (I.faults input.new)
         (O.faults output.old) (O.faults output.new) }
     ensures limit { IfErr result (λ stop. stop ≡ Stop.Limit → intake.new.left ≡ 0) }
+    ensures ended { EndsOnce result (λ agreed. agreed ≡ Agreed.Requests) (I.ends input.old) (I.ends input.new) }
     ensures input { I.faults input.old ≤ I.faults input.new }
     ensures output { O.faults output.old ≤ O.faults output.new }
 {
@@ -50,6 +51,7 @@ pub fn haggle<I: Source, O: Sink>(
 fn take_flags<I: Source>(intake: &mut Intake, input: &mut I) -> Result<ClientFlags, Stop>
     ensures came { FlagsCame (I.left input.old) (I.left input.new) intake.old intake.new result }
     ensures limit { IfErr result (λ stop. stop ≡ Stop.Limit → intake.new.left ≡ 0) }
+    ensures ended { EndsOnce result (λ flags. Unit {0}) (I.ends input.old) (I.ends input.new) }
     ensures fell { I.faults input.old ≤ I.faults input.new }
     ensures cause { TellsTake result (I.faults input.old) (I.faults input.new) }
 {
@@ -77,6 +79,7 @@ fn answer_options<I: Source, O: Sink>(
     ensures cause { TellsTalk result (I.faults input.old) (I.faults input.new)
         (O.faults output.old) (O.faults output.new) }
     ensures limit { IfErr result (λ stop. stop ≡ Stop.Limit → intake.new.left ≡ 0) }
+    ensures ended { EndsOnce result (λ agreed. agreed ≡ Agreed.Requests) (I.ends input.old) (I.ends input.new) }
     ensures input { I.faults input.old ≤ I.faults input.new }
     ensures output { O.faults output.old ≤ O.faults output.new }
 {
@@ -95,6 +98,7 @@ fn answer_options<I: Source, O: Sink>(
 fn next_option<I: Source>(intake: &mut Intake, input: &mut I) -> Result<Option<OptionHead>, Stop>
     ensures came { OptionCame (I.left input.old) (I.left input.new) intake.old intake.new result }
     ensures limit { IfErr result (λ stop. stop ≡ Stop.Limit → intake.new.left ≡ 0) }
+    ensures ended { EndsOnce result (λ option. IsSome option) (I.ends input.old) (I.ends input.new) }
     ensures fell { I.faults input.old ≤ I.faults input.new }
     ensures cause { TellsTake result (I.faults input.old) (I.faults input.new) }
 {

@@ -1,10 +1,10 @@
 //! What came of an input, and isn't used yet.
 ghost use Rattle.std.specs.Prelude.{◌≡◌, ◌⊎◌, ◌+◌, ◌-◌, ◌<◌, ◌≤◌, ◌++◌, ℕ, List, [], IfOk, IfErr, OnOk, OnErr, true, false, length, take, drop};
 ghost use Rattle.sdbt_base.specs.Faults.{Tells};
-ghost use Rattle.sdbt_base.specs.Told.{Gave, IsAtEnd};
+ghost use Rattle.sdbt_base.specs.Told.{Gave, IsAtEnd, ends_after};
 ghost use Rattle.nbd_core.specs.Room.{Room, Takes, Came, IsShorter};
 ghost use Rattle.nbd_core.specs.Passed.{Passed};
-ghost use Rattle.nbd_core.specs.Stops.{TellsTake};
+ghost use Rattle.nbd_core.specs.Stops.{EndsOnce, TellsTake};
 
 use crate::stop::Stop;
 use sdbt_base::{Memory, Source, SourceFault};
@@ -85,6 +85,7 @@ impl Intake {
         ensures end { IfOk result (λ there. there ≡ false
             → IsAtEnd (I.left input.new) × (length self.new.ahead < count)) }
         ensures short { OnErr result (length self.new.ahead < count) }
+        ensures ended { EndsOnce result (λ there. there ≡ true) (I.ends input.old) (I.ends input.new) }
         ensures limit { IfErr result (λ stop. stop ≡ Stop.Limit → self.new.left ≡ 0) }
         ensures input { IfErr result (λ stop. (stop ≡ Stop.Source) ⊎ (stop ≡ Stop.Limit)) }
         ensures fell { I.faults input.old ≤ I.faults input.new }
@@ -92,8 +93,8 @@ impl Intake {
     {
         while self.count() < count {
             match self.more(input) {
-                Ok(0) => return Ok(false),
-                Ok(_) => {}
+                Ok(count) if count > 0 => {}
+                Ok(_) => return Ok(false),
                 Err(stop) => return Err(stop),
             }
         }
@@ -108,6 +109,7 @@ impl Intake {
         ensures limit { IfErr result (λ stop. stop ≡ Stop.Limit → self.new.left ≡ 0) }
         ensures input { IfErr result (λ stop. (stop ≡ Stop.Source) ⊎ (stop ≡ Stop.Limit)) }
         ensures end { IfOk result (λ whole. whole ≡ false → IsAtEnd (I.left input.new)) }
+        ensures ended { EndsOnce result (λ whole. whole ≡ true) (I.ends input.old) (I.ends input.new) }
         ensures fell { I.faults input.old ≤ I.faults input.new }
         ensures cause { TellsTake result (I.faults input.old) (I.faults input.new) }
     {
@@ -132,6 +134,7 @@ impl Intake {
         ensures more { IfOk result (λ count. length self.new.ahead
             ≡ length self.old.ahead + count) }
         ensures end { IfOk result (λ count. count ≡ 0 → IsAtEnd (I.left input.new)) }
+        ensures ended { EndsOnce result (λ count. 0 < count) (I.ends input.old) (I.ends input.new) }
         ensures same { OnErr result (self.new ≡ self.old) }
         ensures limit { IfErr result (λ stop. stop ≡ Stop.Limit → self.new.left ≡ 0) }
         ensures input { IfErr result (λ stop. (stop ≡ Stop.Source) ⊎ (stop ≡ Stop.Limit)) }
@@ -177,6 +180,7 @@ fn take_behind<I: Source>(
         × (take (at + count) room.new ≡ take at room.old ++ bytes)) }
     ensures bound { IfOk result (λ count. count ≤ most) }
     ensures end { IfOk result (λ count. count ≡ 0 → IsAtEnd (I.left input.new)) }
+    ensures ended { I.ends input.new ≡ ends_after result (I.ends input.old) }
     ensures front { take at room.new ≡ take at room.old }
     ensures size { length room.new ≡ length room.old }
     ensures nothing_taken { OnErr result (I.left input.new ≡ I.left input.old) }

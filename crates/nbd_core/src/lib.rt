@@ -57,10 +57,14 @@ pub fn run_nbd<P: Platform, T: Tape, I: Source, O: Sink, L: Sink>(
         (handed P.Platform T.Tape I.Source O.Sink L.Sink platform.old tape.old input.old output.old ledger.old)
         (handed P.Platform T.Tape I.Source O.Sink L.Sink platform.new tape.new input.new output.new ledger.new) }
 
+    // An input that is at its end is asked no more.
+    ensures ended { I.ends input.new ≤ I.ends input.old + 1 }
+
     // The bytes put are the greeting, answers to the options that came and replies to the requests. These are
     // replies of an array of bytes, the device's, and each moment leaves a device that they led through; on any
-    // pages each reply says what is true of these, and no more is read than two looks at the cell and what the requests read at most.
-    ensures serves { map string_bytes words.now ≡ [] → Serving P.tells result
+    // pages each reply says what is true of these, no more is read than two looks at the cell and what the requests read at most, and
+    // nothing is synced but for a flush or a disconnect.
+    ensures serves { map string_bytes words.now ≡ [] → Serving P.tells result (P.changes platform.old) (P.changes platform.new)
         (handed P.Platform T.Tape I.Source O.Sink L.Sink platform.old tape.old input.old output.old ledger.old)
         (handed P.Platform T.Tape I.Source O.Sink L.Sink platform.new tape.new input.new output.new ledger.new) }
 

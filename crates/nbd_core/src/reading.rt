@@ -1,5 +1,5 @@
 //! Reads.
-ghost use Rattle.std.specs.Prelude.{Some, false, ◌≡◌, ◌≢◌, ◌+◌, ◌*◌, ◌≤◌, ◌<◌, ℕ, IfErr, IfOk, IsTrue, length, max};
+ghost use Rattle.std.specs.Prelude.{Some, false, ◌≡◌, ◌≢◌, ◌+◌, ◌*◌, ◌≤◌, ◌<◌, ℕ, IfErr, IfOk, IsTrue, length, vec_capacity};
 ghost use Rattle.device_session.specs.Open.{IsOpen, blocks_of};
 ghost use Rattle.session_calls.specs.Along.{Along, Drawn};
 ghost use Rattle.sdbt_base.specs.Counts.{Counts};
@@ -12,6 +12,7 @@ ghost use Rattle.nbd_core.specs.Found.{FindsBytes, FindsSame, ReadsFound};
 ghost use Rattle.nbd_core.specs.Halts.{Blames};
 ghost use Rattle.nbd_core.specs.Meets.{HasMet};
 ghost use Rattle.nbd_core.specs.Reads.{reads_at};
+ghost use Rattle.nbd_core.specs.Rooms.{KeepsRoom};
 ghost use Rattle.nbd_terms.specs.Turn.{Reads};
 ghost use Rattle.session_calls.specs.Calling.{Calls};
 ghost use Rattle.nbd_core.specs.Serving.{IsWithin, bytes_of_reply};
@@ -45,6 +46,7 @@ pub(crate) fn read<P: Platform>(
     ensures comes { IfOk result (MayCome RequestKind.Read) }
     ensures room { IfOk result (λ outcome. outcome ≡ Outcome.Done
         → 16 + request.now.length ≤ length reply.new.items) }
+    ensures keeps { KeepsRoom (16 + request.now.length) (length reply.old.items) (length reply.new.items) (vec_capacity reply.old) (vec_capacity reply.new) }
     // Memory is wanted for the reply alone, where there is no room for it.
     ensures lacks { IfOk result (λ outcome. outcome ≡ Outcome.NoMemory
         → length reply.old.items < 16 + request.now.length) }
@@ -55,7 +57,7 @@ pub(crate) fn read<P: Platform>(
     ensures damage { P.tells → IsMounted (P.history platform.old).present session.old
         → FindsSame (P.history platform.old).present (P.history platform.new).present
         session.old session.new
-        × IfOk result (SaysTrue (HasMet RequestKind.Read (P.history platform.new).present
+        × IfOk result (SaysTrue (Unit {0}) (HasMet RequestKind.Read session.old (P.history platform.new).present
         request.now.offset request.now.length)
         (FindsBytes (P.history platform.old).present session.old request.now.offset
         (bytes_of_reply RequestKind.Read request.now.length Outcome.Done reply.new.items))
@@ -77,7 +79,7 @@ pub(crate) fn read<P: Platform>(
 fn has_room(reply: &mut Vec<u8>, count: usize) -> bool
     ensures there { IsTrue result → count ≤ length reply.new.items }
     ensures lacks { result ≡ false → length reply.old.items < count }
-    ensures most { length reply.new.items ≤ max count (length reply.old.items) }
+    ensures keeps { KeepsRoom count (length reply.old.items) (length reply.new.items) (vec_capacity reply.old) (vec_capacity reply.new) }
 {
     count <= reply.len() || reply.resize(count, 0).is_ok()
 }

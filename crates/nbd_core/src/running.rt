@@ -4,6 +4,7 @@ ghost use Rattle.device_terms.specs.Served.{IsServedImage};
 ghost use Rattle.device_course.specs.States.{around};
 ghost use Rattle.device_session.specs.Open.{blocks_of, needed_by};
 ghost use Rattle.device_session.specs.Reading.{room_of};
+ghost use Rattle.nbd_core.specs.Changes.{tally};
 ghost use Rattle.nbd_core.specs.Halts.{Blames, IsLate};
 ghost use Rattle.session_calls.specs.Blame.{counts_of};
 ghost use Rattle.session_calls.specs.Carrying.{Carries, IsReady};
@@ -39,6 +40,7 @@ pub(crate) fn run<P: Platform, T: Tape, I: Source, O: Sink, L: Sink>(
     ensures spans { Spans P.tells
         (around P.Platform T.Tape L.Sink platform.old tape.old ledger.old)
         (around P.Platform T.Tape L.Sink platform.new tape.new ledger.new) (IsOk result) }
+    ensures ended { I.ends input.new ≤ I.ends input.old + 1 }
     ensures blame { Blames
         (counts_of P.Platform T.Tape I.Source O.Sink L.Sink platform.old tape.old input.old output.old ledger.old)
         (counts_of P.Platform T.Tape I.Source O.Sink L.Sink platform.new tape.new input.new output.new ledger.new)
@@ -46,7 +48,7 @@ pub(crate) fn run<P: Platform, T: Tape, I: Source, O: Sink, L: Sink>(
     ensures looked { Looked P.tells (P.history platform.old).present
         (Untouched P.tells tape.old tape.new input.old input.new output.old output.new ledger.old ledger.new
         (P.head platform.old) (P.head platform.new) (P.history platform.old) (P.history platform.new)) result }
-    ensures talks { Talks P.tells 2
+    ensures talks { Talks P.tells (tally 2 (P.changes platform.old) (P.changes platform.new))
         (around P.Platform T.Tape L.Sink platform.old tape.old ledger.old)
         (around P.Platform T.Tape L.Sink platform.new tape.new ledger.new)
         (I.left input.old) (I.left input.new) (O.written output.old) (O.written output.new) result }
@@ -84,12 +86,13 @@ fn serve_device<P: Platform, T: Tape, I: Source, O: Sink, L: Sink>(
     ensures spans { Spans P.tells
         (around P.Platform T.Tape L.Sink platform.old tape.old ledger.old)
         (around P.Platform T.Tape L.Sink platform.new tape.new ledger.new) (IsOk result) }
+    ensures ended { I.ends input.new ≤ I.ends input.old + 1 }
     ensures blame { Blames
         (counts_of P.Platform T.Tape I.Source O.Sink L.Sink platform.old tape.old input.old output.old ledger.old)
         (counts_of P.Platform T.Tape I.Source O.Sink L.Sink platform.new tape.new input.new output.new ledger.new)
         result }
     ensures halts { P.tells → IfErr result IsLate }
-    ensures talks { Talks P.tells 1
+    ensures talks { Talks P.tells (tally 1 (P.changes platform.old) (P.changes platform.new))
         (around P.Platform T.Tape L.Sink platform.old tape.old ledger.old)
         (around P.Platform T.Tape L.Sink platform.new tape.new ledger.new)
         (I.left input.old) (I.left input.new) (O.written output.old) (O.written output.new) result }
@@ -126,11 +129,12 @@ fn serve_client<P: Platform, T: Tape, I: Source, O: Sink, L: Sink>(
 ) -> Result<(), Halt>
     requires ready { IsReady P.tells (around P.Platform T.Tape L.Sink platform.old tape.old ledger.old) session }
     requires fresh { needed_by session ≡ 0 }
-    // The session's cache has room for a node of each level.
-    requires room { 20 ≤ room_of session }
+    // The session's cache has room for a node of each level, and for no more than the run is to have in memory.
+    requires room { (20 ≤ room_of session) × (room_of session ≤ 256) }
     ensures carries { Carries P.tells
         (around P.Platform T.Tape L.Sink platform.old tape.old ledger.old)
         (around P.Platform T.Tape L.Sink platform.new tape.new ledger.new) session None (IsOk result) }
+    ensures ended { I.ends input.new ≤ I.ends input.old + 1 }
     ensures blame { Blames
         (counts_of P.Platform T.Tape I.Source O.Sink L.Sink platform.old tape.old input.old output.old ledger.old)
         (counts_of P.Platform T.Tape I.Source O.Sink L.Sink platform.new tape.new input.new output.new ledger.new)
@@ -138,7 +142,7 @@ fn serve_client<P: Platform, T: Tape, I: Source, O: Sink, L: Sink>(
     ensures halts { IfErr result IsLate }
     ensures says { Says
         (IsFrom P.tells (around P.Platform T.Tape L.Sink platform.old tape.old ledger.old) session)
-        P.tells 0
+        P.tells (tally 0 (P.changes platform.old) (P.changes platform.new))
         (around P.Platform T.Tape L.Sink platform.old tape.old ledger.old)
         (around P.Platform T.Tape L.Sink platform.new tape.new ledger.new)
         (4096 * blocks_of session) (I.left input.old) (I.left input.new)

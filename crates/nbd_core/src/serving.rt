@@ -1,13 +1,16 @@
 //! Requests, one after another.
-ghost use Rattle.std.specs.Prelude.{◌≡◌, ◌≢◌, ◌+◌, ◌-◌, ◌*◌, ◌≤◌, ◌<◌, ℕ, List, Option, None, Some, Err, IsOk, IfOk, IfErr, OnOk, OnErr, IfSome, IsTrue, ◌↔◌, [], length, take, drop};
+ghost use Rattle.std.specs.Prelude.{◌≡◌, ◌≢◌, ◌+◌, ◌-◌, ◌*◌, ◌≤◌, ◌<◌, ℕ, List, Option, None, Some, Err, IsOk, IfOk, IfErr, OnOk, OnErr, IfSome, IsTrue, ◌↔◌, [], length, take, drop, vec_capacity};
 ghost use Rattle.nbd_core.specs.Ample.{blocks_of_range, unless_refused};
+ghost use Rattle.nbd_core.specs.Changes.{changes_for, tally};
 ghost use Rattle.nbd_core.specs.Damages.{AnswersTrue, PerformsTrue, SaysTrue};
 ghost use Rattle.nbd_core.specs.Found.{FindsSame};
 ghost use Rattle.nbd_core.specs.Near.{left_by, needed_at, needed_for};
 ghost use Rattle.nbd_core.specs.Reads.{reads_at, reads_for};
+ghost use Rattle.nbd_core.specs.Rooms.{KeepsRoom, room_at, room_for};
 ghost use Rattle.nbd_core.specs.Short.{FlushSpends, Spends};
 ghost use Rattle.nbd_core.specs.Stops.{TellsPut};
 ghost use Rattle.sdbt_base.specs.Told.{Got, GotPart};
+ghost use Rattle.sdbt_base.specs.Rises.{MayRiseBy};
 ghost use Rattle.device_course.specs.States.{around};
 ghost use Rattle.byte_arrays.specs.Ranges.{touched_blocks};
 ghost use Rattle.device_session.specs.Open.{IsOpen, blocks_of, needed_by};
@@ -52,7 +55,10 @@ pub(crate) struct Desk {
 }
 
 impl Desk {
-    pub(crate) fn new(alloc: Global) -> Desk {
+    /// No room is taken for replies yet.
+    pub(crate) fn new(alloc: Global) -> Desk
+        ensures { vec_capacity result.reply ≡ 0 }
+    {
         Desk {
             block: [0; BLOCK],
             reply: Vec::new(alloc),
@@ -79,17 +85,21 @@ pub(crate) fn serve<P: Platform, T: Tape, I: Source, O: Sink, L: Sink>(
     ledger: &mut L,
 ) -> Result<(), Halt>
     requires ready { IsReady P.tells (around P.Platform T.Tape L.Sink platform.old tape.old ledger.old) first }
+    // No room is taken for replies before there is a request.
+    requires empty { vec_capacity desk.old.reply ≡ 0 }
     requires fresh { needed_by first ≡ 0 }
     ensures carries { Carries P.tells
         (around P.Platform T.Tape L.Sink platform.old tape.old ledger.old)
         (around P.Platform T.Tape L.Sink platform.new tape.new ledger.new) first None (IsOk result) }
+    ensures ended { I.ends input.new ≤ I.ends input.old + 1 }
     ensures blame { Blames
         (counts_of P.Platform T.Tape I.Source O.Sink L.Sink platform.old tape.old input.old output.old ledger.old)
         (counts_of P.Platform T.Tape I.Source O.Sink L.Sink platform.new tape.new input.new output.new ledger.new)
         result }
+    ensures keeps { KeepsRoom 33554448 (length desk.old.reply.items) (length desk.new.reply.items) (vec_capacity desk.old.reply) (vec_capacity desk.new.reply) }
     ensures served { Served
         (IsFrom P.tells (around P.Platform T.Tape L.Sink platform.old tape.old ledger.old) first)
-        P.tells 0
+        P.tells (tally 0 (P.changes platform.old) (P.changes platform.new))
         (around P.Platform T.Tape L.Sink platform.old tape.old ledger.old)
         (around P.Platform T.Tape L.Sink platform.new tape.new ledger.new)
         (4096 * blocks_of first) (I.left input.old) (I.left input.new)
@@ -120,6 +130,7 @@ fn is_disconnect(request: &Request) -> bool
 /// Takes the head of the next request. `None` where the input ends before it.
 fn next_request<I: Source>(intake: &mut Intake, input: &mut I) -> Result<Option<Request>, Halt>
     ensures came { HeadCame (I.left input.old) (I.left input.new) intake.old intake.new result }
+    ensures ended { EndsOnce result (λ request. IsSome request) (I.ends input.old) (I.ends input.new) }
     ensures blame { (rest : Counts)
         → Blames (record rest { input = I.faults input.old })
         (record rest { input = I.faults input.new }) result }
@@ -171,10 +182,13 @@ fn answer<P: Platform, T: Tape, I: Source, O: Sink, L: Sink>(
         (around P.Platform T.Tape L.Sink platform.old tape.old ledger.old)
         (around P.Platform T.Tape L.Sink platform.new tape.new ledger.new) session
         (goes_on result) (IsOk result) }
+    ensures ended { EndsOnce result (λ done. Unit {0}) (I.ends input.old) (I.ends input.new) }
     ensures blame { Blames
         (counts_of P.Platform T.Tape I.Source O.Sink L.Sink platform.old tape.old input.old output.old ledger.old)
         (counts_of P.Platform T.Tape I.Source O.Sink L.Sink platform.new tape.new input.new output.new ledger.new)
         result }
+    ensures keeps { KeepsRoom (room_for (4096 * blocks_of session) request.now) (length desk.old.reply.items) (length desk.new.reply.items) (vec_capacity desk.old.reply) (vec_capacity desk.new.reply) }
+    ensures changes { P.tells → MayRiseBy (changes_for (4096 * blocks_of session) request.now) (P.changes platform.old) (P.changes platform.new) }
     ensures answered { Answered P.tells
         (around P.Platform T.Tape L.Sink platform.old tape.old ledger.old)
         (around P.Platform T.Tape L.Sink platform.new tape.new ledger.new) session
@@ -211,6 +225,7 @@ fn perform<P: Platform, T: Tape, I: Source, L: Sink>(
         (around P.Platform T.Tape L.Sink platform.old tape.old ledger.old)
         (around P.Platform T.Tape L.Sink platform.new tape.new ledger.new) first
         (performed result) (IsOk result) }
+    ensures ended { EndsOnce result (λ done. Unit {0}) (I.ends input.old) (I.ends input.new) }
     ensures blame { (rest : Counts)
         → Blames (record rest { platform = P.faults platform.old; tape = T.faults tape.old; input = I.faults input.old; ledger = L.faults ledger.old })
         (record rest { platform = P.faults platform.new; tape = T.faults tape.new; input = I.faults input.new; ledger = L.faults ledger.new }) result }
@@ -224,8 +239,10 @@ fn perform<P: Platform, T: Tape, I: Source, L: Sink>(
         (record { head = request.now; bytes = gone }) desk.new.reply.items result) result }
     ensures room { IfOk result (λ done. request.now.kind ≡ RequestKind.Read → done.outcome ≡ Outcome.Done
         → 16 + request.now.length ≤ length desk.new.reply.items) }
+    ensures keeps { KeepsRoom (room_for (4096 * blocks_of first) request.now) (length desk.old.reply.items) (length desk.new.reply.items) (vec_capacity desk.old.reply) (vec_capacity desk.new.reply) }
     ensures ends { EndsByHead request.now.kind (refusal (4096 * blocks_of first) request.now) result }
     ensures reads { P.tells → P.reads platform.new ≤ P.reads platform.old + reads_for (4096 * blocks_of first) request.now }
+    ensures changes { P.tells → MayRiseBy (changes_for (4096 * blocks_of first) request.now) (P.changes platform.old) (P.changes platform.new) }
     ensures adds { (n : ℕ) → needed_by first ≤ 41 * n → IfErr result
         (λ halt. P.head platform.new ≤ P.head platform.old
         + left_by halt (needed_for (4096 * blocks_of first) request.now n)) }
@@ -279,6 +296,7 @@ fn serve_blocks<P: Platform, T: Tape, I: Source>(
         (unless_refused refused (reads_at request.now.kind request.now.offset request.now.length))
         platform.old platform.new (drawn_by T.Tape tape.old) (drawn_by T.Tape tape.new)
         session.old session.new }
+    ensures ended { EndsOnce result (λ done. Unit {0}) (I.ends input.old) (I.ends input.new) }
     ensures blame { (rest : Counts)
         → Blames (record rest { platform = P.faults platform.old; tape = T.faults tape.old; input = I.faults input.old })
         (record rest { platform = P.faults platform.new; tape = T.faults tape.new; input = I.faults input.new }) result }
@@ -293,6 +311,7 @@ fn serve_blocks<P: Platform, T: Tape, I: Source>(
         (record { head = request.now; bytes = gone }) desk.new.reply.items result) result }
     ensures room { IfOk result (λ outcome. request.now.kind ≡ RequestKind.Read → outcome ≡ Outcome.Done
         → 16 + request.now.length ≤ length desk.new.reply.items) }
+    ensures keeps { KeepsRoom (unless_refused refused (room_at request.now.kind request.now.length)) (length desk.old.reply.items) (length desk.new.reply.items) (vec_capacity desk.old.reply) (vec_capacity desk.new.reply) }
     ensures ends { IsByHead request.now.kind refused result }
     ensures adds { P.head platform.new ≤ P.head platform.old
         + unless_refused refused (needed_at request.now.kind 0 request.now.offset request.now.length) }
@@ -348,11 +367,12 @@ fn flush<P: Platform, T: Tape, L: Sink>(
     ensures flushes { Flushed P.tells
         (around P.Platform T.Tape L.Sink platform.old tape.old ledger.old)
         (around P.Platform T.Tape L.Sink platform.new tape.new ledger.new) session result }
-    ensures says { IfOk result (λ done. SaysTrue ⊥ (needed_by done.session ≡ 0)
+    ensures says { IfOk result (λ done. SaysTrue ⊥ ⊥ (needed_by done.session ≡ 0)
         (FindsSame (P.history platform.old).present (P.history platform.new).present
         session done.session) done.outcome) }
     ensures comes { IfOk result (λ done. MayCome RequestKind.Flush done.outcome) }
     ensures reads { P.tells → P.reads platform.new ≡ P.reads platform.old }
+    ensures changes { P.tells → MayRiseBy 2 (P.changes platform.old) (P.changes platform.new) }
     ensures adds { IfErr result (λ halt. P.head platform.new ≤ P.head platform.old
         + left_by halt (needed_by session)) }
     ensures spends { IfOk result (λ done. FlushSpends (needed_by session)
@@ -395,6 +415,7 @@ fn finish<P: Platform, T: Tape, L: Sink>(
         (record rest { platform = P.faults platform.new; tape = T.faults tape.new; ledger = L.faults ledger.new }) result }
     ensures ends { EndsByDisconnect result }
     ensures reads { P.tells → P.reads platform.new ≡ P.reads platform.old }
+    ensures changes { P.tells → MayRiseBy 2 (P.changes platform.old) (P.changes platform.new) }
     ensures short { result ≡ Err Halt.Unfinished
         → P.capacity platform.new - P.head platform.new < needed_by session }
     ensures adds { IfErr result (λ halt. P.head platform.new ≤ P.head platform.old
@@ -433,6 +454,7 @@ fn put_reply<O: Sink>(
           bytes = bytes_of_reply request.now.kind request.now.length outcome desk.old.reply.items;
         }))
         (O.written output.new)) }
+    ensures same_room { (length desk.new.reply.items ≡ length desk.old.reply.items) × (vec_capacity desk.new.reply ≡ vec_capacity desk.old.reply) }
     ensures fell { O.faults output.old ≤ O.faults output.new }
     ensures cause { TellsPut result (O.faults output.old) (O.faults output.new) }
 {

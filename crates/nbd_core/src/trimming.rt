@@ -12,6 +12,7 @@ ghost use Rattle.nbd_core.specs.Halts.{Blames};
 ghost use Rattle.nbd_core.specs.Meets.{HasMet};
 ghost use Rattle.nbd_core.specs.Reads.{reads_at};
 ghost use Rattle.nbd_core.specs.Serving.{IsWithin};
+ghost use Rattle.nbd_core.specs.Stopped.{StopsTrimming};
 ghost use Rattle.nbd_core.specs.Turns.{LeadsOn, MayCome};
 
 use crate::halts::{Halt, after_stop};
@@ -42,10 +43,14 @@ pub(crate) fn trim<P: Platform>(
     ensures leads { LeadsOn P.Platform platform.old platform.new session.old session.new
         (λ outcome entry next. Trims entry
         (covered_blocks request.now.offset request.now.length) outcome next) result }
-    // On any pages: look-ups find the blocks no more, or there is damage.
+    // On any pages: look-ups find the blocks no more; or those before one at which memory lacked, or a page doesn't fit.
     ensures damage { P.tells → IsMounted (P.history platform.old).present session.old
-        → IfOk result (SaysTrue (HasMet RequestKind.Trim (P.history platform.new).present
-        request.now.offset request.now.length)
+        → IfOk result (SaysTrue
+        (StopsTrimming (P.history platform.old).present (P.history platform.new).present session.old session.new
+        (covered_blocks request.now.offset request.now.length) (λ there. Unit {0}))
+        (StopsTrimming (P.history platform.old).present (P.history platform.new).present session.old session.new
+        (covered_blocks request.now.offset request.now.length) (λ there. HasMet RequestKind.Trim there
+        (P.history platform.new).present request.now.offset request.now.length))
         (HasTrimmed (P.history platform.old).present (P.history platform.new).present
         session.old session.new (covered_blocks request.now.offset request.now.length))
         (FindsSame (P.history platform.old).present (P.history platform.new).present

@@ -17,6 +17,7 @@ ghost use Rattle.session_calls.specs.Calling.{Calls};
 ghost use Rattle.nbd_core.specs.Serving.{IsWithin};
 ghost use Rattle.nbd_core.specs.Reads.{reads_at};
 ghost use Rattle.nbd_core.specs.Requests.{DataCame};
+ghost use Rattle.nbd_core.specs.Stopped.{LeavesCounts};
 ghost use Rattle.nbd_core.specs.Turns.{EndsAs, LeadsOn, MayHalt};
 
 use crate::halts::{Halt, after_stop};
@@ -45,6 +46,7 @@ pub(crate) fn write<P: Platform, T: Tape, I: Source>(
         (length (touched_blocks request.now.offset request.now.length))
         (reads_at RequestKind.Write request.now.offset request.now.length) platform.old platform.new
         (drawn_by T.Tape tape.old) (drawn_by T.Tape tape.new) session.old session.new }
+    ensures ended { EndsOnce result (λ done. Unit {0}) (I.ends input.old) (I.ends input.new) }
     ensures blame { (rest : Counts)
         → Blames (record rest { platform = P.faults platform.old; tape = T.faults tape.old; input = I.faults input.old })
         (record rest { platform = P.faults platform.new; tape = T.faults tape.new; input = I.faults input.new }) result }
@@ -97,6 +99,7 @@ fn write_range<P: Platform, T: Tape, I: Source>(
     ensures along { Along P.Platform (length (touched_blocks at count))
         (reads_at RequestKind.Write at count) platform.old platform.new
         (drawn_by T.Tape tape.old) (drawn_by T.Tape tape.new) session.old session.new }
+    ensures ended { EndsOnce result (λ done. Unit {0}) (I.ends input.old) (I.ends input.new) }
     ensures blame { (rest : Counts)
         → Blames (record rest { platform = P.faults platform.old; tape = T.faults tape.old; input = I.faults input.old })
         (record rest { platform = P.faults platform.new; tape = T.faults tape.new; input = I.faults input.new }) result }
@@ -139,6 +142,7 @@ fn give_up<I: Source>(
     left: u64,
 ) -> Result<Outcome, Halt>
     requires { IsOfCall stop }
+    ensures ended { EndsOnce result (λ done. Unit {0}) (I.ends input.old) (I.ends input.new) }
     ensures blame { (before now : Counts) → NoneFell before now → HasCause before now stop
         → Blames (record before { input = I.faults input.old })
         (record now { input = I.faults input.new }) result }
@@ -163,6 +167,7 @@ pub(crate) fn let_go<I: Source>(
     ensures outcome { IfOk result (λ it. it ≡ outcome) }
     ensures halted { (kind : RequestKind) (refused : Option Outcome)
         → IfErr result (MayHalt kind refused) }
+    ensures ended { EndsOnce result (λ done. Unit {0}) (I.ends input.old) (I.ends input.new) }
     ensures blame { (rest : Counts)
         → Blames (record rest { input = I.faults input.old })
         (record rest { input = I.faults input.new }) result }
@@ -199,7 +204,7 @@ fn write_part<P: Platform, T: Tape>(
         → WritesPart (P.history platform.new).present session.new device array
         part.block part.start part.count bytes.now result }
     ensures adds { AddsOne (P.head platform.old) (P.head platform.new) result }
-    ensures needs { OnErr result (needed_by session.new ≤ needed_by session.old) }
+    ensures left { OnErr result (LeavesCounts session.old session.new) }
     // On any pages: look-ups find the bytes in their place, or there is damage.
     ensures damage { P.tells → IsMounted (P.history platform.old).present session.old
         → WritesFound (P.history platform.old).present (P.history platform.new).present

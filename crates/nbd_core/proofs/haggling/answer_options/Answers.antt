@@ -10,6 +10,7 @@ options-init g c = record {
   options = [];
   heard = heard_nothing c.args.size c.args.flags.no_zeroes (g.I.Source.left c.args.input.now) c.args.intake.now (g.O.Sink.written c.args.output.now);
   others = λ k d below. absurd (omega (arith, below));
+  open_yet = omega arith;
   input = omega arith;
   output = omega arith;
 }
@@ -59,6 +60,7 @@ options-preserved g c =
       options = so_far.options ++ more.0 ∷ [];
       heard = more.2;
       others = others_more so_far.options more.0 c.in-Some.option c.in-Other.field-0 so_far.others more.1 c.in-Other.is;
+      open_yet = OPEN ∙ so_far.open_yet;
       input = omega (arith, so_far.input, c.in_ok-option.ensures.cause);
       output = omega (arith, so_far.output, c.in_ok-put_answer.ensures.cause);
     }

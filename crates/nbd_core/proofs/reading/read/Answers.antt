@@ -82,7 +82,7 @@ returns-in-Ok-clause-damage g c told mounted =
 pub returns-in-Err-clause-damage : goal.returns-in-Err-clause-damage
 returns-in-Err-clause-damage g c told mounted =
     let read = c.in-Err.ensures.damage told mounted in
-    (read.same, stop_after _ _ _ c.in-Err.stop _ read.met c.after_stop.ensures)
+    (read.same, stop_after _ _ _ _ _ c.in-Err.stop _ (λ has. tt) (λ has addr met. (addr, met)) read.met c.after_stop.ensures)
 
 pub returns-in-Err-clause-comes : goal.returns-in-Err-clause-comes
 returns-in-Err-clause-comes g c = stop_comes Read c.in-Err.stop _ tt c.after_stop.ensures

@@ -13,7 +13,7 @@ pub returns-in-Ok-Some-clause-talks : goal.returns-in-Ok-Some-clause-talks
 returns-in-Ok-Some-clause-talks g c =
     let is = c.in-Ok-Some.is ∙ ap Ok c.in-Ok-Some.field-0-is in
     let looks = c.mount_session.ensures.looks in
-    talks_mounted g.P.Platform g.T.Tape g.L.Sink _ _ _ _ _ _ c.in-Ok-Some.session c.mount_session.result _ _ _ _ _ is looks c.mount_session.ensures.finds c.mount_session.ensures.leads (λ told. (c.mount_session.ensures.reads told).0.by_one) c.serve_client.ensures.says
+    talks_mounted g.P.Platform g.T.Tape g.L.Sink _ _ _ _ _ _ c.in-Ok-Some.session c.mount_session.result _ _ _ _ _ is looks c.mount_session.ensures.finds c.mount_session.ensures.leads (λ told. (c.mount_session.ensures.reads told).0.by_one) _ c.serve_client.ensures.says
 
 pub returns-in-Ok-None-clause-spans : goal.returns-in-Ok-None-clause-spans
 returns-in-Ok-None-clause-spans g c =
@@ -26,13 +26,15 @@ returns-in-Err-clause-spans g c =
     spans_look _ _ _ _ refl refl looks.head looks.capacity (g.met.P.Platform.has_room c.mount_session.new.platform) looks.image looks.time
 
 pub returns-in-Ok-None-clause-talks : goal.returns-in-Ok-None-clause-talks
-returns-in-Ok-None-clause-talks g c = inl (silent_look _ _ _ _ _ _ _ tt c.mount_session.ensures.looks.head (λ told. (c.mount_session.ensures.reads told).0.by_one) c.mount_session.ensures.looks.time)
+returns-in-Ok-None-clause-talks g c = inl (silent_look _ _ _ _ _ _ _ tt c.mount_session.ensures.looks.head (λ told. (c.mount_session.ensures.reads told).0.by_one) c.mount_session.ensures.looks.changes c.mount_session.ensures.looks.time)
 
 pub returns-in-Err-clause-talks : goal.returns-in-Err-clause-talks
-returns-in-Err-clause-talks g c = inl (silent_look _ _ _ _ _ _ _ (early_mount _ _ _ c.in-Err.stop _ c.in-Err.ensures.stops c.after_mount.ensures) c.mount_session.ensures.looks.head (λ told. (c.mount_session.ensures.reads told).0.by_one) c.mount_session.ensures.looks.time)
+returns-in-Err-clause-talks g c = inl (silent_look _ _ _ _ _ _ _ (early_mount _ _ _ c.in-Err.stop _ c.in-Err.ensures.stops c.after_mount.ensures) c.mount_session.ensures.looks.head (λ told. (c.mount_session.ensures.reads told).0.by_one) c.mount_session.ensures.looks.changes c.mount_session.ensures.looks.time)
 
 pub serve_client-requires-clause-fresh : goal.serve_client-requires-clause-fresh
 serve_client-requires-clause-fresh g c = fresh_found g.P.Platform _ _ _ c.in-Ok-Some.session c.mount_session.result (c.in-Ok-Some.is ∙ ap Ok c.in-Ok-Some.field-0-is) c.mount_session.ensures.finds
 
 pub serve_client-requires-clause-room : goal.serve_client-requires-clause-room
-serve_client-requires-clause-room g c = omega (arith, room_found g.P.Platform _ _ _ c.in-Ok-Some.session c.mount_session.result (c.in-Ok-Some.is ∙ ap Ok c.in-Ok-Some.field-0-is) c.mount_session.ensures.finds)
+serve_client-requires-clause-room g c =
+    let room = room_found g.P.Platform _ _ _ c.in-Ok-Some.session c.mount_session.result (c.in-Ok-Some.is ∙ ap Ok c.in-Ok-Some.field-0-is) c.mount_session.ensures.finds in
+    (omega (arith, room), omega (arith, room))

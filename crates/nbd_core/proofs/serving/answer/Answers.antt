@@ -5,6 +5,7 @@ use Rattle.session_calls.proofs.CarryLaws.{carries_end}
 use Rattle.nbd_core.specs.Serving.{bytes_of_reply}
 use Rattle.nbd_core.proofs.ServedLaws.{answer_cut, answer_halted, is_reply, sink_no_limit}
 use Rattle.nbd_core.proofs.TurnLaws.{turned_last}
+use Rattle.nbd_core.proofs.KeepLaws.{keeps_on}
 use Rattle.nbd_core.proofs.serving.answer.Goals as goal
 
 pub returns-in-Ok-put_reply-clause-blame : goal.returns-in-Ok-put_reply-clause-blame
@@ -70,3 +71,9 @@ pub returns-in-Err-clause-answered : goal.returns-in-Err-clause-answered
 returns-in-Err-clause-answered g c =
     let came = c.in-Err.ensures.bytes in
     record { gone = came.gone; came = came.came; ends = answer_halted _ _ _ _ _ c.args.request.now _ came.gone _ _ c.in-Err.halt came.ends c.in-Err.ensures.ends came.did.0 c.in-Err.ensures.adds; limit = came.limit; reads = c.in-Err.ensures.reads }
+
+pub returns-in-Ok-put_reply-clause-keeps : goal.returns-in-Ok-put_reply-clause-keeps
+returns-in-Ok-put_reply-clause-keeps g c = keeps_on _ _ _ _ _ _ _ c.in-Ok.ensures.keeps c.in-Ok-put_reply.ensures.same_room.0 c.in-Ok-put_reply.ensures.same_room.1
+
+pub returns-in-Err-put_reply-clause-keeps : goal.returns-in-Err-put_reply-clause-keeps
+returns-in-Err-put_reply-clause-keeps g c = keeps_on _ _ _ _ _ _ _ c.in-Ok.ensures.keeps c.in-Err-put_reply.ensures.same_room.0 c.in-Err-put_reply.ensures.same_room.1

@@ -50,3 +50,9 @@ returns-in-Ok-clause-comes g c = commit_comes c.in-Ok.done.reply _ c.outcome_of.
 
 pub returns-in-Err-clause-adds : goal.returns-in-Err-clause-adds
 returns-in-Err-clause-adds g c = commit_adds g.P.Platform g.T.Tape _ _ _ _ _ c.in-Err.stop _ c.after_commit.ensures c.in-Err.ensures.answers c.in-Err.ensures.goes.adds
+
+pub returns-in-Ok-clause-changes : goal.returns-in-Ok-clause-changes
+returns-in-Ok-clause-changes g c = c.in-Ok.ensures.goes.changes
+
+pub returns-in-Err-clause-changes : goal.returns-in-Err-clause-changes
+returns-in-Err-clause-changes g c = c.in-Err.ensures.goes.changes

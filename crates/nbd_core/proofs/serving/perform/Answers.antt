@@ -13,6 +13,9 @@ use Rattle.nbd_core.proofs.ReadLaws.{reads_refused}
 use Rattle.nbd_core.proofs.ShortLaws.{blocks_spend, flush_spends}
 use Rattle.nbd_core.proofs.TurnLaws.{blocks_halted, blocks_performed, flush_performed}
 use Rattle.nbd_core.specs.Turns.{ComesTo, MayHalt}
+use Rattle.nbd_core.proofs.ChangeLaws.{changes_is, rises_none, rises_within}
+use Rattle.nbd_lang.specs.declared.requests.RequestKind.TheVariants.{Flush}
+use Rattle.nbd_core.proofs.KeepLaws.{keeps_as, keeps_same, room_refused}
 use Rattle.nbd_core.proofs.serving.perform.Goals as goal
 
 size_of_session : (session : Session) (blocks : ℕ) → blocks ≡ blocks_of session → 4096 * blocks_of session ≡ blocks * 4096
@@ -112,3 +115,28 @@ pub returns-in-Err-clause-adds : goal.returns-in-Err-clause-adds
 returns-in-Err-clause-adds g c n few =
     let whole = c.refusal-refused.ensures ∙ ap (λ (s : ℕ). refusal s c.args.request.now) (sym (size_of_session c.args.first _ c.blocks-2.ensures)) in
     blocks_add _ n _ _ c.args.request.now c.refusal-refused.result c.in-Err.halt whole c.in-Err.ensures.ends c.requires.kind (λ flush none. let no : false ≡ true = c.if-is_flush.ensures.1 (flush, none) in cc) c.in-Err.ensures.adds
+
+pub returns-then-is_flush-clause-changes : goal.returns-then-is_flush-clause-changes
+returns-then-is_flush-clause-changes g c told =
+    let both = c.if-is_flush.ensures.0 refl in
+    let whole = ap (λ (s : ℕ). refusal s c.args.request.now) (size_of_session c.args.first _ c.blocks-2.ensures) ∙ sym c.refusal-refused.ensures ∙ both.1 in
+    rises_within 2 _ _ _ (omega (arith, changes_is _ c.args.request.now Flush whole both.0)) (c.flush.ensures.changes told)
+
+pub returns-in-Ok-clause-changes : goal.returns-in-Ok-clause-changes
+returns-in-Ok-clause-changes g c told = rises_none _ _ _ (c.in-Ok.ensures.along.changes told)
+
+pub returns-in-Err-clause-changes : goal.returns-in-Err-clause-changes
+returns-in-Err-clause-changes g c told = rises_none _ _ _ (c.in-Err.ensures.along.changes told)
+
+pub returns-then-is_flush-clause-keeps : goal.returns-then-is_flush-clause-keeps
+returns-then-is_flush-clause-keeps g c = keeps_same _ _ _ _ _ refl refl
+
+pub returns-in-Ok-clause-keeps : goal.returns-in-Ok-clause-keeps
+returns-in-Ok-clause-keeps g c =
+    let whole = c.refusal-refused.ensures ∙ ap (λ (s : ℕ). refusal s c.args.request.now) (sym (size_of_session c.args.first _ c.blocks-2.ensures)) in
+    keeps_as _ _ _ _ _ _ (room_refused _ c.args.request.now c.refusal-refused.result whole) c.in-Ok.ensures.keeps
+
+pub returns-in-Err-clause-keeps : goal.returns-in-Err-clause-keeps
+returns-in-Err-clause-keeps g c =
+    let whole = c.refusal-refused.ensures ∙ ap (λ (s : ℕ). refusal s c.args.request.now) (sym (size_of_session c.args.first _ c.blocks-2.ensures)) in
+    keeps_as _ _ _ _ _ _ (room_refused _ c.args.request.now c.refusal-refused.result whole) c.in-Err.ensures.keeps

@@ -1,4 +1,4 @@
-use Rattle.std.proofs.Common.{ap, arith, length, sym, []}
+use Rattle.std.proofs.Common.{ap, arith, length, refl, sym, []}
 use Rattle.byte_arrays.specs.Ranges.{covered_blocks, touched_blocks}
 use Rattle.nbd_lang.specs.declared.requests.RequestKind.TheVariants.{Read, Trim, Write}
 use Rattle.nbd_core.specs.Ample.{blocks_of_range, unless_refused}
@@ -13,6 +13,7 @@ use Rattle.nbd_core.proofs.BlameLaws.{by_head_platform, by_head_refused, by_head
 use Rattle.nbd_core.proofs.DamageLaws.{kind_says, refused_says}
 use Rattle.nbd_core.proofs.DataLaws.{data_did, no_data}
 use Rattle.nbd_core.proofs.TurnLaws.{answers_read, answers_refused, answers_trim, answers_write, leads_as, leads_idle}
+use Rattle.nbd_core.proofs.KeepLaws.{keeps_as, keeps_same, room_is}
 use Rattle.nbd_core.proofs.serving.serve_blocks.Goals as goal
 
 pub returns-in-Some-clause-along : goal.returns-in-Some-clause-along
@@ -31,7 +32,7 @@ pub returns-in-Read-clause-bytes : goal.returns-in-Read-clause-bytes
 returns-in-Read-clause-bytes g c =
     no_data (g.I.Source.left c.args.input.now) c.args.intake.now _ _ c.read.result (ap (λ k. bytes_behind k c.args.request.now.length) c.in-Read.is) (platform_ends c.read.result (g.I.Source.left c.args.input.now) c.args.intake.now.ahead c.read.ensures.halts) (
       leads_as g.P.Platform _ _ _ _ _ _ _ (λ outcome entry next is. answers_read _ entry next c.args.request.now _ outcome [] _ c.in-Read.is c.in_default.is is) c.read.ensures.leads,
-      (λ told mounted. kind_says _ _ _ _ c.args.request.now [] _ Read _ c.read.result c.in-Read.is (λ has. has) (λ is. (c.read.ensures.damage told mounted).0) (c.read.ensures.damage told mounted).1),
+      (λ told mounted. kind_says _ _ _ _ c.args.request.now [] _ Read _ _ _ c.read.result c.in-Read.is (λ has. has) (λ has. has) (λ has. has) (λ is. (c.read.ensures.damage told mounted).0) (c.read.ensures.damage told mounted).1),
     )
 
 pub returns-in-Trim-clause-along : goal.returns-in-Trim-clause-along
@@ -65,7 +66,7 @@ pub returns-in-Trim-clause-bytes : goal.returns-in-Trim-clause-bytes
 returns-in-Trim-clause-bytes g c =
     no_data (g.I.Source.left c.args.input.now) c.args.intake.now _ _ c.trim.result (ap (λ k. bytes_behind k c.args.request.now.length) c.in-Trim.is) (platform_ends c.trim.result (g.I.Source.left c.args.input.now) c.args.intake.now.ahead c.trim.ensures.halts) (
       leads_as g.P.Platform _ _ _ _ _ _ _ (λ outcome entry next is. answers_trim _ entry next c.args.request.now _ outcome [] _ c.in-Trim.is c.in_default.is is) c.trim.ensures.leads,
-      (λ told mounted. kind_says _ _ _ _ c.args.request.now [] _ Trim _ c.trim.result c.in-Trim.is (λ has. has) (λ is. absurd cc) (c.trim.ensures.damage told mounted)),
+      (λ told mounted. kind_says _ _ _ _ c.args.request.now [] _ Trim _ _ _ c.trim.result c.in-Trim.is (λ has. has) (λ has. has) (λ has. has) (λ is. absurd cc) (c.trim.ensures.damage told mounted)),
     )
 
 pub returns-in-Some-clause-bytes : goal.returns-in-Some-clause-bytes
@@ -82,7 +83,7 @@ returns-in-Write-clause-bytes g c =
     data_did _ _ _ _ _ _ _ _ _ (sym (ap (λ k. bytes_behind k c.args.request.now.length) c.in-Write.is))
     (λ gone both. (
       leads_as g.P.Platform _ _ _ _ _ _ _ (λ outcome entry next is. answers_write _ entry next c.args.request.now _ outcome gone _ c.in-Write.is c.in_default.is is) both.0,
-      (λ told mounted. kind_says _ _ _ _ c.args.request.now gone _ Write _ c.write.result c.in-Write.is (λ has. has) (λ is. absurd cc) (both.1 told mounted)),
+      (λ told mounted. kind_says _ _ _ _ c.args.request.now gone _ Write _ _ _ c.write.result c.in-Write.is (λ has. has) (λ has. has) (λ has. has) (λ is. absurd cc) (both.1 told mounted)),
     ))
     c.write.ensures.bytes
 
@@ -110,3 +111,15 @@ returns-in-Trim-clause-adds g c = omega (arith, c.trim.ensures.head)
 pub returns-in-Write-clause-adds : goal.returns-in-Write-clause-adds
 returns-in-Write-clause-adds g c =
     omega (arith, needed_is c.args.refused c.args.request.now.kind Write 0 c.args.request.now.offset c.args.request.now.length c.in_default.is c.in-Write.is, c.write.ensures.along.adds)
+
+pub returns-in-Some-clause-keeps : goal.returns-in-Some-clause-keeps
+returns-in-Some-clause-keeps g c = keeps_same _ _ _ _ _ refl refl
+
+pub returns-in-Read-clause-keeps : goal.returns-in-Read-clause-keeps
+returns-in-Read-clause-keeps g c = keeps_as _ _ _ _ _ _ (room_is c.args.refused c.args.request.now.kind Read c.args.request.now.length c.in_default.is c.in-Read.is) c.read.ensures.keeps
+
+pub returns-in-Write-clause-keeps : goal.returns-in-Write-clause-keeps
+returns-in-Write-clause-keeps g c = keeps_same _ _ _ _ _ refl refl
+
+pub returns-in-Trim-clause-keeps : goal.returns-in-Trim-clause-keeps
+returns-in-Trim-clause-keeps g c = keeps_same _ _ _ _ _ refl refl

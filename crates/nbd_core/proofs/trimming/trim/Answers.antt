@@ -1,4 +1,4 @@
-use Rattle.std.proofs.Common.{Err, ◌≡◌, ◌≤◌, ◌+◌, ◌-◌, ℕ, ap, inl, length, refl, subst, sym, ◌∙◌, arith, Ok, Some}
+use Rattle.std.proofs.Common.{Err, ◌≡◌, ◌≤◌, ◌+◌, ◌-◌, ℕ, ap, inl, inr, length, refl, subst, sym, ◌∙◌, arith, Ok, Some}
 use Rattle.sdbt_base.specs.Arrays.{mounted}
 use Rattle.byte_arrays.specs.Ranges.{blocks_from, covered_blocks}
 use Rattle.byte_arrays.proofs.RangeLaws.{covered_is, length-blocks_from}
@@ -6,15 +6,16 @@ use Rattle.device_course.specs.States.{IsAt}
 use Rattle.device_session.specs.Open.{needed_by}
 use Rattle.device_course.specs.Held.{trim_all}
 use Rattle.nbd_lang.specs.declared.requests.RequestKind.TheVariants.{Trim}
-use Rattle.session_calls.proofs.AlongLaws.{along_start, along_then}
+use Rattle.session_calls.proofs.AlongLaws.{along_start, along_then, pages_still}
 use Rattle.nbd_lang.specs.declared.replies.Outcome.TheVariants.{Done}
 use Rattle.nbd_core.proofs.ArrayLaws.{trim_halted, trim_step, trimmed_some}
 use Rattle.nbd_core.proofs.MeetLaws.{trim_stops}
 use Rattle.nbd_core.proofs.DamageLaws.{stop_after}
-use Rattle.nbd_core.proofs.KeptLaws.{trimmed_all, trimmed_start, trimmed_then}
+use Rattle.nbd_core.proofs.KeptLaws.{trimmed_all, trimmed_first, trimmed_start, trimmed_then}
 use Rattle.nbd_core.proofs.TurnLaws.{trims_lead}
 use Rattle.nbd_core.proofs.BlameLaws.{blame_done, blame_platform, blame_then, platform_halts, stop_comes}
 use Rattle.session_calls.proofs.CallLaws.{along_more, draws_none, no_draw, platform_quiet}
+use Rattle.nbd_core.specs.Meets.{MayMeet}
 use Rattle.nbd_core.proofs.trimming.trim.Goals as goal
 
 pub loop-block-init : goal.loop-block-init
@@ -25,6 +26,7 @@ loop-block-init g c = record {
       let none : first - first ≡ 0 = omega arith in
       subst (λ (n : ℕ). IsAt (g.P.Platform.history c.args.platform.now).present (Some c.args.session.now) (mounted device (trim_all array (blocks_from first n)))) (sym none) at;
   taken = λ told mounted. trimmed_start _ _ c.covered-blocks.result.start _ (omega arith);
+  counted = λ told mounted. omega arith;
   head = refl;
   quiet = refl;
   few = omega arith;
@@ -46,6 +48,12 @@ loop-block-preserved g c =
           let covered = covered_is c.args.request.now.offset c.args.request.now.length block ((c.covered-blocks.ensures.covered block).1 (omega arith, omega arith)) in
           let along = so_far.along no_draw in
           trimmed_then _ _ _ _ _ _ first (block - first) block ((block + 1) - first) along.blocks (omega (arith, from)) (sym count) (omega (arith, covered.1, c.requires.within)) (so_far.taken told mounted) (c.in-Ok.ensures.taken told (along.mounted told mounted));
+      counted = λ told mounted.
+          let along = so_far.along no_draw in
+          elim (c.in-Ok.ensures.taken told (along.mounted told mounted)).counts [
+            | inl same ↦ omega (arith, from, same.1, so_far.counted told mounted)
+            | inr less ↦ omega (arith, from, less.1, so_far.counted told mounted)
+          ];
       head = c.in-Ok.ensures.head ∙ so_far.head;
       quiet = platform_quiet _ _ (c.in-Ok.ensures.goes no_draw).quiet ∙ so_far.quiet;
       few = omega (arith, from, c.loop-block-test.true);
@@ -111,7 +119,20 @@ returns-clause-leads g c =
 
 pub returns-in-Err-clause-damage : goal.returns-in-Err-clause-damage
 returns-in-Err-clause-damage g c told mounted =
-    stop_after _ _ _ c.in-Err.stop _ (trim_stops _ (g.P.Platform.history c.loop-block.platform).present (g.P.Platform.history c.trim_block.new.platform).present c.loop-block.session c.loop-block.block (Err c.in-Err.stop) c.in-Err.ensures.any (told, (c.loop-block.invariant.along no_draw).mounted told mounted)) c.after_stop.ensures
+    let P = g.P.Platform in
+    let so_far = c.loop-block.invariant in
+    let first : ℕ = c.covered-blocks.result.start in
+    let block : ℕ = c.loop-block.block in
+    let from : first ≤ block = c.loop-block.auto.block in
+    let goes = c.in-Err.ensures.goes no_draw in
+    let counts = g.met.P.Platform.counts_pages told in
+    let same = pages_still (P.history c.loop-block.platform) (P.history c.trim_block.new.platform) _ _ (goes.along.cell told).extends (counts c.loop-block.platform) (counts c.trim_block.new.platform) c.in-Err.ensures.head in
+    let some =
+    trimmed_first (P.history c.args.platform.now).present (P.history c.loop-block.platform).present (P.history c.trim_block.new.platform).present c.args.session.now c.loop-block.session c.trim_block.new.session first (block - first) c.covered-blocks.result.end _
+    (sym c.covered-blocks.ensures.blocks) (omega (arith, from, c.loop-block-test.true)) same (so_far.taken told mounted) (so_far.counted told mounted)
+    (record { blocks = goes.along.blocks; mapped = goes.mapped_still; needs = omega (arith, goes.needs_still) }) in
+    stop_after (MayMeet Trim c.loop-block.session (P.history c.trim_block.new.platform).present c.args.request.now.offset c.args.request.now.length) _ _ _ _ c.in-Err.stop _ (λ has. (c.loop-block.session, some, tt)) (λ has addr met. (c.loop-block.session, some, (addr, met)))
+    (trim_stops _ (P.history c.loop-block.platform).present (P.history c.trim_block.new.platform).present c.loop-block.session block (Err c.in-Err.stop) c.in-Err.ensures.any (told, (so_far.along no_draw).mounted told mounted)) c.after_stop.ensures
 
 pub returns-clause-damage : goal.returns-clause-damage
 returns-clause-damage g c told mounted =

@@ -1,4 +1,4 @@
-use Rattle.std.specs.Prelude.{◌≡◌, ◌≤◌, ◌-◌, ◌*◌, Some}
+use Rattle.std.specs.Prelude.{◌≡◌, ◌≤◌, ◌+◌, ◌-◌, ◌*◌, Some}
 use Rattle.sdbt_base.specs.Arrays.{Device, Session as OpenSession, mounted}
 use Rattle.byte_arrays.specs.Ranges.{blocks_from}
 use Rattle.device_course.specs.States.{IsAt}
@@ -17,6 +17,7 @@ invariant-loop-block g l =
           → IsAt (P.history l.platform).present (Some l.session) (mounted device (trim_all array (blocks_from l.initial.block (l.block - l.initial.block))));
       taken : P.tells → IsMounted (P.history l.fn.platform).present l.fn.session
           → TrimmedTo (P.history l.fn.platform).present (P.history l.platform).present l.fn.session l.session l.initial.block (l.block - l.initial.block);
+      counted : P.tells → IsMounted (P.history l.fn.platform).present l.fn.session → l.fn.session.mapped ≤ l.session.mapped + (l.block - l.initial.block);
       few : l.block - l.initial.block ≤ l.block-end - l.initial.block;
       head : P.head l.platform ≡ P.head l.fn.platform;
       quiet : P.faults l.platform ≡ P.faults l.fn.platform;

@@ -34,7 +34,7 @@ returns-then-blocks-capacity-clause-bytes g c =
           (λ outcome entry held is.
           no_space _ _ entry gone (touched_blocks c.args.request.now.offset c.args.request.now.length) outcome is
           (omega (arith, held.pages, ap length c.touched-blocks.ensures.blocks, length-blocks_from blocks.start (blocks.end - blocks.start), c.if-blocks-capacity.true))),
-      (λ told mounted. given_says _ _ _ NoSpace c.let_go.result (same_start _ _) c.let_go.ensures.outcome),
+      (λ told mounted. given_says _ _ _ _ NoSpace c.let_go.result (same_start _ _) c.let_go.ensures.outcome),
     ))
     c.let_go.ensures.bytes
 

@@ -2,12 +2,15 @@ use Rattle.std.proofs.Common.{◌≡◌, ◌≢◌, ◌<◌, Err, ◌∙◌, ap,
 use Rattle.session_calls.specs.Along.{drawn_by}
 use Rattle.nbd_terms.proofs.ArrayOfLaws.{padded_whole}
 use Rattle.nbd_core.proofs.ArrayLaws.{adds_behind, adds_none, adds_one, on_stop, writes_patched, writes_unread, writes_whole}
-use Rattle.nbd_core.proofs.MeetLaws.{if_meets, meets_more, part_cut, read_stops, write_stops}
+use Rattle.nbd_core.proofs.MeetLaws.{if_meets, limit_before, meets_more, part_cut, read_stops, step_before, write_stops}
 use Rattle.nbd_core.proofs.ReadLaws.{part_covers, part_touches}
 use Rattle.device_session.specs.Damage.{HasPut}
 use Rattle.nbd_core.proofs.FoundLaws.{same_of_call}
 use Rattle.nbd_core.proofs.KeptLaws.{pasted, put_part, put_whole, writes_found}
 use Rattle.session_calls.proofs.CallLaws.{calls_more, calls_of, calls_then, calls_stopped, platform_quiet}
+use Rattle.device_session.specs.Damage.{IsAtLimit}
+use Rattle.nbd_core.specs.Meets.{IsStepAt}
+use Rattle.nbd_core.proofs.KeptLaws.{left_behind, left_both}
 use Rattle.nbd_core.proofs.writing.write_part.Goals as goal
 
 pub returns-then-is_whole-clause-calls : goal.returns-then-is_whole-clause-calls
@@ -23,8 +26,8 @@ returns-then-is_whole-clause-writes g c told device array at =
 pub returns-then-is_whole-clause-adds : goal.returns-then-is_whole-clause-adds
 returns-then-is_whole-clause-adds g c = adds_one g.P.Platform g.T.Tape _ _ _ _ _ c.write_block.ensures.adds
 
-pub returns-then-is_whole-clause-needs : goal.returns-then-is_whole-clause-needs
-returns-then-is_whole-clause-needs g c = on_stop c.write_block.result _ _ (λ same. omega (arith, same)) c.write_block.ensures.goes.needs_still
+pub returns-then-is_whole-clause-left : goal.returns-then-is_whole-clause-left
+returns-then-is_whole-clause-left g c = left_both c.write_block.result c.args.session.now c.write_block.new.session c.write_block.ensures.goes.along.blocks c.write_block.ensures.goes.mapped_still c.write_block.ensures.goes.needs_still
 
 pub returns-in-Err-clause-calls : goal.returns-in-Err-clause-calls
 returns-in-Err-clause-calls g c =
@@ -41,8 +44,10 @@ returns-in-Err-clause-adds g c =
     let along = (c.in-Err.ensures.goes (drawn_by g.T.Tape c.args.tape.now)).along in
     adds_none _ _ c.in-Err.stop (omega (arith, along.rises, along.adds))
 
-pub returns-in-Err-clause-needs : goal.returns-in-Err-clause-needs
-returns-in-Err-clause-needs g c = omega (arith, (c.in-Err.ensures.goes (drawn_by g.T.Tape c.args.tape.now)).needs_still)
+pub returns-in-Err-clause-left : goal.returns-in-Err-clause-left
+returns-in-Err-clause-left g c =
+    let goes = c.in-Err.ensures.goes (drawn_by g.T.Tape c.args.tape.now) in
+    record { blocks = goes.along.blocks; mapped = goes.mapped_still; needs = omega (arith, goes.needs_still) }
 
 pub write_block-requires-2-clause-open : goal.write_block-requires-2-clause-open
 write_block-requires-2-clause-open g c = (c.in-Ok.ensures.goes (drawn_by g.T.Tape c.args.tape.now)).along.is_open
@@ -81,10 +86,11 @@ returns-clause-adds g c =
     let along = (c.in-Ok.ensures.goes (drawn_by g.T.Tape c.args.tape.now)).along in
     adds_behind _ _ _ _ (omega (arith, along.rises, along.adds)) (adds_one g.P.Platform g.T.Tape _ _ _ _ _ c.write_block-2.ensures.adds)
 
-pub returns-clause-needs : goal.returns-clause-needs
-returns-clause-needs g c =
-    let before = (c.in-Ok.ensures.goes (drawn_by g.T.Tape c.args.tape.now)).along.needs in
-    on_stop c.write_block-2.result _ _ (λ same. omega (arith, same, before)) c.write_block-2.ensures.goes.needs_still
+pub returns-clause-left : goal.returns-clause-left
+returns-clause-left g c =
+    let along = (c.in-Ok.ensures.goes (drawn_by g.T.Tape c.args.tape.now)).along in
+    let goes = c.write_block-2.ensures.goes in
+    left_behind c.write_block-2.result c.args.session.now c.read_block.new.session c.write_block-2.new.session along.blocks c.in-Ok.ensures.same.0 along.needs (left_both c.write_block-2.result c.read_block.new.session c.write_block-2.new.session goes.along.blocks goes.mapped_still goes.needs_still)
 
 pub returns-clause-damage : goal.returns-clause-damage
 returns-clause-damage g c told mounted =
@@ -98,9 +104,10 @@ returns-clause-damage g c told mounted =
     let whole : length c.read_block.new.out ≡ 4096 = omega arith in
     let size : length c.paste.new.block ≡ 4096 = omega arith in
     writes_found _ _ _ _ _ c.args.bytes.now c.write_block-2.result
-    (if_meets _ _ c.write_block-2.result (λ addr step. inl step)
+    (if_meets (IsStepAt (IsAtLimit c.args.session.now) (g.P.Platform.history c.write_block-2.new.platform).present) _ c.write_block-2.result (λ addr step. inl step)
+    (step_before _ _ _ c.write_block-2.result (limit_before c.args.session.now c.read_block.new.session along.blocks call.same.0 call.same.1)
     (write_stops _ (g.P.Platform.history c.read_block.new.platform).present (g.P.Platform.history c.write_block-2.new.platform).present
-    c.read_block.new.session c.args.part.block c.write_block-2.result c.write_block-2.ensures.any (told, there)))
+    c.read_block.new.session c.args.part.block c.write_block-2.result c.write_block-2.ensures.any (told, there))))
     (c.write_block-2.ensures.written told there)
     (λ put. put_part _ _ _ _ _ _ part.block part.start part.count c.args.bytes.now c.read_block.new.out c.paste.new.block c.requires.size whole part.inside c.requires.some along.blocks (call.any (told, mounted)) same
     (pasted part.block part.start part.count c.args.bytes.now c.read_block.new.out c.paste.new.block c.requires.size whole part.inside c.requires.some c.paste.ensures)

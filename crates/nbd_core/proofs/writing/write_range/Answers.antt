@@ -7,16 +7,16 @@ use Rattle.byte_arrays.proofs.RangeLaws.{part_block, part_last, part_next}
 use Rattle.nbd_lang.specs.declared.replies.Outcome.TheVariants.{Done}
 use Rattle.nbd_lang.specs.declared.requests.RequestKind.TheVariants.{Write}
 use Rattle.session_calls.specs.Along.{drawn_by}
-use Rattle.session_calls.proofs.AlongLaws.{along_start, along_then}
+use Rattle.session_calls.proofs.AlongLaws.{along_start, along_then, pages_still}
 use Rattle.nbd_core.proofs.ArrayLaws.{front_of, range_halted, range_step, wrote_range}
 use Rattle.nbd_core.proofs.BlameLaws.{blame_done, blame_take, blame_then, cause_wide, same_blocks, same_fell}
 use Rattle.session_calls.proofs.CallLaws.{along_more, platform_quiet, tape_quiet}
 use Rattle.nbd_core.proofs.ShortLaws.{done_no_space, stop_no_space}
 use Rattle.nbd_core.proofs.CameLaws.{came_nothing, length-gone}
-use Rattle.nbd_core.proofs.DamageLaws.{stop_given}
+use Rattle.nbd_core.proofs.DamageLaws.{HasReply, adds_reply, stop_given}
 use Rattle.nbd_core.proofs.DataLaws.{gone_then, gone_skip, data_whole, data_short, data_broken, data_then}
 use Rattle.nbd_core.specs.Found.{HasWritten}
-use Rattle.nbd_core.proofs.KeptLaws.{written_all, written_start, written_then}
+use Rattle.nbd_core.proofs.KeptLaws.{written_all, written_start, written_then, wrote_first}
 use Rattle.nbd_core.proofs.MeetLaws.{part_meets}
 use Rattle.nbd_core.specs.Meets.{MayMeet}
 use Rattle.nbd_core.specs.Reads.{reads_at}
@@ -39,6 +39,7 @@ loop-done-init g c = record {
   wrote = λ told device array at all long front. at;
   platform = refl;
   tape = refl;
+  open_yet = refl;
   input = refl;
 }
 
@@ -174,6 +175,7 @@ loop-done-preserved g c =
           (c.in-Ok.ensures.writes told device _ (so_far.wrote told device array there all long (front_of c.loop-done.done k so_far.gone _ all so_far.all front)));
       platform = platform_quiet _ _ c.in-Ok.ensures.calls.quiet ∙ so_far.platform;
       tape = tape_quiet _ _ c.in-Ok.ensures.calls.quiet ∙ so_far.tape;
+      open_yet = c.in-Ok-true.ensures.ended.open_yet refl ∙ so_far.open_yet;
       input = c.in-Ok-true.ensures.cause ∙ so_far.input;
     }
 
@@ -237,19 +239,31 @@ returns-in-Err-written-clause-bytes g c =
     (gone_then _ _ _ _ _ _ c.args.count k so_far.gone _ so_far.came (omega (arith, so_far.all, part.within, so_far.within)) c.in-Ok-true.ensures.came)
     c.skip.ensures.ahead c.skip.ensures.left)
     (omega (arith, size, part.within, so_far.within))
-    (λ after long nothing. (
+    (λ after long_all nothing. (
       (λ told device array at_first.
           let all : List ℕ = (so_far.gone ++ piece) ++ after in
           range_halted _ _ _ _ _ _ device array c.args.at c.args.count so_far.parts c.first-part.result.block c.first-part.result.start k [] all c.in-Err-written.stop _ c.give_up.ensures.outcome few so_far.head c.in-Err-written.ensures.adds
-          (omega (arith, so_far.along.needs, c.in-Err-written.ensures.needs)) long
+          (omega (arith, so_far.along.needs, c.in-Err-written.ensures.left.needs)) long_all
           (λ whole_is.
           c.in-Err-written.ensures.writes told device _
           (so_far.wrote told device array at_first all whole_is (take-append-le c.loop-done.done (so_far.gone ++ piece) after (omega (arith, size)) ∙ take-append-le c.loop-done.done so_far.gone piece (omega (arith, so_far.all)) ∙ take_all c.loop-done.done so_far.gone (omega (arith, so_far.all)))))),
       (λ told mounted.
           let here : IsPart c.args.at c.args.count c.loop-done.done c.first-part.result.block c.first-part.result.start k = subst (λ (n : ℕ). IsPart c.args.at n c.loop-done.done c.first-part.result.block c.first-part.result.start k) whole part in
           let long : length (take k c.ahead.result.now) ≡ k = ap (λ (l : List ℕ). length (take k l)) c.ahead.ensures ∙ omega (arith, length-take k c.need.new.self.ahead, there) in
-          stop_given (MayMeet Write (g.P.Platform.history c.write_part-written.new.platform).present c.args.at c.args.count) _ _ c.in-Err-written.stop c.give_up.result
-          (part_meets _ c.args.at c.args.count c.loop-done.done _ _ k _ c.in-Err-written.stop here long (c.in-Err-written.ensures.damage told (so_far.along.mounted told mounted))) c.give_up.ensures.outcome),
+          let P = g.P.Platform in
+          let all : List ℕ = (so_far.gone ++ piece) ++ after in
+          let counts = g.met.P.Platform.counts_pages told in
+          let calls = c.in-Err-written.ensures.calls in
+          let head = λ (has : HasReply c.in-Err-written.stop). adds_reply _ _ c.in-Err-written.stop has c.in-Err-written.ensures.adds in
+          let front : take c.loop-done.done all ≡ so_far.gone =
+          take-append-le c.loop-done.done (so_far.gone ++ piece) after (omega (arith, size)) ∙ take-append-le c.loop-done.done so_far.gone piece (omega (arith, so_far.all)) ∙ take_all c.loop-done.done so_far.gone (omega (arith, so_far.all)) in
+          let some = λ (has : HasReply c.in-Err-written.stop).
+          wrote_first (P.history c.args.platform.now).present (P.history c.loop-done.platform).present (P.history c.write_part-written.new.platform).present c.args.session.now c.loop-done.session c.write_part-written.new.session c.args.at c.loop-done.done so_far.parts so_far.gone all
+          front so_far.all (omega (arith, part.some, size, length-append (so_far.gone ++ piece) after)) at (pages_still (P.history c.loop-done.platform) (P.history c.write_part-written.new.platform) _ _ (calls.along.cell told).extends (counts c.loop-done.platform) (counts c.write_part-written.new.platform) (head has))
+          (omega (arith, counts c.args.platform.now, counts c.write_part-written.new.platform, head has, so_far.head)) (so_far.found told mounted) c.in-Err-written.ensures.left in
+          stop_given (MayMeet Write c.loop-done.session (P.history c.write_part-written.new.platform).present c.args.at c.args.count) _ _ _ _ c.in-Err-written.stop c.give_up.result
+          (λ has. (c.loop-done.session, some has, tt)) (λ has addr met. (c.loop-done.session, some has, (addr, met)))
+          (part_meets _ c.loop-done.session c.args.at c.args.count c.loop-done.done _ _ k _ c.in-Err-written.stop here long (c.in-Err-written.ensures.damage told (so_far.along.mounted told mounted))) c.give_up.ensures.outcome),
     ))
     c.give_up.ensures.bytes
 

@@ -31,6 +31,7 @@ invariant-loop-done g l = record {
       → IsAt (g.P.Platform.history l.platform).present (Some l.session) (mounted device (write_all array (with_bytes (array_of array) l.at all) (blocks_from (l.at / 4096) parts)));
   platform : g.P.Platform.faults l.platform ≡ g.P.Platform.faults l.fn.platform;
   tape : g.T.Tape.faults l.tape ≡ g.T.Tape.faults l.fn.tape;
+  open_yet : g.I.Source.ends l.input ≡ g.I.Source.ends l.fn.input;
   input : g.I.Source.faults l.input ≡ g.I.Source.faults l.fn.input;
 }
 

@@ -50,5 +50,6 @@ loop-left-preserved g c =
           (sym c.skip.ensures.left)
           (subst (Came (g.I.Source.left c.args.input.now) (g.I.Source.left c.need.new.input) c.args.self.now c.need.new.self.left (IsShorter c.args.count)) same came);
       all = omega (arith, so_far.all, length-gone so_far.gone ahead here within, c.min-here.ensures);
+      open_yet = c.in-Ok-true.ensures.ended.open_yet refl ∙ so_far.open_yet;
       quiet = omega (arith, so_far.quiet, c.in-Ok-true.ensures.cause);
     }
