@@ -1,5 +1,5 @@
 //! What is said before requests: the greeting, the client's flags, and options.
-ghost use Rattle.std.specs.Prelude.{◌≡◌, ◌⊎◌, ◌<◌, ◌≤◌, ◌^◌, [], IfOk, IfErr, OnOk, OnErr};
+ghost use Rattle.std.specs.Prelude.{◌≡◌, ◌⊎◌, ◌<◌, ◌≤◌, ◌^◌, [], IfOk, IfErr, OnOk, OnErr, IsSome};
 ghost use Rattle.sdbt_base.specs.Told.{Got, GotPart};
 ghost use Rattle.nbd_lang.specs.Options.{OptionSent, option_bytes};
 ghost use Rattle.nbd_lang.specs.Answers.{option_reply, export_answer};

@@ -2,7 +2,7 @@
 //! other side of an input and an output.
 #![tactic(auto)]
 
-ghost use Rattle.std.specs.Prelude.{◌≡◌, [], map, string_bytes};
+ghost use Rattle.std.specs.Prelude.{◌≡◌, [], map, string_bytes, ◌≤◌, ◌+◌};
 ghost use Rattle.device_course.specs.Reaching.{DisclosesTree};
 ghost use Rattle.device_course.specs.States.{around};
 ghost use Rattle.device_course.specs.Programs.{KeepsLedger, Stays};

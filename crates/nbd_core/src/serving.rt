@@ -1,5 +1,5 @@
 //! Requests, one after another.
-ghost use Rattle.std.specs.Prelude.{◌≡◌, ◌≢◌, ◌+◌, ◌-◌, ◌*◌, ◌≤◌, ◌<◌, ℕ, List, Option, None, Some, Err, IsOk, IfOk, IfErr, OnOk, OnErr, IfSome, IsTrue, ◌↔◌, [], length, take, drop, vec_capacity};
+ghost use Rattle.std.specs.Prelude.{◌≡◌, ◌≢◌, ◌+◌, ◌-◌, ◌*◌, ◌≤◌, ◌<◌, ℕ, List, Option, None, Some, Err, IsOk, IfOk, IfErr, OnOk, OnErr, IfSome, IsTrue, ◌↔◌, [], length, take, drop, vec_capacity, IsSome};
 ghost use Rattle.nbd_core.specs.Ample.{blocks_of_range, unless_refused};
 ghost use Rattle.nbd_core.specs.Changes.{changes_for, tally};
 ghost use Rattle.nbd_core.specs.Damages.{AnswersTrue, PerformsTrue, SaysTrue};
@@ -8,7 +8,7 @@ ghost use Rattle.nbd_core.specs.Near.{left_by, needed_at, needed_for};
 ghost use Rattle.nbd_core.specs.Reads.{reads_at, reads_for};
 ghost use Rattle.nbd_core.specs.Rooms.{KeepsRoom, room_at, room_for};
 ghost use Rattle.nbd_core.specs.Short.{FlushSpends, Spends};
-ghost use Rattle.nbd_core.specs.Stops.{TellsPut};
+ghost use Rattle.nbd_core.specs.Stops.{EndsOnce, TellsPut};
 ghost use Rattle.sdbt_base.specs.Told.{Got, GotPart};
 ghost use Rattle.sdbt_base.specs.Rises.{MayRiseBy};
 ghost use Rattle.device_course.specs.States.{around};

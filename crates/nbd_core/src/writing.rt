@@ -5,6 +5,7 @@ ghost use Rattle.device_session.specs.Open.{IsOpen, blocks_of, needed_by};
 ghost use Rattle.device_course.specs.States.{IsAt};
 ghost use Rattle.sdbt_base.specs.Arrays.{Device, Session as OpenSession, mounted};
 ghost use Rattle.nbd_terms.specs.Turn.{Writes};
+ghost use Rattle.nbd_core.specs.Stops.{EndsOnce};
 ghost use Rattle.nbd_core.specs.Arrays.{AddsOne, WritesPart, WroteRange};
 ghost use Rattle.session_calls.specs.Along.{Along, drawn_by};
 ghost use Rattle.sdbt_base.specs.Counts.{Counts, NoneFell};

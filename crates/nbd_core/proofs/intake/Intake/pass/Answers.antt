@@ -1,4 +1,4 @@
-use Rattle.std.proofs.Common.{◌≡◌, ◌++◌, ◌≤◌, ◌∙◌, ap, sym, arith, take, subst, length, length-append, ℕ, List}
+use Rattle.std.proofs.Common.{◌≡◌, ◌++◌, ◌≤◌, ◌∙◌, ap, refl, sym, arith, take, subst, length, length-append, ℕ, List}
 use Rattle.nbd_core.specs.Room.{Came, IsShorter}
 use Rattle.nbd_core.proofs.CameLaws.{pass_more, gone_more, length-gone}
 use Rattle.nbd_core.proofs.intake.Intake.pass.Goals as goal
