@@ -76,7 +76,7 @@ free_on block old new result left left_now written written_now (inr (ending, is,
     let on = (answers.led entry start).on in (
       free,
       stays_free_ahead old.capacity block entry answers.lines answers.replies on.led.states on.ahead (blocks_below old.history.present entry.device start.stands) other free on.led.leads
-          (ahead_of (record { session = answers.session; table = answers.table; outside = new }) old.capacity (last_of entry on.led.states) answers.lines answers.replies answers.part on.ahead ending on.ends),
+          (ahead_of new answers.session answers.table old.capacity (last_of entry on.led.states) answers.lines answers.replies answers.part on.ahead ending on.ends),
     )
 
 -- behind lines

@@ -1,5 +1,5 @@
 //! Serves lines.
-ghost use Rattle.std.specs.Prelude.{◌≡◌, ◌≤◌, ◌∷◌, [], ◌++◌, ℕ, List, Option, None, Some, IfErr, IfNone, IfOk, IfSome, IsOk, OnOk, option_copied};
+ghost use Rattle.std.specs.Prelude.{◌≡◌, ◌≤◌, ◌∷◌, [], ◌++◌, ℕ, List, Option, None, Some, IfErr, IfNone, IfOk, IfSome, IsOk, OnOk, option_copied, ◌+◌};
 ghost use Rattle.sdbt_base.specs.Counts.{counts};
 ghost use Rattle.text_lines.specs.Lines.{whole_lines_of, rest_of, last_line as line_at_end};
 ghost use Rattle.device_course.specs.States.{around};
@@ -44,6 +44,8 @@ pub fn serve_input<P: Platform, T: Tape, I: Source, O: Sink, L: Sink>(
     requires table { IsTable (blocks_of first) desk.old.table }
     ensures carries { Carries P.tells (around P.Platform T.Tape L.Sink platform.old tape.old ledger.old)
         (around P.Platform T.Tape L.Sink platform.new tape.new ledger.new) first None (IsOk result) }
+    // An input that is at its end is asked no more.
+    ensures ended { I.ends input.new ≤ I.ends input.old + 1 }
     ensures blame { IsBlamedOn (counts (P.faults platform.old) (T.faults tape.old) (I.faults input.old) (O.faults output.old) (L.faults ledger.old))
         (counts (P.faults platform.new) (T.faults tape.new) (I.faults input.new) (O.faults output.new) (L.faults ledger.new)) result }
     // On any pages: what it stops at.

@@ -1,10 +1,13 @@
 -- What is left of volumes that were destroyed.
-use Rattle.std.proofs.Common.{◌≡◌, ◌≤◌, ◌<◌, ◌^◌, ◌++◌, ℕ, List, [], ◌∷◌, Some, Ok, Err, inl, inr, subst, arith}
+use Rattle.std.proofs.Common.{◌≡◌, ◌≤◌, ◌<◌, ◌^◌, ◌++◌, ℕ, List, [], ◌∷◌, Option, Some, Ok, Err, inl, inr, subst, arith}
 use Rattle.platform.specs.Image.{Image}
 use Rattle.platform.specs.History.{History, image_at, moment}
 use Rattle.page_store.specs.Stands.{Stands}
 use Rattle.sdbt_base.specs.Arrays.{Device}
 use Rattle.device_course.specs.Held.{Held}
+use Rattle.device_course.specs.States.{Outside}
+use Rattle.device_session.specs.Sessions.{Session}
+use Rattle.volume_table.specs.declared.volume.Volume.{Volume}
 use Rattle.device_course.specs.Leading.{Leads, last_of}
 use Rattle.line_run.specs.Stops.{Ending}
 use Rattle.line_run.specs.declared.stop.Stop.TheVariants as stops
@@ -18,7 +21,6 @@ use Rattle.volume_terms.proofs.TableLaws.{not_first}
 use Rattle.volume_desk.specs.Turns.{IsOfAll, Shows}
 use Rattle.volume_serving.specs.Handled.{AreShown, EndsOn}
 use Rattle.volume_serving.specs.Tabled.{IfNext}
-use Rattle.volume_serving.specs.World.{World}
 use Rattle.volumes.specs.Destroyed.{AreDestroyed, IsDestroyed}
 use Rattle.volumes.proofs.ReachLaws.{never_later}
 
@@ -30,20 +32,20 @@ next_line [] (line ∷ lines) Claim next = (line, next)
 next_line (reply ∷ replies) [] Claim next = absurd next
 next_line (reply ∷ replies) (line ∷ lines) Claim next = next_line replies lines Claim next
 
-pub ahead_of : (new : World) (capacity : ℕ) (last : Held) (lines : List (List ℕ)) (replies : List Reply) (part : List ℕ) (ahead : List Held) (ending : Ending) → EndsOn new capacity last lines replies part ahead ending → IsAhead capacity last ahead
-ahead_of new capacity last lines replies part ahead (Ok done) ends = inl ends.0
-ahead_of new capacity last lines replies part ahead (Err stops.Source) ends = inl ends.0
-ahead_of new capacity last lines replies part ahead (Err stops.Limit) ends = inl ends.0
-ahead_of new capacity last lines replies part ahead (Err stops.Sink) (reply, next, is, first, turn) =
+pub ahead_of : (new : Outside) (after : Option Session) (table : List Volume) (capacity : ℕ) (last : Held) (lines : List (List ℕ)) (replies : List Reply) (part : List ℕ) (ahead : List Held) (ending : Ending) → EndsOn new after table capacity last lines replies part ahead ending → IsAhead capacity last ahead
+ahead_of new after table capacity last lines replies part ahead (Ok done) ends = inl ends.0
+ahead_of new after table capacity last lines replies part ahead (Err stops.Source) ends = inl ends.0
+ahead_of new after table capacity last lines replies part ahead (Err stops.Limit) ends = inl ends.0
+ahead_of new after table capacity last lines replies part ahead (Err stops.Sink) (reply, next, is, first, turn) =
     let line = next_line replies lines (λ l. Turn capacity last l reply next) turn in inr (line.0, reply, next, is, line.1)
-ahead_of new capacity last lines replies part ahead (Err (stops.Device device.Platform)) (inl none) = inl none
-ahead_of new capacity last lines replies part ahead (Err (stops.Device device.Platform)) (inr (reply, next, is, turn)) =
+ahead_of new after table capacity last lines replies part ahead (Err (stops.Device device.Platform)) (inl none) = inl none
+ahead_of new after table capacity last lines replies part ahead (Err (stops.Device device.Platform)) (inr (reply, next, is, turn)) =
     let line = next_line replies lines (λ l. Turn capacity last l reply next) turn in inr (line.0, reply, next, is, line.1)
-ahead_of new capacity last lines replies part ahead (Err (stops.Device device.Tape)) ends = inl ends
-ahead_of new capacity last lines replies part ahead (Err (stops.Device device.Ledger)) ends = inl ends
-ahead_of new capacity last lines replies part ahead (Err (stops.Device device.Memory)) ends = inl ends
-ahead_of new capacity last lines replies part ahead (Err (stops.Device device.BadRoot)) ends = absurd ends
-ahead_of new capacity last lines replies part ahead (Err (stops.Device (device.BadRecord addr))) ends = absurd ends
+ahead_of new after table capacity last lines replies part ahead (Err (stops.Device device.Tape)) ends = inl ends
+ahead_of new after table capacity last lines replies part ahead (Err (stops.Device device.Ledger)) ends = inl ends
+ahead_of new after table capacity last lines replies part ahead (Err (stops.Device device.Memory)) ends = inl ends
+ahead_of new after table capacity last lines replies part ahead (Err (stops.Device device.BadRoot)) ends = absurd ends
+ahead_of new after table capacity last lines replies part ahead (Err (stops.Device (device.BadRecord addr))) ends = absurd ends
 
 -- ---- volumes that were destroyed
 

@@ -44,9 +44,11 @@ use Rattle.volume_serving.specs.Ran.{Ran as RanLines}
 use Rattle.volume_desk.specs.Drawing.{Tally, tally}
 use Rattle.volume_serving.specs.Drawing.{DrewUntil, tally_of}
 use Rattle.volume_serving.specs.Tabled.{IfStopped, OnTables, Pause, paused}
+use Rattle.volume_serving.specs.Syncing.{ChangesFew}
+use Rattle.volume_serving.proofs.SyncingLaws.{few_behind}
 use Rattle.volume_serving.proofs.TabledLaws.{tables_since}
 use Rattle.volume_serving.proofs.HandledLaws.{shown_from}
-use Rattle.volumes.specs.Running.{Answers, Begins, IsEarly, IsIdle, IsSilent, OnVolumes, Serves, ServesBehind}
+use Rattle.volumes.specs.Running.{Answers, Begins, ChangesIn, IsEarly, IsIdle, IsSilent, OnVolumes, ServesBehind, ServesFew, halting}
 use Rattle.volumes.specs.Starting.{EndsEarly, FindsFirst, FindsTable, IsFrom, IsOfTable, IsRefusal, IsSpelled, IsStart, SpellsNone, reads_before}
 use Rattle.volumes.specs.declared.halts.Halt.{Halt}
 use Rattle.volumes.specs.declared.halts.Halt.TheVariants as halts
@@ -77,7 +79,7 @@ silent_since tells Earlier From first second third halt left left_now written wr
 pub record Onwards (old new : Outside) (session : Option Session) (table_now : List Volume) (entry : Held) (lines : List (List ℕ)) (replies : List Reply) (part : List ℕ) (ending : Ending) (states ahead : List Held) : Type 0 where
   pub leads : Leads (Turn old.capacity) entry lines replies states
   pub made : MadeBetween old.history new.history entry.device (marks_of device_of (states ++ ahead)) (device_of (last_of entry (states ++ ahead)))
-  pub ends : EndsOn (record { session = session; table = table_now; outside = new }) old.capacity (last_of entry states) lines replies part ahead ending
+  pub ends : EndsOn new session table_now old.capacity (last_of entry states) lines replies part ahead ending
   pub pages : IfStopped (λ stop it. HasPages old.capacity (last_of entry states) it) lines replies ending
   pub shown : AreShown new.history (moment old.history) replies states
 
@@ -86,7 +88,7 @@ onwards_since : (first second third : Outside) (session : Option Session) (table
 onwards_since first second third session table_now entry lines replies part ending states ahead same kept on = record {
   leads = subst (λ (n : ℕ). Leads (Turn n) entry lines replies states) same on.leads;
   made = made_since first.history second.history third.history entry.device (device_of (last_of entry (states ++ ahead))) (marks_of device_of (states ++ ahead)) kept on.made;
-  ends = subst (λ (n : ℕ). EndsOn (record { session = session; table = table_now; outside = third }) n (last_of entry states) lines replies part ahead ending) same on.ends;
+  ends = subst (λ (n : ℕ). EndsOn third session table_now n (last_of entry states) lines replies part ahead ending) same on.ends;
   pages = subst (λ (n : ℕ). IfStopped (λ stop it. HasPages n (last_of entry states) it) lines replies ending) same on.pages;
   shown = shown_from third.history (moment first.history) (moment second.history) replies states kept.passes.extends.later on.shown;
 }
@@ -102,7 +104,7 @@ volumes_of old new session table table_now entry lines replies part ending state
       let own = own_replies old.capacity name entry lines replies states start.0 mine.0 below on.leads start.1 mine.1 in
       record { volume = start.0; there = start.1; turns = mine.0; are = mine.1; next = own.next; own = own.own; ends = own.there };
   destroyed = are_destroyed old.capacity old.history new.history (moment old.history) entry lines replies states ahead below (omega arith) on.leads
-      (ahead_of (record { session = session; table = table_now; outside = new }) old.capacity (last_of entry states) lines replies part ahead ending on.ends) on.shown;
+      (ahead_of new session table_now old.capacity (last_of entry states) lines replies part ahead ending on.ends) on.shown;
 }
 
 volumes_since : (first second third : Outside) (session : Option Session) (table table_now : List Volume) (entry : Held) (lines : List (List ℕ)) (replies : List Reply) (part : List ℕ) (ending : Ending) → second.capacity ≡ first.capacity
@@ -116,12 +118,12 @@ volumes_since first second third session table table_now entry lines replies par
       on = record { ahead = there.on.ahead; led = record { states = states; leads = on.leads; made = on.made }; ends = on.ends; pages = on.pages; shown = on.shown };
       own = there.own;
       destroyed = are_destroyed first.capacity first.history third.history (moment first.history) entry lines replies states there.on.ahead (blocks_below second.history.present entry.device kept.exits.there.device) (omega arith) on.leads
-          (ahead_of (record { session = session; table = table_now; outside = third }) first.capacity (last_of entry states) lines replies part there.on.ahead ending on.ends) on.shown;
+          (ahead_of third session table_now first.capacity (last_of entry states) lines replies part there.on.ahead ending on.ends) on.shown;
     }
 
 begins_since : (tells : Type 0) (blocks : ℕ) (first second third : Outside) (start : Pause) → (tells → Extends first.history second.history) → (tells → second.reads ≤ first.reads + 1) → Begins tells 0 blocks second third start → Begins tells 1 blocks first third start
 begins_since tells blocks first second third start extends once b =
-    record { later = λ told. omega (arith, (extends told).later, b.later told); within = b.within; mounted = b.mounted; reads = λ told. omega (arith, once told, b.reads told); fresh = b.fresh; many = b.many }
+    record { later = λ told. omega (arith, (extends told).later, b.later told); within = b.within; mounted = b.mounted; reads = λ told. omega (arith, once told, b.reads told); fresh = b.fresh; many = b.many; room = b.room }
 
 answers_since : (tells : Type 0) (Earlier From : Held → Type 0) (first second third : Outside) (ending : Ending) (left left_now written written_now : Option (List ℕ)) → second.capacity ≡ first.capacity → tally_of second ≡ tally_of first → (tells → CellStays first.history second.history)
     → (tells → second.history.present ≡ first.history.present) → (tells → second.reads ≤ first.reads + 1) → Since Earlier From first second
@@ -151,13 +153,28 @@ answers_since tells Earlier From first second third ending left left_now written
       volumes_since first second third answers.session answers.start.table answers.table entry answers.lines answers.replies answers.part ending same s.1 (answers.led entry s.0);
 }
 
-pub serves_since : (tells : Type 0) (Earlier From : Held → Type 0) (first second third : Outside) (result : Result (Unit {0}) Halt) (left left_now written written_now : Option (List ℕ)) → second.capacity ≡ first.capacity → tally_of second ≡ tally_of first → (tells → CellStays first.history second.history)
-    → (tells → second.history.present ≡ first.history.present) → (tells → second.reads ≤ first.reads + 1) → Since Earlier From first second
-    → ServesBehind tells 0 From second third result left left_now written written_now → Serves tells Earlier first third result left left_now written written_now
-serves_since tells Earlier From first second third result left left_now written written_now same counted stays image once since (inl (halt, is, silent)) =
-    inl (halt, is, silent_since tells Earlier From first second third halt left left_now written written_now image once since silent)
-serves_since tells Earlier From first second third result left left_now written written_now same counted stays image once since (inr (ending, is, answers)) =
-    inr (ending, is, answers_since tells Earlier From first second third ending left left_now written written_now same counted stays image once since answers)
+-- which synced no oftener
+lines_since : (tells : Type 0) (Earlier From : Held → Type 0) (first second third : Outside) (ending : Ending) (left left_now written written_now : Option (List ℕ)) (same : second.capacity ≡ first.capacity) (counted : tally_of second ≡ tally_of first) (stays : tells → CellStays first.history second.history)
+    (image : tells → second.history.present ≡ first.history.present) (once : tells → second.reads ≤ first.reads + 1) (since : Since Earlier From first second) (answers : Answers tells 0 From second third ending left left_now written written_now) (before now : ℕ) → ChangesFew before now answers.lines answers.replies
+    → ChangesFew before now (answers_since tells Earlier From first second third ending left left_now written written_now same counted stays image once since answers).lines (answers_since tells Earlier From first second third ending left left_now written written_now same counted stays image once since answers).replies
+unfolding answers_since
+lines_since tells Earlier From first second third ending left left_now written written_now same counted stays image once since answers before now few = few
+
+pub serves_since : (tells : Type 0) (Earlier From : Held → Type 0) (first second third : Outside) (result : Result (Unit {0}) Halt) (left left_now written written_now : Option (List ℕ)) (before mid now : ℕ) → second.capacity ≡ first.capacity → tally_of second ≡ tally_of first → (tells → CellStays first.history second.history)
+    → (tells → second.history.present ≡ first.history.present) → (tells → second.reads ≤ first.reads + 1) → (tells → mid ≡ before) → Since Earlier From first second
+    → ServesFew tells 0 From second third result left left_now written written_now mid now → ServesFew tells 1 Earlier first third result left left_now written written_now before now
+serves_since tells Earlier From first second third result left left_now written written_now before mid now same counted stays image once still since served =
+    by served.serves served.changes
+  where
+    by : (s : ServesBehind tells 0 From second third result left left_now written written_now) → (tells → ChangesIn tells 0 From second third result left left_now written written_now s mid now) → ServesFew tells 1 Earlier first third result left left_now written written_now before now
+    by (inl (halt, is, silent)) changes = record {
+      serves = inl (halt, is, silent_since tells Earlier From first second third halt left left_now written written_now image once since silent);
+      changes = λ told. changes told ∙ still told;
+    }
+    by (inr (ending, is, answers)) changes = record {
+      serves = inr (ending, is, answers_since tells Earlier From first second third ending left left_now written written_now same counted stays image once since answers);
+      changes = λ told. lines_since tells Earlier From first second third ending left left_now written written_now same counted stays image once since answers before now (few_behind before mid now answers.lines answers.replies (still told) (changes told));
+    }
 
 -- ---- a mount
 
@@ -335,55 +352,66 @@ pub first_none : (Known : Type 0) (image after : Image) (session : Session) (byt
 first_none Known image after session bytes blocks any same none known = (bytes, any known, λ table is. none table (subst (λ (n : ℕ). IsTable n table) (sym same) is))
 
 -- lines that were served behind it
-pub answers_behind : (tells : Type 0) (old mid new : Outside) (first now : Session) (after : Option Session) (table table_now : List Volume) (ending : Ending) (left left_now written written_now : Option (List ℕ)) → mid.head ≡ old.head → mid.drawn ≡ old.drawn → mid.capacity ≡ old.capacity
+pub answers_behind : (tells : Type 0) (old mid new : Outside) (before changes : ℕ) (first now : Session) (after : Option Session) (table table_now : List Volume) (ending : Ending) (left left_now written written_now : Option (List ℕ)) → mid.head ≡ old.head → mid.drawn ≡ old.drawn → mid.capacity ≡ old.capacity
     → needed_by now ≤ needed_by first → needed_by first ≡ 0 → (tells → IsMounted mid.history.present now) → (tells → CellStays old.history mid.history) → (tells → mid.reads ≤ old.reads + 21) → IsTable (blocks_of first) table
     → (tells → (there : Device) (array : OpenSession) → IsAt old.history.present (Some first) (mounted there array) → FindsTable mid.history.present now there array (Ok table)) → (tells → IsSpelled old.history.present (blocks_of first) table)
-    → blocks_of now ≡ blocks_of first → RanLines tells (blocks_of now) (record { session = Some now; table = table; outside = mid }) (record { session = after; table = table_now; outside = new }) ending left left_now written written_now
-    → Answers tells 0 (IsFrom tells old first) old new ending left left_now written written_now
-answers_behind tells old mid new first now after table table_now ending left left_now written written_now head drawn capacity needs fresh mounted stays few whole finds spelled many ran =
+    → blocks_of now ≡ blocks_of first → room_of now ≡ 256 → RanLines tells (blocks_of now) (record { session = Some now; table = table; outside = mid; changes = before }) (record { session = after; table = table_now; outside = new; changes = changes }) ending left left_now written written_now
+    → (answers : Answers tells 0 (IsFrom tells old first) old new ending left left_now written written_now) × (tells → ChangesFew before changes answers.lines answers.replies)
+answers_behind tells old mid new before changes first now after table table_now ending left left_now written written_now head drawn capacity needs fresh mounted stays few whole finds spelled many room ran =
     let replied = ran.handled.replied in
     let start : Pause = paused mid now table in
     let on_tables = replied.tables now refl in
-    let same_tally : tally_of mid ≡ tally_of old = λ k. tally (drawn k) (head k) in
-    record {
-      taken = ran.taken;
-      lines = ran.lines;
-      gave = ran.gave;
-      took = ran.took;
-      come = ran.come;
-      replies = replied.replies;
-      part = replied.part;
-      got = subst (λ (bytes : List ℕ). Got written bytes written_now) replied.put_is ran.handled.got;
-      behind = replied.behind;
-      many = replied.many;
-      prompt = ran.prompt;
-      session = after;
-      blocks = blocks_of first;
-      start = start;
-      table = table_now;
-      spelled = (whole, spelled);
-      begins = record {
-        later = λ told. (stays told).extends.later;
-        within = λ told. (on_tables.extends told).later;
-        mounted = λ told. subst (λ (i : Image). IsMounted i now) (sym ((on_tables.extends told).same (moment mid.history) (omega arith) ∙ image_at-now mid.history (moment mid.history) (omega arith))) (mounted told);
-        reads = λ told. omega (arith, few told);
-        fresh = omega (arith, needs, fresh);
-        many = many;
-      };
-      tables = tables_since tells (blocks_of first) start after table_now old mid new ran.lines replied.replies ending (λ told. (stays told).extends)
-          (subst (λ (n : ℕ). OnTables tells n start after table_now mid new ran.lines replied.replies ending) many on_tables);
-      drew = subst (λ (t : Tally). DrewUntil t ran.lines replied.replies (tally_of new)) same_tally replied.drew;
-      led = λ entry from.
-          let found = finds from.told entry.device entry.session from.at in
-          let stands = from.at.there.session.0.stands in
-          let tabled : IsTabled entry table = record { is = subst (λ (n : ℕ). IsTable n table) stands.blocks whole; spelled = found.1 } in
-          let held : IsHeld mid.history.present mid.head now table entry = record { at = found.0; pages = from.pages ∙ sym head; needs = omega (arith, from.needs, needs); tabled = tabled } in
-          let on = replied.led from.told entry (record { session = now; going = refl; held = held }) in
-          let kept : MadeBetween old.history mid.history entry.device [] entry.device = made_kept old.history mid.history entry.device from.at.there.device from.at.served (stays from.told) in
-          let below : entry.device.blocks < 2 ^ 64 = omega (arith, sym stands.blocks, stands.in_range.blocks_most) in
-          volumes_of old new after table table_now entry ran.lines replied.replies replied.part ending on.led.states on.ahead below tabled
-          (onwards_since old mid new after table_now entry ran.lines replied.replies replied.part ending on.led.states on.ahead capacity kept (record { leads = on.led.leads; made = on.led.made; ends = on.ends; pages = on.pages; shown = on.shown }));
-    }
+    let same_tally : tally_of mid ≡ tally_of old = λ k. tally (drawn k) (head k) in (
+      record {
+        taken = ran.taken;
+        lines = ran.lines;
+        gave = ran.gave;
+        took = ran.took;
+        come = ran.come;
+        replies = replied.replies;
+        part = replied.part;
+        got = subst (λ (bytes : List ℕ). Got written bytes written_now) replied.put_is ran.handled.got;
+        behind = replied.behind;
+        many = replied.many;
+        prompt = ran.prompt;
+        session = after;
+        blocks = blocks_of first;
+        start = start;
+        table = table_now;
+        spelled = (whole, spelled);
+        begins = record {
+          later = λ told. (stays told).extends.later;
+          within = λ told. (on_tables.extends told).later;
+          mounted = λ told. subst (λ (i : Image). IsMounted i now) (sym ((on_tables.extends told).same (moment mid.history) (omega arith) ∙ image_at-now mid.history (moment mid.history) (omega arith))) (mounted told);
+          reads = λ told. omega (arith, few told);
+          fresh = omega (arith, needs, fresh);
+          many = many;
+          room = room;
+        };
+        tables = tables_since tells (blocks_of first) start after table_now old mid new ran.lines replied.replies ending (λ told. (stays told).extends)
+            (subst (λ (n : ℕ). OnTables tells n start after table_now mid new ran.lines replied.replies ending) many on_tables);
+        drew = subst (λ (t : Tally). DrewUntil t ran.lines replied.replies (tally_of new)) same_tally replied.drew;
+        led = λ entry from.
+            let found = finds from.told entry.device entry.session from.at in
+            let stands = from.at.there.session.0.stands in
+            let tabled : IsTabled entry table = record { is = subst (λ (n : ℕ). IsTable n table) stands.blocks whole; spelled = found.1 } in
+            let held : IsHeld mid.history.present mid.head now table entry = record { at = found.0; pages = from.pages ∙ sym head; needs = omega (arith, from.needs, needs); tabled = tabled } in
+            let on = replied.led from.told entry (record { session = now; going = refl; held = held }) in
+            let kept : MadeBetween old.history mid.history entry.device [] entry.device = made_kept old.history mid.history entry.device from.at.there.device from.at.served (stays from.told) in
+            let below : entry.device.blocks < 2 ^ 64 = omega (arith, sym stands.blocks, stands.in_range.blocks_most) in
+            volumes_of old new after table table_now entry ran.lines replied.replies replied.part ending on.led.states on.ahead below tabled
+            (onwards_since old mid new after table_now entry ran.lines replied.replies replied.part ending on.led.states on.ahead capacity kept (record { leads = on.led.leads; made = on.led.made; ends = on.ends; pages = on.pages; shown = on.shown }));
+      },
+      replied.changes,
+    )
+
+-- which synced no oftener, behind calls that sync nothing
+pub lines_served : (tells : Type 0) (From : Held → Type 0) (old new : Outside) (before mid now : ℕ) (ending : Ending) (result : Result (Unit {0}) Halt) (left left_now written written_now : Option (List ℕ)) → result ≡ halting ending → (tells → mid ≡ before)
+    → (answers : Answers tells 0 From old new ending left left_now written written_now) × (tells → ChangesFew mid now answers.lines answers.replies) → ServesFew tells 0 From old new result left left_now written written_now before now
+lines_served tells From old new before mid now ending result left left_now written written_now is still answered = record {
+  serves = inr (ending, is, answered.0);
+  changes = λ told. few_behind before mid now answered.0.lines answered.0.replies (still told) (answered.1 told);
+}
 
 -- ---- block 0
 

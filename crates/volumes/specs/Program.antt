@@ -13,7 +13,7 @@ use Rattle.volume_lines.specs.Replies.{Reply, line_of}
 use Rattle.volume_terms.specs.Counting.{IsNotShort, needed_for_line}
 use Rattle.volume_terms.specs.Volumes.{IsTabled}
 use Rattle.volumes.specs.Halts.{exit_of, last_line_of}
-use Rattle.volumes.specs.Running.{IsIdle, Ran}
+use Rattle.volumes.specs.Running.{ChangesRan, IsIdle, Ran}
 use Rattle.volumes.specs.Starting.{HasNoTable, IsStart, SpellsNone}
 use Rattle.volumes.specs.declared.halts.Halt.{Halt}
 use Rattle.volumes.specs.declared.halts.Halt.TheVariants as halts
@@ -83,3 +83,7 @@ pub record Serving {S R I O L : Type 0} (tells : Type 0) (status : ℕ) (old new
   pub ran : Ran tells old.outside new.outside (IsAsBefore tells old new) old.left new.left old.written new.written ending
   pub complete : (entry : Held) → IsStart tells old.outside entry → (table : List Volume) → IsTabled entry table → (text : List ℕ) → IsAmple old.left text entry.device.blocks old.outside.head old.outside.capacity
       → NoneRose old.counts new.counts → (status ≡ 11) ⊎ ((status ≡ 0) × IsComplete text old.written new.written)
+
+-- how often it synced all pages, or replaced the root record
+abbrev pub SyncsFew : {S R I O L : Type 0} (tells : Type 0) (status : ℕ) (old new : Handed S R I O L) → Serving tells status old new → ℕ → ℕ → Type 0
+SyncsFew tells status old new serving before now = ChangesRan tells old.outside new.outside (IsAsBefore tells old new) old.left new.left old.written new.written serving.ending serving.ran before now

@@ -1,4 +1,5 @@
 -- A run, from the mount on.
+use Rattle.std.proofs.Common.{inl, inr}
 use Rattle.std.specs.Prelude.{◌≡◌, ◌≤◌, ◌+◌, ◌⊎◌, ℕ, List, [], ◌++◌, Option, None, Result, Ok, Err, IfErr, flat_map, length}
 use Rattle.sdbt_base.specs.Told.{Gave, Got}
 use Rattle.platform.specs.Image.{Image}
@@ -6,6 +7,7 @@ use Rattle.platform.specs.History.{CellStays, History, image_at, moment}
 use Rattle.device_terms.specs.Served.{IsServedImage}
 use Rattle.device_course.specs.States.{Outside}
 use Rattle.device_session.specs.Open.{blocks_of, needed_by}
+use Rattle.device_session.specs.Reading.{room_of}
 use Rattle.device_session.specs.Sessions.{Session}
 use Rattle.line_run.specs.Puts.{AreLines, IsBehind, IsPrompt, no_line}
 use Rattle.line_run.specs.Stops.{Ending, TookUntil}
@@ -22,6 +24,7 @@ use Rattle.volume_terms.specs.Volumes.{IsTabled}
 use Rattle.device_course.specs.Course.{MadeBetween}
 use Rattle.volume_serving.specs.Handled.{AreMany, OnLines}
 use Rattle.volume_serving.specs.Drawing.{DrewUntil, tally_of}
+use Rattle.volume_serving.specs.Syncing.{ChangesFew}
 use Rattle.volume_serving.specs.Tabled.{OnTables, Pause}
 use Rattle.volumes.specs.Destroyed.{AreDestroyed}
 use Rattle.volumes.specs.Halts.{EndsAs}
@@ -67,11 +70,11 @@ pub record IsSilent (tells : Type 0) (looks : ℕ) (From : Held → Type 0) (old
 -- devices that they led through were made in their order. A session and a table stand for the last state where the run goes on behind the lines
 pub record OnVolumes (old new : Outside) (session : Option Session) (table table_now : List Volume) (entry : Held) (lines : List (List ℕ)) (replies : List Reply) (part : List ℕ) (ending : Ending) : Type 0 where
   pub tabled : IsTabled entry table
-  pub on : OnLines (record { session = None; table = table; outside = old }) (record { session = session; table = table_now; outside = new }) entry lines replies part ending
+  pub on : OnLines old new session table_now entry lines replies part ending
   pub own : (name : List ℕ) → HasOwn entry (last_of entry on.led.states) name lines replies
   pub destroyed : AreDestroyed old.history new.history entry lines replies on.led.states on.ahead
 
--- lines begin with a session without a change of its own, which is on the root record in the cell then, of a device with so many blocks; and before them 21 pages were read at most, behind so many looks at the cell
+-- lines begin with a session without a change of its own, which is on the root record in the cell then, of a device with so many blocks, and whose cache has room for 256 nodes; and before them 21 pages were read at most, behind so many looks at the cell
 pub record Begins (tells : Type 0) (looks blocks : ℕ) (old new : Outside) (start : Pause) : Type 0 where
   pub later : tells → moment old.history ≤ start.at
   pub within : tells → start.at ≤ moment new.history
@@ -79,6 +82,7 @@ pub record Begins (tells : Type 0) (looks blocks : ℕ) (old new : Outside) (sta
   pub reads : tells → start.reads ≤ old.reads + looks + 21
   pub fresh : needed_by start.session ≡ 0
   pub many : blocks_of start.session ≡ blocks
+  pub room : room_of start.session ≡ 256
 
 -- a run that served lines, and ended so: what it took, the lines of that, its replies to them, and a part of one more where the output failed. On any pages the replies are such as their lines may have over the table that
 -- block 0 spelled, and what those before them made of it; what a line found, left and kept is so of the sessions that it began and ended with, of which the first has no change of its own; each read no more than it may, and all that was read but for them was read before the first one; they drew keys where they say so, one for each page that was added; and a line at which the device stopped the run
@@ -120,6 +124,16 @@ ServesBehind tells looks From old new result left left_now written written_now =
 abbrev pub Serves : Type 0 → (Held → Type 0) → Outside → Outside → Result (Unit {0}) Halt → Option (List ℕ) → Option (List ℕ) → Option (List ℕ) → Option (List ℕ) → Type 0
 Serves tells From old new result left left_now written written_now = ServesBehind tells 1 From old new result left left_now written written_now
 
+-- how often such a run synced all pages, or replaced the root record: never where it served no line, and else no oftener than for its lines
+abbrev pub ChangesIn : (tells : Type 0) (looks : ℕ) (From : Held → Type 0) (old new : Outside) (result : Result (Unit {0}) Halt) (left left_now written written_now : Option (List ℕ)) → ServesBehind tells looks From old new result left left_now written written_now → ℕ → ℕ → Type 0
+ChangesIn tells looks From old new result left left_now written written_now (inl silent) before now = now ≡ before
+ChangesIn tells looks From old new result left left_now written written_now (inr (ending, is, answers)) before now = ChangesFew before now answers.lines answers.replies
+
+-- such a run, and that
+pub record ServesFew (tells : Type 0) (looks : ℕ) (From : Held → Type 0) (old new : Outside) (result : Result (Unit {0}) Halt) (left left_now written written_now : Option (List ℕ)) (before now : ℕ) : Type 0 where
+  pub serves : ServesBehind tells looks From old new result left left_now written written_now
+  pub changes : tells → ChangesIn tells looks From old new result left left_now written written_now serves before now
+
 -- a run but for its last line, and that line: why it halted, and what it did until then; a refusal left all as it was, and a record that it names doesn't fit its place, on any pages
 pub record Ran (tells : Type 0) (old new : Outside) (Idle : Type 0) (left left_now written written_now : Option (List ℕ)) (ending : Result (Unit {0}) Halt) : Type 0 where
   pub halted : Result (Unit {0}) Halt
@@ -129,3 +143,7 @@ pub record Ran (tells : Type 0) (old new : Outside) (Idle : Type 0) (left left_n
   pub idle : tells → IfErr halted (λ halt. IsRefusal halt → Idle × (written_then ≡ written))
   pub damage : tells → IfErr halted (HaltsAtDamage new.history.present)
   pub told : EndsAs halted ending written_then written_now
+
+-- how often that run synced all pages, or replaced the root record
+abbrev pub ChangesRan : (tells : Type 0) (old new : Outside) (Idle : Type 0) (left left_now written written_now : Option (List ℕ)) (ending : Result (Unit {0}) Halt) → Ran tells old new Idle left left_now written written_now ending → ℕ → ℕ → Type 0
+ChangesRan tells old new Idle left left_now written written_now ending ran before now = tells → ChangesIn tells 1 (IsStart tells old) old new ran.halted left left_now written ran.written_then ran.serves before now

@@ -1,12 +1,12 @@
 //! The server of a device that is parted into volumes with names, each of which can be destroyed.
 #![tactic(auto)]
 
-ghost use Rattle.std.specs.Prelude.{◌≡◌, [], map, string_bytes};
+ghost use Rattle.std.specs.Prelude.{◌≡◌, [], map, string_bytes, ◌≤◌, ◌+◌};
 ghost use Rattle.device_course.specs.Programs.{KeepsLedger, Stays};
 ghost use Rattle.device_course.specs.Reaching.{DisclosesTree};
 ghost use Rattle.device_course.specs.States.{around};
 ghost use Rattle.session_calls.specs.Handed.{handed};
-ghost use Rattle.volumes.specs.Program.{Exits, Refuses, Serving};
+ghost use Rattle.volumes.specs.Program.{Exits, Refuses, Serving, SyncsFew};
 
 mod halts;
 mod running;
@@ -46,11 +46,18 @@ pub fn run_volumes<P: Platform, T: Tape, I: Source, O: Sink, L: Sink>(
         (handed P.Platform T.Tape I.Source O.Sink L.Sink platform.old tape.old input.old output.old ledger.old)
         (handed P.Platform T.Tape I.Source O.Sink L.Sink platform.new tape.new input.new output.new ledger.new) }
 
+    // An input that is at its end is asked no more.
+    ensures ended { I.ends input.new ≤ I.ends input.old + 1 }
+
     // The replies are those of the volumes that the device had, each of which has its own; nothing of one that was destroyed is reached from then on; each moment
-    // leaves a device that they led through; and it reads no more than one look at the cell, 21 pages for the table, and what each line may read.
-    ensures serves { map string_bytes words.now ≡ [] → Serving P.tells result
+    // leaves a device that they led through; and it reads no more than one look at the cell, 21 pages for the table, and what each line may read. It syncs all pages, and replaces the root record,
+    // no oftener than for the lines that commit.
+    ensures serves { map string_bytes words.now ≡ [] → (serving : Serving P.tells result
         (handed P.Platform T.Tape I.Source O.Sink L.Sink platform.old tape.old input.old output.old ledger.old)
-        (handed P.Platform T.Tape I.Source O.Sink L.Sink platform.new tape.new input.new output.new ledger.new) }
+        (handed P.Platform T.Tape I.Source O.Sink L.Sink platform.new tape.new input.new output.new ledger.new))
+        × SyncsFew P.tells result
+        (handed P.Platform T.Tape I.Source O.Sink L.Sink platform.old tape.old input.old output.old ledger.old)
+        (handed P.Platform T.Tape I.Source O.Sink L.Sink platform.new tape.new input.new output.new ledger.new) serving (P.changes platform.old) (P.changes platform.new) }
 
     // Chains of opening from the root key reach at each moment exactly the device's records, and what was deleted never.
     ensures forgets { DisclosesTree P.tells (T.drawn tape.old) (T.drawn tape.new) (P.history platform.old) (P.history platform.new) }

@@ -1,5 +1,5 @@
 //! A run: the mount, the table of block 0, the lines, and the last line.
-ghost use Rattle.std.specs.Prelude.{◌≡◌, ◌≤◌, List, Option, None, Some, IfErr, IfOk, IsOk};
+ghost use Rattle.std.specs.Prelude.{◌≡◌, ◌≤◌, List, Option, None, Some, IfErr, IfOk, IsOk, ◌+◌};
 ghost use Rattle.sdbt_base.specs.Arrays.{Device, Session as OpenSession, mounted};
 ghost use Rattle.sdbt_base.specs.Counts.{counts};
 ghost use Rattle.device_course.specs.States.{IsAt, around};
@@ -11,7 +11,7 @@ ghost use Rattle.volume_table.specs.Tables.{IsTable};
 ghost use Rattle.session_calls.specs.Carrying.{Carries, IsReady};
 ghost use Rattle.volumes.specs.Halts.{Blames};
 ghost use Rattle.session_calls.specs.Spans.{Spans};
-ghost use Rattle.volumes.specs.Running.{IsIdle, Looked, Ran, Serves, ServesBehind};
+ghost use Rattle.volumes.specs.Running.{ChangesRan, IsIdle, Looked, Ran, ServesFew};
 ghost use Rattle.volumes.specs.Starting.{FindsFirst, FindsTable, HaltsAtDamage, HaltsBehind, IsFrom, IsOfTable, IsRefusal, IsStart};
 
 use crate::halts::{Halt, put_last_line};
@@ -40,12 +40,17 @@ pub(crate) fn run<P: Platform, T: Tape, I: Source, O: Sink, L: Sink>(
 ) -> Result<(), Halt>
     ensures spans { Spans P.tells (around P.Platform T.Tape L.Sink platform.old tape.old ledger.old)
         (around P.Platform T.Tape L.Sink platform.new tape.new ledger.new) (IsOk result) }
+    ensures ended { I.ends input.new ≤ I.ends input.old + 1 }
     ensures blame { Blames (counts (P.faults platform.old) (T.faults tape.old) (I.faults input.old) (O.faults output.old) (L.faults ledger.old))
         (counts (P.faults platform.new) (T.faults tape.new) (I.faults input.new) (O.faults output.new) (L.faults ledger.new)) result }
-    ensures ran { Ran P.tells (around P.Platform T.Tape L.Sink platform.old tape.old ledger.old)
+    ensures ran { (ran : Ran P.tells (around P.Platform T.Tape L.Sink platform.old tape.old ledger.old)
         (around P.Platform T.Tape L.Sink platform.new tape.new ledger.new)
         (IsIdle P.tells tape.old tape.new input.old input.new ledger.old ledger.new (P.head platform.old) (P.head platform.new) (P.history platform.old) (P.history platform.new))
-        (I.left input.old) (I.left input.new) (O.written output.old) (O.written output.new) result }
+        (I.left input.old) (I.left input.new) (O.written output.old) (O.written output.new) result)
+        × ChangesRan P.tells (around P.Platform T.Tape L.Sink platform.old tape.old ledger.old)
+        (around P.Platform T.Tape L.Sink platform.new tape.new ledger.new)
+        (IsIdle P.tells tape.old tape.new input.old input.new ledger.old ledger.new (P.head platform.old) (P.head platform.new) (P.history platform.old) (P.history platform.new))
+        (I.left input.old) (I.left input.new) (O.written output.old) (O.written output.new) result ran (P.changes platform.old) (P.changes platform.new) }
 {
     match serve_device(alloc, platform, tape, input, output, ledger) {
         Ok(()) => Ok(()),
@@ -64,12 +69,13 @@ fn serve_device<P: Platform, T: Tape, I: Source, O: Sink, L: Sink>(
 ) -> Result<(), Halt>
     ensures spans { Spans P.tells (around P.Platform T.Tape L.Sink platform.old tape.old ledger.old)
         (around P.Platform T.Tape L.Sink platform.new tape.new ledger.new) (IsOk result) }
+    ensures ended { I.ends input.new ≤ I.ends input.old + 1 }
     ensures blame { Blames (counts (P.faults platform.old) (T.faults tape.old) (I.faults input.old) (O.faults output.old) (L.faults ledger.old))
         (counts (P.faults platform.new) (T.faults tape.new) (I.faults input.new) (O.faults output.new) (L.faults ledger.new)) result }
-    ensures serves { Serves P.tells (IsStart P.tells (around P.Platform T.Tape L.Sink platform.old tape.old ledger.old))
+    ensures serves { ServesFew P.tells 1 (IsStart P.tells (around P.Platform T.Tape L.Sink platform.old tape.old ledger.old))
         (around P.Platform T.Tape L.Sink platform.old tape.old ledger.old)
         (around P.Platform T.Tape L.Sink platform.new tape.new ledger.new)
-        result (I.left input.old) (I.left input.new) (O.written output.old) (O.written output.new) }
+        result (I.left input.old) (I.left input.new) (O.written output.old) (O.written output.new) (P.changes platform.old) (P.changes platform.new) }
     ensures looked { Looked P.tells (P.history platform.old).present result }
     ensures idle { P.tells → IfErr result (λ halt. IsRefusal halt
         → IsIdle P.tells tape.old tape.new input.old input.new ledger.old ledger.new (P.head platform.old) (P.head platform.new) (P.history platform.old) (P.history platform.new)
@@ -95,17 +101,17 @@ fn serve_volumes<P: Platform, T: Tape, I: Source, O: Sink, L: Sink>(
 ) -> Result<(), Halt>
     requires ready { IsReady P.tells (around P.Platform T.Tape L.Sink platform.old tape.old ledger.old) first }
     requires fresh { needed_by first ≡ 0 }
-    // The session's cache has room for a node of each level.
-    requires room { 20 ≤ room_of first }
+    requires room { room_of first ≡ 256 }
     ensures carries { Carries P.tells (around P.Platform T.Tape L.Sink platform.old tape.old ledger.old)
         (around P.Platform T.Tape L.Sink platform.new tape.new ledger.new) first None (IsOk result) }
+    ensures ended { I.ends input.new ≤ I.ends input.old + 1 }
     ensures blame { Blames (counts (P.faults platform.old) (T.faults tape.old) (I.faults input.old) (O.faults output.old) (L.faults ledger.old))
         (counts (P.faults platform.new) (T.faults tape.new) (I.faults input.new) (O.faults output.new) (L.faults ledger.new)) result }
     // It doesn't look at the cell.
-    ensures serves { ServesBehind P.tells 0 (IsFrom P.tells (around P.Platform T.Tape L.Sink platform.old tape.old ledger.old) first)
+    ensures serves { ServesFew P.tells 0 (IsFrom P.tells (around P.Platform T.Tape L.Sink platform.old tape.old ledger.old) first)
         (around P.Platform T.Tape L.Sink platform.old tape.old ledger.old)
         (around P.Platform T.Tape L.Sink platform.new tape.new ledger.new)
-        result (I.left input.old) (I.left input.new) (O.written output.old) (O.written output.new) }
+        result (I.left input.old) (I.left input.new) (O.written output.old) (O.written output.new) (P.changes platform.old) (P.changes platform.new) }
     ensures idle { P.tells → IfErr result (λ halt. IsRefusal halt
         → IsIdle P.tells tape.old tape.new input.old input.new ledger.old ledger.new (P.head platform.old) (P.head platform.new) (P.history platform.old) (P.history platform.new)
         × (O.written output.new ≡ O.written output.old)) }

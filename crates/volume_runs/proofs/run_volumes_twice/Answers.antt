@@ -19,14 +19,14 @@ returns-clause-runs g c =
     let mid = in_memory g.T.Tape g.I.Source g.O.Sink g.L.Sink one.platform one.tape one.input one.output one.ledger in
     let cut = in_memory g.T.Tape g.I.Source g.O.Sink g.L.Sink c.lose_power.new.platform one.tape c.args.second.now one.output one.ledger in
     let new = in_memory g.T.Tape g.I.Source g.O.Sink g.L.Sink two.platform two.tape two.input two.output two.ledger in
-    let serving = c.run_volumes-status.ensures.serves refl in
+    let serving = (c.run_volumes-status.ensures.serves refl).0 in
     let ran = serving.ran in
     let lost = c.lose_power.ensures.left.may in
     let first = c.run_volumes-status.ensures.forgets in
     let second = c.run_volumes-other.ensures.forgets in
     let served_cut = λ (served : IsServedImage old.outside.history.present).
     served_left mid.outside.history.present cut.outside.history.present lost (During-now old.outside.history mid.outside.history IsServedImage (c.run_volumes-status.ensures.stays.served tt served)) in
-    let other = c.run_volumes-other.ensures.serves refl in
+    let other = (c.run_volumes-other.ensures.serves refl).0 in
     let goes = λ (entry : Held) (start : IsStart (Unit {0}) old.outside entry).
     next_start old.outside mid.outside cut.outside ran.halted old.left mid.left old.written ran.written_then ran.serves entry start lost (served_cut start.served) in
     record {
@@ -65,7 +65,7 @@ returns-clause-fits g c there stands served =
     let one = c.run_volumes-status.new in
     let old = in_memory g.T.Tape g.I.Source g.O.Sink g.L.Sink c.args.platform.now c.args.tape.now c.args.first.now c.args.output.now c.args.ledger.now in
     let mid = in_memory g.T.Tape g.I.Source g.O.Sink g.L.Sink one.platform one.tape one.input one.output one.ledger in
-    let ran = (c.run_volumes-status.ensures.serves refl).ran in
+    let ran = (c.run_volumes-status.ensures.serves refl).0.ran in
     let lost = c.lose_power.ensures.left.may in
     let ended = ended_with old.outside mid.outside ran.halted old.left mid.left old.written ran.written_then ran.serves (fresh_on old.outside there) (start_of old.outside there stands served) in
     let left = served_left (image_of_now one.platform) (image_of_now c.lose_power.new.platform) lost

@@ -47,28 +47,34 @@ returns-then-not-is_empty-clause-ledger g c =
     keeps_ledger g.P.Platform.tells here here (Unit {0}) _ (λ zero. tt) (ended_not g.P.Platform.tells here (g.met.P.Platform.has_room c.args.platform.now))
 
 pub returns-in-Ok-clause-serves : goal.returns-in-Ok-clause-serves
-returns-in-Ok-clause-serves g c none = record {
-  ending = Ok tt;
-  status_is = refl;
-  ran = c.in-Ok.ensures.ran;
-  complete = λ entry start table tabled text ample quiet. inr (refl, complete_done _ _ _ _ _ _ _ (doing_of _ _ _ _ _ _ _ _ c.in-Ok.ensures.ran) entry start text ample);
-}
+returns-in-Ok-clause-serves g c none = (
+  record {
+    ending = Ok tt;
+    status_is = refl;
+    ran = c.in-Ok.ensures.ran.0;
+    complete = λ entry start table tabled text ample quiet. inr (refl, complete_done _ _ _ _ _ _ _ (doing_of _ _ _ _ _ _ _ _ c.in-Ok.ensures.ran.0) entry start text ample);
+  },
+  c.in-Ok.ensures.ran.1,
+)
 
 pub returns-in-Err-clause-serves : goal.returns-in-Err-clause-serves
-returns-in-Err-clause-serves g c none = record {
-  ending = Err c.in-Err.halt;
-  status_is = c.status.ensures;
-  ran = c.in-Err.ensures.ran;
-  complete = λ entry start table tabled text ample quiet.
-      inl (c.status.ensures ∙ complete_halted _ _ _ _ _ _ _ _ _ _ c.in-Err.halt (halting_of _ _ _ _ _ _ _ _ c.in-Err.halt c.in-Err.ensures.ran) c.in-Err.ensures.blame.cause entry start table tabled text ample quiet);
-}
+returns-in-Err-clause-serves g c none = (
+  record {
+    ending = Err c.in-Err.halt;
+    status_is = c.status.ensures;
+    ran = c.in-Err.ensures.ran.0;
+    complete = λ entry start table tabled text ample quiet.
+        inl (c.status.ensures ∙ complete_halted _ _ _ _ _ _ _ _ _ _ c.in-Err.halt (halting_of _ _ _ _ _ _ _ _ c.in-Err.halt c.in-Err.ensures.ran.0) c.in-Err.ensures.blame.cause entry start table tabled text ample quiet);
+  },
+  c.in-Err.ensures.ran.1,
+)
 
 pub returns-in-Ok-clause-exits : goal.returns-in-Ok-clause-exits
 returns-in-Ok-clause-exits g c = record {
   is = inl refl;
   refused = (λ two. absurd (omega (arith, two)), λ other. absurd (other (no_words string_bytes c.args.words.now (eqb-true _ _ (sym c.if-not-is_empty.ensures)))));
   blame = blamed_none _ _ c.in-Ok.ensures.blame;
-  taken = took_done _ _ _ _ _ _ _ _ (doing_of _ _ _ _ _ _ _ _ c.in-Ok.ensures.ran).serves;
+  taken = took_done _ _ _ _ _ _ _ _ (doing_of _ _ _ _ _ _ _ _ c.in-Ok.ensures.ran.0).serves;
 }
 
 pub returns-in-Err-clause-exits : goal.returns-in-Err-clause-exits
@@ -85,14 +91,14 @@ returns-in-Err-clause-exits g c = record {
       let now = counts (P.faults c.run.new.platform) (T.faults c.run.new.tape) (I.faults c.run.new.input) (O.faults c.run.new.output) (L.faults c.run.new.ledger) in
       subst (λ (n : ℕ). IsBlamedAt n before now) (sym c.status.ensures) (blamed before now c.in-Err.halt c.in-Err.ensures.blame);
   taken =
-      let h = halting_of _ _ _ _ _ _ _ _ c.in-Err.halt c.in-Err.ensures.ran in
+      let h = halting_of _ _ _ _ _ _ _ _ c.in-Err.halt c.in-Err.ensures.ran.0 in
       let took = took_halted _ _ _ _ h.halted c.in-Err.halt _ _ _ _ _ h.serves h.told in
       (took.0, took.1, subst (λ (n : ℕ). Took n took.0 (g.I.Source.left c.run.new.input)) (sym c.status.ensures) took.2);
 }
 
 pub returns-in-Ok-clause-refuses : goal.returns-in-Ok-clause-refuses
 returns-in-Ok-clause-refuses g c =
-    let d = doing_of _ _ _ _ _ _ _ _ c.in-Ok.ensures.ran in
+    let d = doing_of _ _ _ _ _ _ _ _ c.in-Ok.ensures.ran.0 in
     record {
       other_words = λ two. absurd (omega (arith, two));
       as_before = λ told which. absurd (elim which [ inl eight ↦ omega (arith, eight) | inr ten ↦ omega (arith, ten) ]);
@@ -105,7 +111,7 @@ returns-in-Ok-clause-refuses g c =
 
 pub returns-in-Err-clause-refuses : goal.returns-in-Err-clause-refuses
 returns-in-Err-clause-refuses g c =
-    let h = halting_of _ _ _ _ _ _ _ _ c.in-Err.halt c.in-Err.ensures.ran in
+    let h = halting_of _ _ _ _ _ _ _ _ c.in-Err.halt c.in-Err.ensures.ran.0 in
     let status = c.status.ensures in
     record {
       other_words = λ two. absurd (never_two c.in-Err.halt (sym status ∙ two));

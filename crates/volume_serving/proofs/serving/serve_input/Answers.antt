@@ -5,6 +5,7 @@ use Rattle.sdbt_base.specs.Told.{IsAtEnd}
 use Rattle.text_lines.specs.Lines.{rest_of}
 use Rattle.session_calls.proofs.CarryLaws.{carries_end, carries_going, carries_start, carries_then}
 use Rattle.device_session.specs.Open.{blocks_of}
+use Rattle.sdbt_base.proofs.ToldLaws.{ends_gave}
 use Rattle.volume_serving.specs.World.{World, world}
 use Rattle.line_run.proofs.BlameLaws.{blamed_behind, blamed_take, fell_not}
 use Rattle.line_run.proofs.TakeLaws.{none_given, nothing_left, taken_of}
@@ -19,6 +20,7 @@ loop-left-init g c =
     record {
       table = c.requires.table;
       carries = carries_start _ _ c.args.first c.requires.ready;
+      open_yet = refl;
       quiet = refl;
       reading = IsReading-start _ (Handled P.tells (blocks_of c.args.first)) (replying P.tells (blocks_of c.args.first)).handling (world P g.T.Tape g.L.Sink (Some c.args.first) c.args.desk.now.table c.args.platform.now c.args.tape.now c.args.ledger.now) (g.I.Source.left c.args.input.now)
           (g.O.Sink.written c.args.output.now) c.new-pending.result _ (g.met.P.Platform.has_room c.args.platform.now) c.new-pending.ensures (omega arith);
@@ -86,6 +88,7 @@ loop-left-preserved g c =
     record {
       table = ok.ensures.table;
       carries = carries_then _ _ _ _ c.args.first l.session _ _ _ tt l.invariant.carries (carries_going _ _ _ _ _ _ _ (λ going. refl) ok.ensures.carries);
+      open_yet = c.in-Ok.ensures.ended ∙ ends_gave c.in-Ok.count (g.I.Source.ends c.loop-left.input) (omega (arith, c.if-count-eq0.false)) ∙ c.loop-left.invariant.open_yet;
       quiet =
           let served = ok.ensures.blame.quiet in
           let taken : g.I.Source.faults c.take.new.self ≡ g.I.Source.faults l.input = c.in-Ok.ensures.cause in

@@ -24,16 +24,19 @@ returns-in-Err-clause-spans g c =
 pub returns-in-Ok-Some-clause-serves : goal.returns-in-Ok-Some-clause-serves
 returns-in-Ok-Some-clause-serves g c =
     let looks = c.mount_session.ensures.looks in
-    serves_since g.P.Platform.tells _ _ _ _ _ _ _ _ _ _ looks.capacity (ap (λ (n : ℕ). tally (g.T.Tape.drawn c.args.tape.now) n) looks.head) looks.time looks.image (λ told. (c.mount_session.ensures.reads told).0.by_one)
+    serves_since g.P.Platform.tells _ _ _ _ _ _ _ _ _ _ _ _ _ looks.capacity (ap (λ (n : ℕ). tally (g.T.Tape.drawn c.args.tape.now) n) looks.head) looks.time looks.image (λ told. (c.mount_session.ensures.reads told).0.by_one) looks.changes
     (since_mount g.P.Platform c.args.platform.now c.mount_session.new.platform _ _ c.in-Ok-Some.session c.mount_session.result (c.in-Ok-Some.is ∙ ap Ok c.in-Ok-Some.field-0-is) refl refl refl refl looks c.mount_session.ensures.finds c.mount_session.ensures.leads)
     c.serve_volumes.ensures.serves
 
 pub returns-in-Ok-None-clause-serves : goal.returns-in-Ok-None-clause-serves
-returns-in-Ok-None-clause-serves g c = inl (_, refl, silent_none _ _ _ _ _ (found_none g.P.Platform c.args.platform.now c.mount_session.new.platform c.mount_session.result (c.in-Ok-None.is ∙ ap Ok c.in-Ok-None.field-0-is) c.mount_session.ensures.finds) (λ told. (c.mount_session.ensures.reads told).0.by_one))
+returns-in-Ok-None-clause-serves g c = record { changes = c.mount_session.ensures.looks.changes; serves = inl (_, refl, silent_none _ _ _ _ _ (found_none g.P.Platform c.args.platform.now c.mount_session.new.platform c.mount_session.result (c.in-Ok-None.is ∙ ap Ok c.in-Ok-None.field-0-is) c.mount_session.ensures.finds) (λ told. (c.mount_session.ensures.reads told).0.by_one)) }
 
 pub returns-in-Err-clause-serves : goal.returns-in-Err-clause-serves
 returns-in-Err-clause-serves g c =
-    inl (_, refl, silent_stop _ _ _ c.in-Err.stop _ _ (λ told. g.met.P.Platform.counts_pages told c.args.platform.now) c.in-Err.ensures.stops c.mount_session.ensures.looks.time (λ told. (c.mount_session.ensures.reads told).0.by_one))
+    record {
+      serves = inl (_, refl, silent_stop _ _ _ c.in-Err.stop _ _ (λ told. g.met.P.Platform.counts_pages told c.args.platform.now) c.in-Err.ensures.stops c.mount_session.ensures.looks.time (λ told. (c.mount_session.ensures.reads told).0.by_one));
+      changes = c.mount_session.ensures.looks.changes;
+    }
 
 pub returns-in-Ok-Some-clause-looked : goal.returns-in-Ok-Some-clause-looked
 returns-in-Ok-Some-clause-looked g c =
@@ -59,4 +62,4 @@ pub serve_volumes-requires-clause-fresh : goal.serve_volumes-requires-clause-fre
 serve_volumes-requires-clause-fresh g c = found_fresh g.P.Platform c.args.platform.now c.mount_session.new.platform c.in-Ok-Some.session c.mount_session.result (c.in-Ok-Some.is ∙ ap Ok c.in-Ok-Some.field-0-is) c.mount_session.ensures.finds
 
 pub serve_volumes-requires-clause-room : goal.serve_volumes-requires-clause-room
-serve_volumes-requires-clause-room g c = omega (arith, found_room g.P.Platform _ _ _ c.in-Ok-Some.session c.mount_session.result (c.in-Ok-Some.is ∙ ap Ok c.in-Ok-Some.field-0-is) c.mount_session.ensures.finds)
+serve_volumes-requires-clause-room g c = found_room g.P.Platform _ _ _ c.in-Ok-Some.session c.mount_session.result (c.in-Ok-Some.is ∙ ap Ok c.in-Ok-Some.field-0-is) c.mount_session.ensures.finds

@@ -1,9 +1,9 @@
-use Rattle.std.proofs.Common.{Ok, Err, inl, inr, refl, sym, arith, ℕ, subst}
+use Rattle.std.proofs.Common.{Ok, Err, inl, inr, refl, sym, ◌∙◌, arith, ℕ, subst}
 use Rattle.session_calls.specs.Along.{drawn_by}
 use Rattle.volume_table.specs.Tables.{IsTable}
 use Rattle.session_calls.proofs.CallLaws.{no_draw}
 use Rattle.session_calls.proofs.CarryLaws.{carries_along, carries_end, carries_then}
-use Rattle.volumes.proofs.StartLaws.{answers_behind, silent_table, spelled_of}
+use Rattle.volumes.proofs.StartLaws.{answers_behind, lines_served, silent_table, spelled_of}
 use Rattle.volumes.proofs.StatusLaws.{blames_halt, of_platform}
 use Rattle.volumes.proofs.running.serve_volumes.Goals as goal
 
@@ -16,7 +16,7 @@ pub returns-in-Err-clause-blame : goal.returns-in-Err-clause-blame
 returns-in-Err-clause-blame g c = blames_halt _ _ _ _ c.in-Err.halt (of_platform _ _ _ _ _ _) c.in-Err.ensures.blame
 
 pub returns-in-Err-clause-serves : goal.returns-in-Err-clause-serves
-returns-in-Err-clause-serves g c = inl (c.in-Err.halt, refl, silent_table _ _ _ c.args.first c.read_table.new.session c.in-Err.halt _ _ c.in-Err.ensures.early c.requires.fresh (c.read_table.ensures.along no_draw).cell c.in-Err.ensures.finds c.requires.ready.mounted (λ told. c.in-Err.ensures.spelled told (c.requires.ready.mounted told)) (c.read_table.ensures.along no_draw).reads)
+returns-in-Err-clause-serves g c = record { changes = (c.read_table.ensures.along no_draw).changes; serves = inl (c.in-Err.halt, refl, silent_table _ _ _ c.args.first c.read_table.new.session c.in-Err.halt _ _ c.in-Err.ensures.early c.requires.fresh (c.read_table.ensures.along no_draw).cell c.in-Err.ensures.finds c.requires.ready.mounted (λ told. c.in-Err.ensures.spelled told (c.requires.ready.mounted told)) (c.read_table.ensures.along no_draw).reads) }
 
 pub returns-in-Err-clause-idle : goal.returns-in-Err-clause-idle
 returns-in-Err-clause-idle g c told of =
@@ -50,10 +50,12 @@ pub returns-in-Ok-serve_input-clause-serves : goal.returns-in-Ok-serve_input-cla
 returns-in-Ok-serve_input-clause-serves g c =
     let along = c.read_table.ensures.along no_draw in
     let ran = c.in-Ok-serve_input.ensures.ran in
-    inr (Ok tt, refl, answers_behind g.P.Platform.tells _ _ _ c.args.first c.read_table.new.session ran.0 c.in-Ok.table _ (Ok tt) _ _ _ _ (omega (arith, along.rises, along.adds)) refl along.capacity (omega (arith, along.needs)) c.requires.fresh (λ told. along.mounted told (c.requires.ready.mounted told)) along.cell along.reads c.in-Ok.ensures.table c.in-Ok.ensures.finds (λ told. spelled_of _ c.args.first c.in-Ok.table c.requires.fresh (c.requires.ready.mounted told) (c.in-Ok.ensures.spelled told (c.requires.ready.mounted told))) along.blocks ran.1)
+    lines_served g.P.Platform.tells _ _ _ _ _ _ (Ok tt) _ _ _ _ _ refl along.changes
+    (answers_behind g.P.Platform.tells _ _ _ _ _ c.args.first c.read_table.new.session ran.0 c.in-Ok.table _ (Ok tt) _ _ _ _ (omega (arith, along.rises, along.adds)) refl along.capacity (omega (arith, along.needs)) c.requires.fresh (λ told. along.mounted told (c.requires.ready.mounted told)) along.cell along.reads c.in-Ok.ensures.table c.in-Ok.ensures.finds (λ told. spelled_of _ c.args.first c.in-Ok.table c.requires.fresh (c.requires.ready.mounted told) (c.in-Ok.ensures.spelled told (c.requires.ready.mounted told))) along.blocks (along.forgets.capacity ∙ c.requires.room) ran.1)
 
 pub returns-in-Err-serve_input-clause-serves : goal.returns-in-Err-serve_input-clause-serves
 returns-in-Err-serve_input-clause-serves g c =
     let along = c.read_table.ensures.along no_draw in
     let ran = c.in-Err-serve_input.ensures.ran in
-    inr (Err c.in-Err-serve_input.stop, refl, answers_behind g.P.Platform.tells _ _ _ c.args.first c.read_table.new.session ran.0 c.in-Ok.table _ (Err c.in-Err-serve_input.stop) _ _ _ _ (omega (arith, along.rises, along.adds)) refl along.capacity (omega (arith, along.needs)) c.requires.fresh (λ told. along.mounted told (c.requires.ready.mounted told)) along.cell along.reads c.in-Ok.ensures.table c.in-Ok.ensures.finds (λ told. spelled_of _ c.args.first c.in-Ok.table c.requires.fresh (c.requires.ready.mounted told) (c.in-Ok.ensures.spelled told (c.requires.ready.mounted told))) along.blocks ran.1)
+    lines_served g.P.Platform.tells _ _ _ _ _ _ (Err c.in-Err-serve_input.stop) _ _ _ _ _ refl along.changes
+    (answers_behind g.P.Platform.tells _ _ _ _ _ c.args.first c.read_table.new.session ran.0 c.in-Ok.table _ (Err c.in-Err-serve_input.stop) _ _ _ _ (omega (arith, along.rises, along.adds)) refl along.capacity (omega (arith, along.needs)) c.requires.fresh (λ told. along.mounted told (c.requires.ready.mounted told)) along.cell along.reads c.in-Ok.ensures.table c.in-Ok.ensures.finds (λ told. spelled_of _ c.args.first c.in-Ok.table c.requires.fresh (c.requires.ready.mounted told) (c.in-Ok.ensures.spelled told (c.requires.ready.mounted told))) along.blocks (along.forgets.capacity ∙ c.requires.room) ran.1)
