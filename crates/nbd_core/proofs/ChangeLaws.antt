@@ -13,13 +13,6 @@ use Rattle.nbd_core.specs.Exchanges.{Exchange}
 pub changes_is : (size : ℕ) (request : Request) (kind : RequestKind) → refusal size request ≡ None → request.kind ≡ kind → changes_for size request ≡ changes_at kind
 changes_is size request kind whole is = ap (λ (r : Option Outcome). unless_refused r (changes_at request.kind)) whole ∙ ap changes_at is
 
-pub rises_within : (few most old new : ℕ) → few ≤ most → MayRiseBy few old new → MayRiseBy most old new
-rises_within few most old new le rises = record { rises = rises.rises; at_most = omega (arith, rises.at_most, le) }
-
--- what is as it was
-pub rises_none : (most old new : ℕ) → new ≡ old → MayRiseBy most old new
-rises_none most old new same = record { rises = omega (arith, same); at_most = omega (arith, same) }
-
 changes_push : (size : ℕ) (exchanges : List Exchange) (exchange : Exchange) → changes_in size (exchanges ++ exchange ∷ []) ≡ changes_in size exchanges + changes_for size exchange.sent.head
 changes_push size [] exchange = omega arith
 changes_push size (first ∷ more) exchange = omega (arith, changes_push size more exchange)

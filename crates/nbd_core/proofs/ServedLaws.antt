@@ -6,6 +6,7 @@ use Rattle.std.specs.List.{flat_map}
 use Rattle.std.proofs.lemmas.List.{length-map, map-append}
 use Rattle.std.proofs.lemmas.List.Elements.{All-push}
 use Rattle.std.proofs.lemmas.Grind.{flat_map-append}
+use Rattle.sdbt_base.proofs.RiseLaws.{counted_few}
 use Rattle.record_fields.specs.Fields.{append_same}
 use Rattle.sdbt_base.specs.Told.{Got, GotPart}
 use Rattle.sdbt_base.proofs.ToldLaws.{Got-nothing, Got-then}
@@ -51,7 +52,7 @@ use Rattle.nbd_core.proofs.CameLaws.{came_nothing, came_then, came_weaker}
 use Rattle.nbd_core.proofs.AmpleLaws.{leads_room, room_finished}
 use Rattle.nbd_core.proofs.TurnLaws.{Ending, LedTo, led_start, led_more, led_end}
 use Rattle.nbd_core.specs.Changes.{HasChanged, changes_for, changes_in, tally}
-use Rattle.nbd_core.proofs.ChangeLaws.{changes_is, rises_within}
+use Rattle.nbd_core.proofs.ChangeLaws.{changes_is}
 use Rattle.sdbt_base.specs.Rises.{MayRiseBy}
 
 -- ---- a head, and fewer bytes than follow it
@@ -338,7 +339,7 @@ served_goodbye From tells changes changes_now before there after session size a 
     let bye : IsGoodbye head.came now.ahead = (request, is, head.ends.1) in
     served_by From tells changes changes_now before there after session size a b c old mid now w0 w1 w1 exchanges head.came [] result so_far head.takes (Got-nothing w1) (goodbye_end size head.came now.ahead c result bye ends) (goodbye_limit result now.left ends) on room rises lacks
     (λ told_so. inl (omega (arith, so_far.reads told_so, unread told_so)))
-    (λ told_so. inr (request, now.ahead, head.ends.0, head.ends.1, rises_within (changes_in size exchanges + 2) (changes_in size exchanges + changes_for size request) changes changes_now (omega (arith, changes_is size request kinds.Disconnect (never_refused size request is) is)) (changed told_so)))
+    (λ told_so. inr (request, now.ahead, head.ends.0, head.ends.1, counted_few (changes_in size exchanges + 2) (changes_in size exchanges + changes_for size request) changes changes_now (omega (arith, changes_is size request kinds.Disconnect (never_refused size request is) is)) (changed told_so)))
     (λ entry from last held. goodbye_ends before.capacity size tells there after session head.came now.ahead last result (told entry from) same rises bye head.ends.0 ends adds held finishes)
 
 -- in a request: without its reply, or with a part of it

@@ -225,15 +225,6 @@ beside_start P T syncs x y = record {
   tape_faults = omega arith;
 }
 
--- a call that was made once counts once at most
-pub counted_once : {T E : Type 0} (result : Result T E) (old new : ℕ) → CountsOnce result old new → MayRiseBy 1 old new
-counted_once (Ok done) old new once = record { rises = omega (arith, once); at_most = omega (arith, once) }
-counted_once (Err fault) old new once = record { rises = once.rises; at_most = once.by_one }
-
--- a call that doesn't count
-pub counted_not : (most old new : ℕ) → new ≡ old → MayRiseBy most old new
-counted_not most old new same = record { rises = omega (arith, same); at_most = omega (arith, same) }
-
 -- one call of the platform, after perhaps one of the tape
 pub beside_call : {S R : Type 0} (P : PlatformGhosts S) (T : TapeGhosts R) (syncs : ℕ) (x x' : S) (y y' : R) → (P.tells → Steps (P.history x) (P.history x')) → (P.tells → (P.history x').present.cell ≡ (P.history x).present.cell) →
     P.head x ≤ P.head x' → P.capacity x' ≡ P.capacity x → (P.tells → P.reads x' ≡ P.reads x) → (P.tells → MayRiseBy syncs (P.changes x) (P.changes x')) → P.faults x ≤ P.faults x' → T.faults y ≤ T.faults y' → OnlyAdds P T syncs x x' y y'

@@ -1,6 +1,7 @@
 -- How often a move syncs all pages, or replaces or clears a root record, and which number it tells.
 use Rattle.std.proofs.Common.{◌≡◌, ◌≤◌, ◌+◌, ◌∙◌, ℕ, Bool, true, false, None, Some, Option, List, Result, Ok, Err, inl, inr, refl, sym, ap, subst, arith}
 use Rattle.std.specs.Prelude.{IfOk, IsTrue}
+use Rattle.sdbt_base.proofs.RiseLaws.{counted_few, counted_not, counted_once, counted_then}
 use Rattle.platform.specs.Calls.{Looks}
 use Rattle.sdbt_base.specs.Rises.{CountsOnce, MayRiseBy}
 use Rattle.platform.specs.History.{CellStays, History}
@@ -27,35 +28,11 @@ use Rattle.transfer.proofs.RefusalLaws.{not_empty, one_in}
 
 -- ---- a count
 
-pub changed_not : (most old new : ℕ) → new ≡ old → MayRiseBy most old new
-changed_not most old new same = record { rises = omega (arith, same); at_most = omega (arith, same) }
-
-pub changed_more : (few most old new : ℕ) → few ≤ most → MayRiseBy few old new → MayRiseBy most old new
-changed_more few most old new less may =
-    let rises = may.rises in
-    let at_most = may.at_most in
-    record { rises = rises; at_most = omega (arith, at_most, less) }
-
 pub changed_behind : (most old mid new : ℕ) → mid ≡ old → MayRiseBy most mid new → MayRiseBy most old new
 changed_behind most old mid new same may = subst (λ (n : ℕ). MayRiseBy most n new) same may
 
 pub changed_before : (most old mid new : ℕ) → new ≡ mid → MayRiseBy most old mid → MayRiseBy most old new
 changed_before most old mid new same may = subst (λ (n : ℕ). MayRiseBy most old n) (sym same) may
-
-changed_twice : (first second most old mid new : ℕ) → most ≡ first + second → MayRiseBy first old mid → MayRiseBy second mid new → MayRiseBy most old new
-changed_twice first second most old mid new sum a b =
-    let one = a.at_most in
-    let two = b.at_most in
-    let up = a.rises in
-    let more = b.rises in
-    record { rises = omega (arith, up, more); at_most = omega (arith, one, two, sum) }
-
-counted_once : {T E : Type 0} (result : Result T E) (old new : ℕ) → CountsOnce result old new → MayRiseBy 1 old new
-counted_once (Ok done) old new once = record { rises = omega (arith, once); at_most = omega (arith, once) }
-counted_once (Err fault) old new once =
-    let rises = once.rises in
-    let by_one = once.by_one in
-    record { rises = rises; at_most = by_one }
 
 -- ---- the number
 
@@ -80,7 +57,7 @@ with_number tells Move Number (Err halt) moved is = tt
 -- more may be cleared
 pub changes_more : {S R : Type 0} (P : PlatformGhosts S) (Q : PlatformGhosts R) (few most : ℕ) (first first_now : S) (second second_now : R) → few ≤ most → ChangesFew P Q few first first_now second second_now → ChangesFew P Q most first first_now second second_now
 changes_more P Q few most first first_now second second_now less c = record {
-  from = λ told. changed_more few most (P.changes first) (P.changes first_now) less (c.from told);
+  from = λ told. counted_few few most (P.changes first) (P.changes first_now) less (c.from told);
   new = c.new;
   found = c.found;
   written = c.written;
@@ -91,9 +68,9 @@ changes_more P Q few most first first_now second second_now less c = record {
 pub changes_unopened : {S R : Type 0} (P : PlatformGhosts S) (Q : PlatformGhosts R) (first : S) (second second_now : R)
     → (Q.tells → MayRiseBy 2 (Q.changes second) (Q.changes second_now) × (((Q.history second).present.cell ≡ None → ⊥) → Q.changes second_now ≡ Q.changes second)) → ChangesFew P Q 0 first first second second_now
 changes_unopened P Q first second second_now opens = record {
-  from = λ told. changed_not 0 (P.changes first) (P.changes first) refl;
-  new = λ told. changed_more 2 4 (Q.changes second) (Q.changes second_now) (omega arith) (opens told).0;
-  found = λ told full. changed_not 2 (Q.changes second) (Q.changes second_now) ((opens told).1 full);
+  from = λ told. counted_not 0 (P.changes first) (P.changes first) refl;
+  new = λ told. counted_few 2 4 (Q.changes second) (Q.changes second_now) (omega arith) (opens told).0;
+  found = λ told full. counted_not 2 (Q.changes second) (Q.changes second_now) ((opens told).1 full);
   written = λ told root at written. (opens told).1 (λ none. not_empty (Q.history second).present root at none);
   unlike = λ from_told to_told apart. (opens to_told).1 (λ none. not_empty (Q.history second).present apart.1 apart.3 none);
 }
@@ -105,15 +82,15 @@ pub changes_filled : {S R : Type 0} (P : PlatformGhosts S) (Q : PlatformGhosts R
     → (P.tells → P.changes first_now ≡ P.changes first) → (Q.tells → MayRiseBy 2 (Q.changes mid) (Q.changes second_now)) → (Q.tells → (IsTrue is_new → ⊥) × IsWritten target → Q.changes second_now ≡ Q.changes mid)
     → ((AreAlike source.root target.root → ⊥) → (first_now ≡ first) × (second_now ≡ mid)) → ChangesFew P Q 0 first first_now second second_now
 changes_filled P Q first first_now second mid second_now source target true idle at on opens same changes kept unlike = record {
-  from = λ told. changed_not 0 (P.changes first) (P.changes first_now) (same told);
-  new = λ told. changed_twice 2 2 4 (Q.changes second) (Q.changes mid) (Q.changes second_now) refl (opens told).0 (changes told);
+  from = λ told. counted_not 0 (P.changes first) (P.changes first_now) (same told);
+  new = λ told. counted_then 2 2 4 (Q.changes second) (Q.changes mid) (Q.changes second_now) refl (opens told).0 (changes told);
   found = λ told full. absurd (full (on told).0);
   written = λ told root is written. absurd (not_empty (Q.history second).present root is (on told).0);
   unlike = λ from_told to_told apart. absurd (not_empty (Q.history second).present apart.1 apart.3 (on to_told).0);
 }
 changes_filled P Q first first_now second mid second_now source target false idle at on opens same changes kept unlike = record {
-  from = λ told. changed_not 0 (P.changes first) (P.changes first_now) (same told);
-  new = λ told. changed_twice 2 2 4 (Q.changes second) (Q.changes mid) (Q.changes second_now) refl (opens told).0 (changes told);
+  from = λ told. counted_not 0 (P.changes first) (P.changes first_now) (same told);
+  new = λ told. counted_then 2 2 4 (Q.changes second) (Q.changes mid) (Q.changes second_now) refl (opens told).0 (changes told);
   found = λ told full. changed_behind 2 (Q.changes second) (Q.changes mid) (Q.changes second_now) ((opens told).1 full) (changes told);
   written = λ told root is written.
       let one : target.root ≡ root = one_in (Q.history second).present target.root root (on told) is in
@@ -133,7 +110,7 @@ changes_filled P Q first first_now second mid second_now source target false idl
 pub changes_cleared : {S R T E : Type 0} (P : PlatformGhosts S) (Q : PlatformGhosts R) (result : Result T E) (first mid first_now : S) (second second_now : R) → (P.tells → CountsOnce result (P.changes mid) (P.changes first_now)) → ChangesFew P Q 0 first mid second second_now
     → ChangesFew P Q 1 first first_now second second_now
 changes_cleared P Q result first mid first_now second second_now once c = record {
-  from = λ told. changed_twice 0 1 1 (P.changes first) (P.changes mid) (P.changes first_now) refl (c.from told) (counted_once result (P.changes mid) (P.changes first_now) (once told));
+  from = λ told. counted_then 0 1 1 (P.changes first) (P.changes mid) (P.changes first_now) refl (c.from told) (counted_once result (P.changes mid) (P.changes first_now) (once told));
   new = c.new;
   found = c.found;
   written = c.written;
@@ -153,9 +130,9 @@ changes_looked P Q clears first mid first_now second second_now looks c = record
 -- that came to nothing
 pub changes_stopped : {S R : Type 0} (P : PlatformGhosts S) (Q : PlatformGhosts R) (clears : ℕ) (first first_now : S) (second : R) → Looks P first first_now → ChangesFew P Q clears first first_now second second
 changes_stopped P Q clears first first_now second looks = record {
-  from = λ told. changed_not clears (P.changes first) (P.changes first_now) (looks.changes told);
-  new = λ told. changed_not 4 (Q.changes second) (Q.changes second) refl;
-  found = λ told full. changed_not 2 (Q.changes second) (Q.changes second) refl;
+  from = λ told. counted_not clears (P.changes first) (P.changes first_now) (looks.changes told);
+  new = λ told. counted_not 4 (Q.changes second) (Q.changes second) refl;
+  found = λ told full. counted_not 2 (Q.changes second) (Q.changes second) refl;
   written = λ told root is written. refl;
   unlike = λ from_told to_told apart. refl;
 }

@@ -1,5 +1,6 @@
 -- How often a line syncs all pages, or replaces the root record, at most.
 use Rattle.std.proofs.Common.{◌≡◌, ◌≤◌, ◌+◌, ℕ, List, Result, Ok, Err, sym, ap, subst, arith}
+use Rattle.sdbt_base.proofs.RiseLaws.{counted_not}
 use Rattle.sdbt_base.specs.Rises.{MayRiseBy}
 use Rattle.platform.specs.declared.platforms.Platform.{Ghosts as PlatformGhosts}
 use Rattle.device_session.specs.Sessions.{Session}
@@ -14,10 +15,6 @@ use Rattle.volume_lines.specs.declared.replies.Reply.{Reply as Given}
 use Rattle.volume_desk.specs.Syncs.{changes_for, changes_in, changes_with}
 use Rattle.volume_desk.specs.Turns.{commit_reply, destroy_reply}
 
--- a count that stayed
-pub changed_not : (most old new : ℕ) → new ≡ old → MayRiseBy most old new
-changed_not most old new same = record { rises = omega (arith, same); at_most = omega (arith, same) }
-
 -- and what it did behind that
 pub changed_behind : (most old mid new : ℕ) → mid ≡ old → MayRiseBy most mid new → MayRiseBy most old new
 changed_behind most old mid new same may = subst (λ (n : ℕ). MayRiseBy most n new) same may
@@ -29,7 +26,7 @@ pub commit_changes : {S R W : Type 0} (P : PlatformGhosts S) (platform platform_
 commit_changes P platform platform_now tape tape_now ledger ledger_now session now (commits.Committed number) given buffer answers is may =
     subst (λ (r : Given). MayRiseBy (changes_in Commit buffer (Ok r)) (P.changes platform) (P.changes platform_now)) (sym is) may
 commit_changes P platform platform_now tape tape_now ledger ledger_now session now (commits.Full needed free) given buffer answers is may =
-    subst (λ (r : Given). MayRiseBy (changes_in Commit buffer (Ok r)) (P.changes platform) (P.changes platform_now)) (sym is) (changed_not 0 (P.changes platform) (P.changes platform_now) (ap P.changes answers.same.1))
+    subst (λ (r : Given). MayRiseBy (changes_in Commit buffer (Ok r)) (P.changes platform) (P.changes platform_now)) (sym is) (counted_not 0 (P.changes platform) (P.changes platform_now) (ap P.changes answers.same.1))
 
 pub destroy_changes : {S R W : Type 0} (P : PlatformGhosts S) (platform platform_now : S) (tape tape_now : R) (ledger ledger_now : W) (session now : Session) (reply : CommitReply) (given : Given) (name buffer : List ℕ)
     → AnswersReply P platform platform_now tape tape_now ledger ledger_now session now reply → given ≡ destroy_reply reply → MayRiseBy 2 (P.changes platform) (P.changes platform_now)
@@ -37,7 +34,7 @@ pub destroy_changes : {S R W : Type 0} (P : PlatformGhosts S) (platform platform
 destroy_changes P platform platform_now tape tape_now ledger ledger_now session now (commits.Committed number) given name buffer answers is may =
     subst (λ (r : Given). MayRiseBy (changes_in (Destroy name) buffer (Ok r)) (P.changes platform) (P.changes platform_now)) (sym is) may
 destroy_changes P platform platform_now tape tape_now ledger ledger_now session now (commits.Full needed free) given name buffer answers is may =
-    subst (λ (r : Given). MayRiseBy (changes_in (Destroy name) buffer (Ok r)) (P.changes platform) (P.changes platform_now)) (sym is) (changed_not 0 (P.changes platform) (P.changes platform_now) (ap P.changes answers.same.1))
+    subst (λ (r : Given). MayRiseBy (changes_in (Destroy name) buffer (Ok r)) (P.changes platform) (P.changes platform_now)) (sym is) (counted_not 0 (P.changes platform) (P.changes platform_now) (ap P.changes answers.same.1))
 
 pub changes_as : (old new : ℕ) (line was : Parsed) (before buffer : List ℕ) (answer : Result Given DeviceStop) → line ≡ was → MayRiseBy (changes_in (asked was before) buffer answer) old new → MayRiseBy (changes_in (asked line before) buffer answer) old new
 changes_as old new line was before buffer answer is may = subst (λ (l : Parsed). MayRiseBy (changes_in (asked l before) buffer answer) old new) (sym is) may

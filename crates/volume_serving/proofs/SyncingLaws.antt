@@ -1,5 +1,6 @@
 -- How often lines sync that are handled one after another.
 use Rattle.std.proofs.Common.{◌≡◌, ◌≤◌, ◌+◌, ℕ, List, [], ◌∷◌, ◌++◌, length, inl, inr, refl, sym, subst, arith}
+use Rattle.sdbt_base.proofs.RiseLaws.{counted_few, counted_then}
 use Rattle.sdbt_base.specs.Rises.{MayRiseBy}
 use Rattle.volume_lines.specs.Grammar.{IsBad, Spells}
 use Rattle.volume_lines.specs.Lines.{Line}
@@ -8,20 +9,6 @@ use Rattle.volume_lines.proofs.LineLaws.{one_thing}
 use Rattle.volume_desk.specs.Syncs.{changes_for, changes_with}
 use Rattle.volume_desk.proofs.SyncLaws.{changed_behind, changed_not}
 use Rattle.volume_serving.specs.Syncing.{AreChanging, ChangesFew}
-
-changed_more : (few most old new : ℕ) → few ≤ most → MayRiseBy few old new → MayRiseBy most old new
-changed_more few most old new less may =
-    let rises = may.rises in
-    let at_most = may.at_most in
-    record { rises = rises; at_most = omega (arith, at_most, less) }
-
-changed_then : (first second most old mid new : ℕ) → most ≡ first + second → MayRiseBy first old mid → MayRiseBy second mid new → MayRiseBy most old new
-changed_then first second most old mid new sum a b =
-    let up = a.rises in
-    let more = b.rises in
-    let one = a.at_most in
-    let two = b.at_most in
-    record { rises = omega (arith, up, more); at_most = omega (arith, one, two, sum) }
 
 -- ---- lines behind others, and more of them
 
@@ -61,12 +48,12 @@ few_nothing here most none = changed_not most here here refl
 pub few_then : (old mid new : ℕ) (lines more : List (List ℕ)) (replies others : List Reply) → length replies ≡ length lines → ChangesFew old mid lines replies → ChangesFew mid new more others → ChangesFew old new (lines ++ more) (replies ++ others)
 few_then old mid new lines more replies others same one two most h =
     let p = parted lines more replies others most same h in
-    changed_then p.first p.second most old mid new p.sum (one p.first p.front) (two p.second p.behind)
+    counted_then p.first p.second most old mid new p.sum (one p.first p.front) (two p.second p.behind)
 
 pub few_longer : (old new : ℕ) (lines more : List (List ℕ)) (replies : List Reply) → ChangesFew old new lines replies → ChangesFew old new (lines ++ more) replies
 few_longer old new lines more replies few most h =
     let p = longer lines more replies most h in
-    changed_more p.0 most old new p.2 (few p.0 p.1)
+    counted_few p.0 most old new p.2 (few p.0 p.1)
 
 -- behind calls that sync nothing
 pub few_behind : (old mid new : ℕ) (lines : List (List ℕ)) (replies : List Reply) → mid ≡ old → ChangesFew mid new lines replies → ChangesFew old new lines replies
@@ -80,7 +67,7 @@ few_line old new line it reply spelled may most (inl (bad, rest)) = absurd (bad 
 few_line old new line it reply spelled may most (inr (other, reads, others, none, is)) =
     let same : other ≡ it = one_thing line other it reads spelled in
     let sum : most ≡ changes_with it reply + others = subst (λ (l : Line). most ≡ changes_with l reply + others) same is in
-    changed_more (changes_with it reply) most old new (omega (arith, sum)) may
+    counted_few (changes_with it reply) most old new (omega (arith, sum)) may
 
 -- cut short
 pub few_cut : (old new : ℕ) (line : List ℕ) (it : Line) → Spells line it → MayRiseBy (changes_for it) old new → ChangesFew old new (line ∷ []) []

@@ -1,4 +1,5 @@
 use Rattle.std.proofs.Common.{◌≡◌, ◌*◌, ◌∙◌, ℕ, [], Option, None, true, false, refl, sym, subst, arith, ap}
+use Rattle.sdbt_base.proofs.RiseLaws.{counted_few, counted_not}
 use Rattle.nbd_lang.specs.Requests.{bytes_behind}
 use Rattle.session_calls.proofs.CarryLaws.{carries_along, carries_end, carries_going}
 use Rattle.device_session.specs.Open.{blocks_of}
@@ -13,7 +14,7 @@ use Rattle.nbd_core.proofs.ReadLaws.{reads_refused}
 use Rattle.nbd_core.proofs.ShortLaws.{blocks_spend, flush_spends}
 use Rattle.nbd_core.proofs.TurnLaws.{blocks_halted, blocks_performed, flush_performed}
 use Rattle.nbd_core.specs.Turns.{ComesTo, MayHalt}
-use Rattle.nbd_core.proofs.ChangeLaws.{changes_is, rises_none, rises_within}
+use Rattle.nbd_core.proofs.ChangeLaws.{changes_is}
 use Rattle.nbd_lang.specs.declared.requests.RequestKind.TheVariants.{Flush}
 use Rattle.nbd_core.proofs.KeepLaws.{keeps_as, keeps_same, room_refused}
 use Rattle.nbd_core.proofs.serving.perform.Goals as goal
@@ -120,13 +121,13 @@ pub returns-then-is_flush-clause-changes : goal.returns-then-is_flush-clause-cha
 returns-then-is_flush-clause-changes g c told =
     let both = c.if-is_flush.ensures.0 refl in
     let whole = ap (λ (s : ℕ). refusal s c.args.request.now) (size_of_session c.args.first _ c.blocks-2.ensures) ∙ sym c.refusal-refused.ensures ∙ both.1 in
-    rises_within 2 _ _ _ (omega (arith, changes_is _ c.args.request.now Flush whole both.0)) (c.flush.ensures.changes told)
+    counted_few 2 _ _ _ (omega (arith, changes_is _ c.args.request.now Flush whole both.0)) (c.flush.ensures.changes told)
 
 pub returns-in-Ok-clause-changes : goal.returns-in-Ok-clause-changes
-returns-in-Ok-clause-changes g c told = rises_none _ _ _ (c.in-Ok.ensures.along.changes told)
+returns-in-Ok-clause-changes g c told = counted_not _ _ _ (c.in-Ok.ensures.along.changes told)
 
 pub returns-in-Err-clause-changes : goal.returns-in-Err-clause-changes
-returns-in-Err-clause-changes g c told = rises_none _ _ _ (c.in-Err.ensures.along.changes told)
+returns-in-Err-clause-changes g c told = counted_not _ _ _ (c.in-Err.ensures.along.changes told)
 
 pub returns-then-is_flush-clause-keeps : goal.returns-then-is_flush-clause-keeps
 returns-then-is_flush-clause-keeps g c = keeps_same _ _ _ _ _ refl refl

@@ -1,4 +1,5 @@
 use Rattle.std.proofs.Common.{◌≡◌, inl, inr, ℕ, suc, ◌+◌, ◌≤◌, ◌^◌, List, [], ◌++◌, append-nil, length, refl, sym, ap, subst, ◌∙◌, arith, rules}
+use Rattle.sdbt_base.proofs.RiseLaws.{counted_once}
 use Rattle.platform.specs.Image.{all_synced}
 use Rattle.platform.proofs.Moments.{whole-now}
 use Rattle.root_codec.specs.declared.root.Root.{Root}
@@ -12,7 +13,7 @@ use Rattle.shadow_commit.proofs.SealLaws.{child_count}
 use Rattle.shadow_commit.specs.Ready.{CanSealTop, IsNextRoot}
 use Rattle.shadow_commit.proofs.KeyLaws.{node_keys}
 use Rattle.shadow_commit.proofs.OrderLaws.{node_in_order}
-use Rattle.shadow_commit.proofs.StepLaws.{grown_level, seals_grown, beside_call, beside_then, beside_unsynced, counted_once, adds_stops, stops_none, stops_as}
+use Rattle.shadow_commit.proofs.StepLaws.{grown_level, seals_grown, beside_call, beside_then, beside_unsynced, adds_stops, stops_none, stops_as}
 use Rattle.shadow_commit.proofs.ReadyLaws.{root_twig, can_root, top_low, stands_with, next_fits, one_more}
 use Rattle.shadow_commit.proofs.preparing.seal_all.Given.{Over}
 use Rattle.shadow_commit.proofs.preparing.seal_all.Goals.{After-sync}

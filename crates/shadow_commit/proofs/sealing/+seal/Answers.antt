@@ -18,6 +18,7 @@ use Rattle.page_store.specs.Buffer.{Held}
 use Rattle.sdbt_base.proofs.FaultLaws.{tells_then, tells_on}
 use Rattle.page_store.specs.declared.refusals.AppendFault.TheVariants.{TapeFault, PlatformFault}
 use Rattle.std.specs.Prelude.{is_err}
+use Rattle.sdbt_base.proofs.RiseLaws.{counted_not}
 use Rattle.btree_twigs.specs.declared.twigs.Child.{Child}
 use Rattle.btree_twigs.specs.Stubs.{children_of, sum_by, nodes, stubs, stubs_by, stubs_below, low_of}
 use Rattle.btree_twigs.specs.Shape.{EachBy, IsChild}
@@ -30,7 +31,7 @@ use Rattle.shadow_commit.specs.Handing.{Adds, Stops}
 use Rattle.btree_update.specs.Held.{bound, AreBelow}
 use Rattle.shadow_commit.proofs.SealLaws.{grows_by, keeps_front, entries_are, children_count, each_snoc, node_fits, fits_by, version_is}
 use Rattle.shadow_commit.proofs.CachingLaws.{sealed_then}
-use Rattle.shadow_commit.proofs.StepLaws.{adds_none, adds_as, adds_then, adds_page, grown_at, kept_size, can_below, seals_grown, seals_kept, loop_child, can_child, end_at, beside_start, beside_call, beside_then, fits_as, body_as, adds_stops, stops_as, stops_none, stops_one, named_key, fault_cases, grown_level, level_within, counted_not}
+use Rattle.shadow_commit.proofs.StepLaws.{adds_none, adds_as, adds_then, adds_page, grown_at, kept_size, can_below, seals_grown, seals_kept, loop_child, can_child, end_at, beside_start, beside_call, beside_then, fits_as, body_as, adds_stops, stops_as, stops_none, stops_one, named_key, fault_cases, grown_level, level_within}
 use Rattle.shadow_commit.proofs.sealing.+seal.Goals as goal
 
 pub seal_child-kept_entry-requires-clause-version : goal.seal_child-kept_entry-requires-clause-version

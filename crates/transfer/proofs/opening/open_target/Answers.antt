@@ -1,10 +1,11 @@
 use Rattle.std.proofs.Common.{◌≡◌, ◌≤◌, ◌+◌, ◌∙◌, Ok, refl, ap, arith}
 use Rattle.std.proofs.lemmas.Result.{IfOk-weaker}
+use Rattle.sdbt_base.proofs.RiseLaws.{counted_not}
 use Rattle.platform.specs.Image.{Image}
 use Rattle.device_session.specs.Reading.{room_of}
 use Rattle.transfer.specs.Counts.{counts}
 use Rattle.transfer.specs.declared.opening.Target.{Target}
-use Rattle.transfer.proofs.ChangesLaws.{changed_behind, changed_not}
+use Rattle.transfer.proofs.ChangesLaws.{changed_behind}
 use Rattle.transfer.proofs.BlameLaws.{blames_done, blames_then, of_platform, to_quiet, to_stopped}
 use Rattle.transfer.proofs.HaltLaws.{mount_to}
 use Rattle.transfer.proofs.LookedLaws.{there_found, there_none, there_stop}
@@ -116,7 +117,7 @@ returns-in-Err-clause-looks g c told =
 pub returns-in-Ok-Some-clause-changes : goal.returns-in-Ok-Some-clause-changes
 returns-in-Ok-Some-clause-changes g c told =
     let same = c.mount_session.ensures.looks.changes told in
-    (changed_not 2 _ _ same, λ full. same)
+    (counted_not 2 _ _ same, λ full. same)
 
 pub returns-in-Ok-None-clause-changes : goal.returns-in-Ok-None-clause-changes
 returns-in-Ok-None-clause-changes g c told = (
@@ -127,4 +128,4 @@ returns-in-Ok-None-clause-changes g c told = (
 pub returns-in-Err-clause-changes : goal.returns-in-Err-clause-changes
 returns-in-Err-clause-changes g c told =
     let same = c.mount_session.ensures.looks.changes told in
-    (changed_not 2 _ _ same, λ full. same)
+    (counted_not 2 _ _ same, λ full. same)

@@ -1,6 +1,7 @@
 use Rattle.session_calls.proofs.CarryLaws.{carries_along, carries_end, carries_then}
 use Rattle.std.proofs.Common.{◌≡◌, ◌-◌, ◌*◌, ℕ, List, Some, Err, ap, subst, length, arith}
 use Rattle.std.specs.FinMap as maps
+use Rattle.sdbt_base.proofs.RiseLaws.{counted_not}
 use Rattle.sdbt_base.specs.Arrays.{Session as OpenSession, mounted, session_on}
 use Rattle.device_session.specs.Open.{needed_by}
 use Rattle.device_session.proofs.CountLaws.{needs_none}
@@ -9,7 +10,7 @@ use Rattle.device_course.proofs.MadeLaws.{made_kept}
 use Rattle.transfer.specs.Copies.{copied}
 use Rattle.transfer.specs.Moving.{IsShort}
 use Rattle.transfer.proofs.FillLaws.{reaches_blank, reaches_committed, reaches_since, short_not_copy}
-use Rattle.transfer.proofs.ChangesLaws.{changed_behind, changed_not}
+use Rattle.transfer.proofs.ChangesLaws.{changed_behind}
 use Rattle.transfer.proofs.BlameLaws.{blames_as, blames_then}
 use Rattle.transfer.proofs.HaltLaws.{behind_commit_all, halted, meets_commit_all, meets_there}
 use Rattle.transfer.proofs.NoneLaws.{unwritten_there}
@@ -24,7 +25,7 @@ returns-in_err-copy_blocks-clause-both g c = rw (halted c.from_residual.result c
   reads = (omega arith, omega arith);
   from = λ any. c.copy_blocks.ensures.from any;
   reads_to = c.copy_blocks.ensures.to.reads;
-  changes = λ told. changed_not 2 _ _ (c.copy_blocks.ensures.to.changes told);
+  changes = λ told. counted_not 2 _ _ (c.copy_blocks.ensures.to.changes told);
   unchanged = λ told never. absurd never;
   number = λ told. tt;
   to = carries_end _ _ _ _ _ _ _ (λ going. tt)

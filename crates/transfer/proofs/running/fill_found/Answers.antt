@@ -8,13 +8,14 @@ use Rattle.session_calls.proofs.CarryLaws.{carries_along, carries_end, carries_t
 use Rattle.transfer.proofs.HaltLaws.{halted, meets_where, meets_where_all}
 use Rattle.transfer.proofs.NoneLaws.{none_listed}
 use Rattle.transfer.proofs.ReadsLaws.{found_compared, found_copied}
-use Rattle.transfer.proofs.ChangesLaws.{changed_behind, changed_not, still_number}
+use Rattle.transfer.proofs.ChangesLaws.{changed_behind, still_number}
 use Rattle.transfer.proofs.BlameLaws.{blames_as, blames_done, blames_halt, blames_then}
 use Rattle.transfer.proofs.FillLaws.{fresh_blank, number_at, reaches_halted, reaches_other, reaches_since, reaches_still, stale_other}
 use Rattle.transfer.proofs.RefusalLaws.{at_then, reads_at, reads_behind}
 use Rattle.transfer.proofs.running.fill_found.Goals as goal
 use Rattle.transfer.proofs.WholeLaws.{copied_read, one_read, pages_same, reads_back}
 use Rattle.std.proofs.Common.{refl}
+use Rattle.sdbt_base.proofs.RiseLaws.{counted_not}
 use Rattle.transfer.specs.Whole.{HasNone, SeesAll}
 use Rattle.transfer.proofs.WholeLaws.{fills_copied, fills_same}
 
@@ -25,7 +26,7 @@ returns-in_err-has-clause-both g c = rw (halted c.from_residual.result c.in_err-
   reads = λ idle. found_compared _ _ _ _ _ _ c.has_all.ensures.both.reads;
   from = λ any. c.has_all.ensures.both.from any;
   reads_to = (c.has_all.ensures.both.to no_draw).reads;
-  changes = λ told. changed_not 2 _ _ ((c.has_all.ensures.both.to no_draw).changes told);
+  changes = λ told. counted_not 2 _ _ ((c.has_all.ensures.both.to no_draw).changes told);
   unchanged = λ told written. (c.has_all.ensures.both.to no_draw).changes told;
   number = λ told. tt;
   to = carries_end _ _ _ _ _ _ _ (λ going. tt)
@@ -42,7 +43,7 @@ returns-then-has-clause-both g c = record {
   reads = λ idle. found_compared _ _ _ _ _ _ c.has_all.ensures.both.reads;
   from = λ any. c.has_all.ensures.both.from any;
   reads_to = (c.has_all.ensures.both.to no_draw).reads;
-  changes = λ told. changed_not 2 _ _ ((c.has_all.ensures.both.to no_draw).changes told);
+  changes = λ told. counted_not 2 _ _ ((c.has_all.ensures.both.to no_draw).changes told);
   unchanged = λ told written. (c.has_all.ensures.both.to no_draw).changes told;
   number = λ told. still_number (g.Q.Platform.history c.args.to.now) (g.Q.Platform.history c.has_all.new.to) c.args.found c.number-number.result ((c.has_all.ensures.both.to no_draw).cell told) (c.requires.target.mounted told) c.number-number.ensures;
   to = carries_end _ _ _ _ _ _ _ (λ going. tt)
@@ -90,7 +91,7 @@ returns-else-fresh-clause-both g c = record {
   reads = λ idle. found_compared _ _ _ _ _ _ c.has_all.ensures.both.reads;
   from = λ any. c.has_all.ensures.both.from any;
   reads_to = (c.has_all.ensures.both.to no_draw).reads;
-  changes = λ told. changed_not 2 _ _ ((c.has_all.ensures.both.to no_draw).changes told);
+  changes = λ told. counted_not 2 _ _ ((c.has_all.ensures.both.to no_draw).changes told);
   unchanged = λ told written. (c.has_all.ensures.both.to no_draw).changes told;
   number = λ told. tt;
   to = carries_end _ _ _ _ _ _ _ (λ going. tt)

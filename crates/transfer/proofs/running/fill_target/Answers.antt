@@ -1,5 +1,6 @@
 use Rattle.std.proofs.Common.{◌≡◌, ◌≤◌, ◌+◌, ◌-◌, ◌∙◌, inl, inr, Some, false, true, refl, sym, ap, subst, length, ◌<◌, ℕ, List, arith}
 use Rattle.std.specs.Prelude.{All}
+use Rattle.sdbt_base.proofs.RiseLaws.{counted_not}
 use Rattle.device_session.specs.Open.{blocks_of}
 use Rattle.sdbt_base.specs.Arrays.{mounted, session_on}
 use Rattle.platform.specs.Image.{Image}
@@ -9,7 +10,6 @@ use Rattle.device_course.proofs.MadeLaws.{made_kept}
 use Rattle.session_calls.proofs.AlongLaws.{along_start, along_then}
 use Rattle.session_calls.proofs.CallLaws.{no_draw}
 use Rattle.session_calls.proofs.CarryLaws.{carries_end, carries_start}
-use Rattle.transfer.proofs.ChangesLaws.{changed_not}
 use Rattle.transfer.proofs.BlameLaws.{blames_as, blames_halt, blames_then}
 use Rattle.transfer.proofs.HaltLaws.{behind_from, halted, meets_from, meets_where_all}
 use Rattle.transfer.proofs.ReadsLaws.{filled_found, filled_new, filled_none, filled_walked}
@@ -27,7 +27,7 @@ returns-then-not-is_alike-clause-both g c = record {
   most = 0;
   reads = λ idle. filled_none _ _ _ _ _ _ _;
   reads_to = λ told. omega arith;
-  changes = λ told. changed_not 2 _ _ refl;
+  changes = λ told. counted_not 2 _ _ refl;
   unchanged = λ told kept. refl;
   number = λ told. tt;
   from = λ any. along_start g.P.Platform c.args.from.now any c.args.source.now c.requires.source.is_open;
@@ -43,7 +43,7 @@ returns-in_err-blocks-clause-both g c = rw (halted c.from_residual.result c.in_e
   most = 0;
   reads = λ idle. filled_walked _ _ _ _ _ _ _ (g.P.Platform.reads c.list_source.new.from - g.P.Platform.reads c.args.from.now) c.list_source.ensures.walks;
   reads_to = λ told. omega arith;
-  changes = λ told. changed_not 2 _ _ refl;
+  changes = λ told. counted_not 2 _ _ refl;
   unchanged = λ told kept. refl;
   number = λ told. tt;
   from = λ any. c.list_source.ensures.along any;

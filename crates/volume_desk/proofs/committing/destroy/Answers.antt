@@ -1,4 +1,5 @@
 use Rattle.std.proofs.Common.{◌+◌, Ok, Err, arith}
+use Rattle.sdbt_base.proofs.RiseLaws.{counted_not}
 use Rattle.platform.proofs.Moments.{During-now}
 use Rattle.device_terms.specs.Served.{IsServedImage}
 use Rattle.device_course.specs.States.{around}
@@ -17,7 +18,7 @@ use Rattle.volume_desk.proofs.DrawingLaws.{destroy_drew, short_head, spends_some
 use Rattle.volume_desk.specs.Reads.{reads_out}
 use Rattle.volume_desk.proofs.ReadLaws.{destroy_reads, takes_none_reads, takes_some_reads}
 use Rattle.volume_desk.specs.Syncs.{changes_in}
-use Rattle.volume_desk.proofs.SyncLaws.{changed_behind, changed_not, destroy_changes}
+use Rattle.volume_desk.proofs.SyncLaws.{changed_behind, destroy_changes}
 use Rattle.volume_desk.proofs.TurnLaws.{changed_served, committed_to, destroy_served, destroy_stopped, stopped_kept, takes_none, takes_some}
 use Rattle.volume_desk.proofs.committing.destroy.Goals as goal
 
@@ -137,10 +138,10 @@ returns-in-Err-commit_session-clause-spends g c buffer =
     omega (arith, taken, c.in-Err-commit_session.ensures.goes.unread told))
 
 pub returns-in-Some-clause-changes : goal.returns-in-Some-clause-changes
-returns-in-Some-clause-changes g c told buffer = changed_not (changes_in (Destroy c.args.name.now) buffer (Ok c.in-Some.reply)) _ _ (c.in-Ok.ensures.calls.along.changes told)
+returns-in-Some-clause-changes g c told buffer = counted_not (changes_in (Destroy c.args.name.now) buffer (Ok c.in-Some.reply)) _ _ (c.in-Ok.ensures.calls.along.changes told)
 
 pub returns-in-Err-clause-changes : goal.returns-in-Err-clause-changes
-returns-in-Err-clause-changes g c told buffer = changed_not 2 _ _ (c.in-Err.ensures.calls.along.changes told)
+returns-in-Err-clause-changes g c told buffer = counted_not 2 _ _ (c.in-Err.ensures.calls.along.changes told)
 
 pub returns-in-Ok-commit_session-clause-changes : goal.returns-in-Ok-commit_session-clause-changes
 returns-in-Ok-commit_session-clause-changes g c told buffer =

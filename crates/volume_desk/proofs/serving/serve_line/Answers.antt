@@ -1,4 +1,5 @@
 use Rattle.std.proofs.Common.{◌+◌}
+use Rattle.sdbt_base.proofs.RiseLaws.{counted_not}
 use Rattle.device_session.specs.Open.{blocks_of}
 use Rattle.session_calls.specs.Damage.{IsMounted}
 use Rattle.volume_lines.specs.Lines.{asked}
@@ -8,7 +9,7 @@ use Rattle.volume_desk.specs.Turns.{goes_on}
 use Rattle.volume_desk.proofs.DrawingLaws.{spends_as}
 use Rattle.volume_lines.specs.declared.lines.Line.TheVariants as parsed
 use Rattle.session_calls.proofs.CarryLaws.{carries_along, carries_end, carries_going}
-use Rattle.volume_desk.proofs.SyncLaws.{changed_not, changes_as}
+use Rattle.volume_desk.proofs.SyncLaws.{changes_as}
 use Rattle.volume_desk.proofs.CauseLaws.{along_as, stops_known}
 use Rattle.volume_desk.proofs.DoneLaws.{answered_along}
 use Rattle.volume_desk.proofs.TurnLaws.{changed_served, serves_as, stopped_kept}
@@ -83,7 +84,7 @@ pub returns-in-Destroy-clause-changes : goal.returns-in-Destroy-clause-changes
 returns-in-Destroy-clause-changes g c told = changes_as _ _ c.args.line.now (parsed.Destroy c.in-Destroy.name) c.args.desk.now.buffer _ (answer_in c.destroy.result) c.in-Destroy.is (c.destroy.ensures.changes told c.args.desk.now.buffer)
 
 pub returns-in-Ok-clause-changes : goal.returns-in-Ok-clause-changes
-returns-in-Ok-clause-changes g c told = changed_not _ _ _ (c.serve_blocks.ensures.calls.along.changes told)
+returns-in-Ok-clause-changes g c told = counted_not _ _ _ (c.serve_blocks.ensures.calls.along.changes told)
 
 pub returns-in-Err-clause-changes : goal.returns-in-Err-clause-changes
-returns-in-Err-clause-changes g c told = changed_not _ _ _ (c.serve_blocks.ensures.calls.along.changes told)
+returns-in-Err-clause-changes g c told = counted_not _ _ _ (c.serve_blocks.ensures.calls.along.changes told)
