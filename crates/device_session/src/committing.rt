@@ -82,7 +82,7 @@ impl Session {
         ensures { TakesUp self.old self.old.cache root self.new }
     {
         self.reader.cache.forget_all(self.grove.gone());
-        self.grove.clear();
+        self.grove.wipe();
         self.grove = Grove::of(self.alloc, &root);
         self.root = root;
         self.is_touched = false;

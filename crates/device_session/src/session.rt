@@ -17,7 +17,6 @@ use std::marker::Model;
 ///
 /// Each call of a session wants a platform that has at least the pages that the one had on which it was
 /// mounted or last called. After a refused `read`, `write` or `trim` its array is unchanged.
-#[derive(Drop)]
 pub struct Session {
     // the root record that the session was opened on, or that its last commit made
     pub(crate) root: Root,
@@ -125,11 +124,26 @@ impl Session {
     {
         self.reader.wipe();
         self.reader.cache.clear();
-        self.grove.clear();
+        self.grove.wipe();
     }
 
     /// Lets a session go in which nothing is left.
     pub fn let_go(self)
         requires { HasNothing self }
     {}
+}
+
+/// A session that is let go anywhere is wiped: its tree can't be let go with a key in it.
+impl Drop for Session {
+    fn drop(mut self) {
+        self.wipe();
+        let Session {
+            root: _,
+            mapped: _,
+            is_touched: _,
+            grove: _,
+            reader: _,
+            alloc: _,
+        } = self;
+    }
 }

@@ -11,6 +11,6 @@ returns c = rw (← c.self.view_is) (record {
   untouched = refl;
   tree = bare_tree _ _ c.of.ensures.sound c.of.ensures.size c.of.ensures.top c.of.ensures.lists;
   none_held = c.of.ensures.none_held;
-  cached = c.wipe.ensures.cache ∙ c.forget_all.ensures ∙ ap (λ gone. forgotten gone (the_view c.self.inside).cache) c.gone.ensures;
-  wiped = c.wipe.ensures.wiped;
+  cached = c.wipe-2.ensures.cache ∙ c.forget_all.ensures ∙ ap (λ gone. forgotten gone (the_view c.self.inside).cache) c.gone.ensures;
+  wiped = c.wipe-2.ensures.wiped;
 })
