@@ -5,6 +5,7 @@ use Rattle.std.proofs.lemmas.Bool.{cases_Bool, cases_lt}
 use Rattle.sdbt_base.specs.Arrays.{Blocks, Device, Session as OpenSession, State, closed, committed, committed_if, mounted}
 use Rattle.sdbt_base.specs.declared.tapes.Tape.{Ghosts as TapeGhosts}
 use Rattle.platform.specs.declared.platforms.Platform.{Ghosts as PlatformGhosts}
+use Rattle.platform.specs.Counts.{MayRiseBy}
 use Rattle.platform.specs.Image.{Image}
 use Rattle.platform.specs.History.{During, History, Turns}
 use Rattle.platform.proofs.Moments.{During-now, LeavesOnly-now, Turns-not}
@@ -21,7 +22,7 @@ use Rattle.device_course.proofs.FitsLaws.{behind_added}
 use Rattle.device_course.proofs.MadeLaws.{made_none, made_one, made_same, made_stopped, shut, stayed}
 use Rattle.device_session.specs.Holds.{Holds}
 use Rattle.device_session.specs.Open.{IsOpen, is_touched, needed_by, number_of}
-use Rattle.device_session.specs.Publishing.{HasRaised, IsCommitCause}
+use Rattle.device_session.specs.Publishing.{HasRaised, IsCommitCause, most_commit}
 use Rattle.device_session.specs.Replies.{device_after}
 use Rattle.device_session.specs.Sessions.{Session}
 use Rattle.device_session.specs.declared.refusals.CommitFault.{CommitFault}
@@ -31,7 +32,7 @@ use Rattle.device_session.specs.declared.refusals.CommitReply.TheVariants as rep
 use Rattle.device_session.proofs.CountLaws.{needs_none, needs_some}
 use Rattle.sdbt_base.specs.Counts.{Counts}
 use Rattle.session_calls.specs.Blame.{HasCause}
-use Rattle.session_calls.specs.Commits.{AnswersReply, CommitLeads, DrewForPages, HasNumber, LeavesLedger, LeftAt, ReplyLeads, stop_of_fault}
+use Rattle.session_calls.specs.Commits.{AnswersReply, CommitLeads, DrewForPages, HasNumber, LeavesLedger, LeftAt, ReplyLeads, most_stopped, stop_of_fault}
 use Rattle.session_calls.specs.declared.stops.DeviceStop.{DeviceStop}
 use Rattle.session_calls.specs.declared.stops.DeviceStop.TheVariants as stops
 use Rattle.session_calls.proofs.StateLaws.{at_array}
@@ -51,6 +52,13 @@ fault_left P T platform platform_now tape tape_now ledger ledger_now faults.Plat
 fault_left P T platform platform_now tape tape_now ledger ledger_now faults.TapeFault before now cause = cause.1
 fault_left P T platform platform_now tape tape_now ledger ledger_now faults.LedgerFault before now cause = cause.1
 fault_left P T platform platform_now tape tape_now ledger ledger_now faults.Memory before now cause = (cause.0, cause.1)
+
+-- how often it synced and replaced the root record
+pub fault_changes : (fault : CommitFault) (old new : ℕ) → MayRiseBy (most_commit (Err fault)) old new → MayRiseBy (most_stopped (stop_of_fault fault)) old new
+fault_changes faults.PlatformFault old new few = few
+fault_changes faults.TapeFault old new few = few
+fault_changes faults.LedgerFault old new few = few
+fault_changes faults.Memory old new few = few
 
 -- and of the ledger
 pub fault_unput : {S R W : Type 0} (P : PlatformGhosts S) (T : TapeGhosts R) (platform platform_now : S) (tape tape_now : R) (ledger ledger_now : W) (fault : CommitFault) (before now : Counts)

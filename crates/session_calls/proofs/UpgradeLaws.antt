@@ -40,7 +40,7 @@ use Rattle.session_calls.proofs.StateLaws.{served_still}
 -- ---- which answer it is
 
 -- an upgrade stops at the page that is named, over more pages too
-stops_there : {S : Type 0} (P : PlatformGhosts S) (platform platform_now : S) (root : Root) (addr : ℕ) → P.tells → length (P.history platform).present.recorded ≡ P.head platform → IsPartly P platform platform_now root
+stops_there : {S : Type 0} (P : PlatformGhosts S) (platform platform_now : S) (root : Root) (addr : ℕ) → P.tells → length (P.history platform).present.recorded ≡ P.head platform → IsPartly P 0 platform platform_now root
     → IsDamaged (P.history platform).present.readable root addr → IsDamagedAt (P.history platform).present addr × IsDamagedAt (P.history platform_now).present addr
 stops_there P platform platform_now root addr told pages partly damaged =
     let old : History = P.history platform in

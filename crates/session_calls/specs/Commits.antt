@@ -8,11 +8,12 @@ use Rattle.sdbt_base.specs.Rises.{MayRiseBy}
 use Rattle.platform.specs.History.{CellStays, During, History, Turns}
 use Rattle.page_store.specs.Keeping.{DrewAll}
 use Rattle.device_terms.specs.Certifying.{PutsSynced}
-use Rattle.device_terms.specs.Effects.{AddsNothing}
+use Rattle.device_terms.specs.Effects.{AddsNothing, ChangesBehind}
 use Rattle.device_course.specs.Keys.{KeepsOn}
 use Rattle.device_course.specs.Marks.{Leaves}
 use Rattle.device_course.specs.States.{IsAt, IsListed}
 use Rattle.device_session.specs.Open.{IsOpen, blocks_of, is_touched, needed_by, number_of, root_of}
+use Rattle.device_session.specs.Publishing.{most_commit}
 use Rattle.device_session.specs.Reading.{room_of}
 use Rattle.device_session.specs.Sessions.{Session}
 use Rattle.device_session.specs.declared.refusals.CommitFault.{CommitFault}
@@ -32,6 +33,20 @@ stop_of_fault faults.Memory = stops.Memory
 stop_of_fault faults.TapeFault = stops.Tape
 stop_of_fault faults.LedgerFault = stops.Ledger
 stop_of_fault faults.PlatformFault = stops.Platform
+
+-- so often a call that stops so syncs and replaces the root record, at most: not at all where it stops before its sync, and where the ledger failed it has only synced
+abbrev pub most_stopped : DeviceStop → ℕ
+most_stopped stops.Platform = 2
+most_stopped stops.Tape = 0
+most_stopped stops.Ledger = 1
+most_stopped stops.BadRoot = 0
+most_stopped (stops.BadRecord addr) = 0
+most_stopped stops.Memory = 0
+
+-- the same of a commit, by its answer
+abbrev pub most_committed : Result Committed DeviceStop → ℕ
+most_committed (Ok done) = most_commit (Ok done.reply)
+most_committed (Err stop) = most_stopped stop
 
 -- a session that comes back is open and on the root record in the cell, with as many blocks, as many of them counted as mapped, and room for as many nodes in its cache
 pub record ComesBack {S : Type 0} (P : PlatformGhosts S) (platform_now : S) (session now : Session) : Type 0 where
@@ -54,7 +69,7 @@ LeavesLedger ledger ledger_now (stops.BadRecord addr) = ⊥
 abbrev pub DrewForPages : {S R : Type 0} → PlatformGhosts S → TapeGhosts R → S → S → R → R → Type 0
 DrewForPages P T platform platform_now tape tape_now = (keys : List (List ℕ)) × (P.head platform_now ≡ P.head platform + length keys) × DrewAll (T.drawn tape) keys (T.drawn tape_now)
 
--- what a commit does to a run, whatever its answer: it adds at most the pages that it needs, and reads none, and syncs once and replaces the root record once at most; keys are kept, and the ledger gets what belongs to the root records that come into the cell, of one
+-- what a commit does to a run, whatever its answer: it adds at most the pages that it needs, and reads none, and syncs once and replaces the root record once at most, neither where it is refused before, and not before it added all pages that it needs; keys are kept, and the ledger gets what belongs to the root records that come into the cell, of one
 -- more entry a part only where no session comes back; a stop at a fault came where the count of that object rose; and one that was answered drew as many keys as it added pages
 pub record CommitGoes {S R W : Type 0} (P : PlatformGhosts S) (T : TapeGhosts R) (L : SinkGhosts W) (platform platform_now : S) (tape tape_now : R) (ledger ledger_now : W) (session : Session) (result : Result Committed DeviceStop) : Type 0 where
   pub back : IfOk result (λ done. ComesBack P platform_now session done.session)
@@ -62,7 +77,8 @@ pub record CommitGoes {S R W : Type 0} (P : PlatformGhosts S) (T : TapeGhosts R)
   pub rises : P.head platform ≤ P.head platform_now
   pub adds : P.head platform_now ≤ P.head platform + needed_by session
   pub unread : P.tells → P.reads platform_now ≡ P.reads platform
-  pub changes : P.tells → MayRiseBy 2 (P.changes platform) (P.changes platform_now)
+  pub changes : P.tells → MayRiseBy (most_committed result) (P.changes platform) (P.changes platform_now)
+  pub behind : ChangesBehind P (needed_by session) platform platform_now
   pub keeps : KeepsOn P.tells (T.drawn tape) (T.drawn tape_now) (L.written ledger) (L.written ledger_now) (Some session) (P.history platform) (P.history platform_now) (IsOk result)
       (λ keys. IfOk result (λ done. IsListed (Some done.session) (P.history platform_now).present keys))
   pub blame : IsBlamed (counts (P.faults platform) (T.faults tape) 0 0 (L.faults ledger)) (counts (P.faults platform_now) (T.faults tape_now) 0 0 (L.faults ledger_now)) result

@@ -1,5 +1,5 @@
 -- What an upgrade of the device says, by its answer.
-use Rattle.std.specs.Prelude.{◌≡◌, ◌+◌, ◌-◌, ◌<◌, ◌≤◌, ◌⊎◌, ℕ, List, Option, None, Some, Result, Ok, Err, IfOk, IsOk}
+use Rattle.std.specs.Prelude.{◌≡◌, ◌+◌, ◌-◌, ◌<◌, ◌≤◌, ◌*◌, ◌⊎◌, ℕ, List, length, Option, None, Some, Result, Ok, Err, IfOk, IsOk}
 use Rattle.sdbt_base.specs.Arrays.{Device, State, closed, upgraded}
 use Rattle.sdbt_base.specs.Counts.{counts}
 use Rattle.sdbt_base.specs.declared.sinks.Sink.{Ghosts as SinkGhosts}
@@ -11,13 +11,15 @@ use Rattle.platform.specs.History.{During, Turns}
 use Rattle.root_codec.specs.declared.root.Root.{Root}
 use Rattle.root_codec.specs.RootRecord.{root_bytes}
 use Rattle.page_store.specs.Roots.{IsBadCell}
+use Rattle.btree_walk.specs.Nodes.{Node, NodesOf}
 use Rattle.device_core.specs.Publishing.{IsUnmade}
-use Rattle.device_core.specs.Upgrading.{Begins, IsOn, IsPartly, IsUpgradedRoot, PutsUpgrade, StandsFrom, needed_of_device, needed_of_root}
+use Rattle.device_core.specs.Upgrading.{Begins, IsOn, IsPartly, IsUpgradedRoot, PutsUpgrade, ReadsFew, SpendsUpgrade, StandsFrom, needed_of_device, needed_of_root}
 use Rattle.device_core.specs.declared.refusals.UpgradeRefusal.{UpgradeRefusal}
 use Rattle.device_core.specs.declared.refusals.UpgradeRefusal.TheVariants as upgrade
 use Rattle.device_course.specs.Keys.{KeepsOn}
 use Rattle.device_course.specs.Marks.{Leaves}
 use Rattle.device_course.specs.States.{IsAt, IsListed}
+use Rattle.session_calls.specs.Commits.{most_stopped}
 use Rattle.session_calls.specs.Blame.{IsBlamed}
 use Rattle.session_calls.specs.Damage.{IsDamagedAt}
 use Rattle.session_calls.specs.declared.stops.DeviceStop.{DeviceStop}
@@ -56,8 +58,25 @@ PutsFor written written_now (Err stops.Memory) = written_now ≡ written
 PutsFor written written_now (Err stops.BadRoot) = written_now ≡ written
 PutsFor written written_now (Err (stops.BadRecord addr)) = written_now ≡ written
 
+-- the device was upgraded
+abbrev pub IsUpgraded : Result UpgradeReply DeviceStop → Type 0
+IsUpgraded (Ok (replies.Upgraded number)) = Unit {0}
+IsUpgraded (Ok replies.NoDevice) = ⊥
+IsUpgraded (Ok replies.AlreadyUpgraded) = ⊥
+IsUpgraded (Ok replies.Full) = ⊥
+IsUpgraded (Err stop) = ⊥
+
+-- so often it syncs and replaces the root record, at most: not at all where it is refused before
+abbrev pub most_upgraded : Result UpgradeReply DeviceStop → ℕ
+most_upgraded (Ok (replies.Upgraded number)) = 2
+most_upgraded (Ok replies.NoDevice) = 0
+most_upgraded (Ok replies.AlreadyUpgraded) = 0
+most_upgraded (Ok replies.Full) = 0
+most_upgraded (Err stop) = most_stopped stop
+
 -- what an upgrade does to a run without a session, whatever its answer: it adds at most the pages that it needs; keys are kept, and the ledger gets what belongs to the root record that comes into the
--- cell, and a part of an entry only where it stops; a stop at a fault came where the count of that object rose; and the pages that it needs are added, and all pages synced, before the ledger gets anything; it syncs once and replaces the root record once, at most
+-- cell, and a part of an entry only where it stops; a stop at a fault came where the count of that object rose; and the pages that it needs are added, and all pages synced, before the ledger gets anything; it syncs once and replaces the root record once, at most, and neither where it is refused before; and it
+-- reads, looks and draws no more than one upgrade of the device does
 pub record UpgradeGoes {S R W : Type 0} (P : PlatformGhosts S) (T : TapeGhosts R) (L : SinkGhosts W) (platform platform_now : S) (tape tape_now : R) (ledger ledger_now : W) (result : Result UpgradeReply DeviceStop) : Type 0 where
   pub capacity : P.capacity platform_now ≡ P.capacity platform
   pub rises : P.head platform ≤ P.head platform_now
@@ -66,8 +85,16 @@ pub record UpgradeGoes {S R W : Type 0} (P : PlatformGhosts S) (T : TapeGhosts R
       (λ keys. IfOk result (λ reply. IsListed None (P.history platform_now).present keys))
   pub blame : IsBlamed (counts (P.faults platform) (T.faults tape) 0 0 (L.faults ledger)) (counts (P.faults platform_now) (T.faults tape_now) 0 0 (L.faults ledger_now)) result
   pub synced : PutsUpgrade P platform platform_now ledger ledger_now
-  pub changes : P.tells → MayRiseBy 2 (P.changes platform) (P.changes platform_now)
+  pub changes : P.tells → MayRiseBy (most_upgraded result) (P.changes platform) (P.changes platform_now)
+  pub spends : SpendsUpgrade P T platform platform_now tape tape_now (IsUpgraded result)
   pub puts : PutsFor (L.written ledger) (L.written ledger_now) result
+
+-- an upgrade reads so much: before its first key a look at the cell, once at most, and each node twice at most; and behind it each data record once, too
+abbrev pub ReadsUpgrade : {S : Type 0} → PlatformGhosts S → S → S → Type 0
+ReadsUpgrade P platform platform_now =
+    ReadsFew P platform platform_now
+    ⊎ ((root : Root) × Begins P.tells (P.history platform).present (P.head platform) (P.capacity platform) root
+    × (nodes : List Node) × NodesOf (P.history platform).present.readable root nodes × (P.reads platform_now ≤ P.reads platform + (1 + 2 * length nodes + root.mapped)))
 
 -- an upgrade of the root record that was in the cell, with the next number: the pages that it needs are added, and the one that came into the cell is of version 2 and speaks of all of them
 pub record HasUpgraded {S : Type 0} (P : PlatformGhosts S) (platform platform_now : S) (number : ℕ) : Type 0 where
@@ -93,12 +120,12 @@ abbrev pub StopsUpgrade : {S R : Type 0} → PlatformGhosts S → TapeGhosts R �
 StopsUpgrade P T platform platform_now tape tape_now stops.BadRoot =
     (P.tells → IsBadCell (P.head platform) (P.history platform).present.cell) × IsUnmade P T platform platform_now tape tape_now
 StopsUpgrade P T platform platform_now tape tape_now (stops.BadRecord addr) =
-    ((root : Root) × IsPartly P platform platform_now root)
+    ((root : Root) × IsPartly P 0 platform platform_now root)
     × (P.tells → IsDamagedAt (P.history platform).present addr × IsDamagedAt (P.history platform_now).present addr)
 StopsUpgrade P T platform platform_now tape tape_now stops.Memory =
     ((root : Root) × Begins P.tells (P.history platform).present (P.head platform) (P.capacity platform) root) × IsUnmade P T platform platform_now tape tape_now
-StopsUpgrade P T platform platform_now tape tape_now stops.Tape = (root : Root) × IsPartly P platform platform_now root
-StopsUpgrade P T platform platform_now tape tape_now stops.Ledger = (root : Root) × IsPartly P platform platform_now root
+StopsUpgrade P T platform platform_now tape tape_now stops.Tape = (root : Root) × IsPartly P 0 platform platform_now root
+StopsUpgrade P T platform platform_now tape tape_now stops.Ledger = (root : Root) × IsPartly P 1 platform platform_now root
 StopsUpgrade P T platform platform_now tape tape_now stops.Platform = Unit {0}
 
 abbrev pub AnswersUpgrade : {S R : Type 0} → PlatformGhosts S → TapeGhosts R → S → S → R → R → Result UpgradeReply DeviceStop → Type 0

@@ -1,5 +1,6 @@
 use Rattle.std.proofs.Common.{◌≡◌, ◌-◌, true, Some, Ok, Err, inl, inr, refl, sym, subst, arith}
 use Rattle.std.proofs.lemmas.Bool.{cases_Bool, cases_lt}
+use Rattle.platform.specs.Counts.{MayRiseBy}
 use Rattle.platform.proofs.Moments.{During-now}
 use Rattle.device_terms.specs.Served.{IsServedImage}
 use Rattle.device_course.proofs.KeysLaws.{on_commit}
@@ -8,9 +9,9 @@ use Rattle.device_session.specs.declared.refusals.CommitFault.{CommitFault}
 use Rattle.device_session.specs.declared.refusals.CommitReply.{CommitReply}
 use Rattle.sdbt_base.specs.Counts.{Counts, counts}
 use Rattle.session_calls.specs.Blame.{HasCause}
-use Rattle.session_calls.specs.Commits.{CommitLeads, LeavesLedger, LeftAt}
+use Rattle.session_calls.specs.Commits.{CommitLeads, LeavesLedger, LeftAt, most_stopped}
 use Rattle.session_calls.specs.declared.stops.DeviceStop.{DeviceStop}
-use Rattle.session_calls.proofs.CommitLaws.{commit_behind, fault_blamed, fault_leads, fault_left, fault_unput, reply_answers, reply_drew, reply_leads}
+use Rattle.session_calls.proofs.CommitLaws.{commit_behind, fault_blamed, fault_changes, fault_leads, fault_left, fault_unput, reply_answers, reply_drew, reply_leads}
 use Rattle.session_calls.proofs.committing.commit_session.Goals as goal
 
 pub returns-in-Ok-clause-goes : goal.returns-in-Ok-clause-goes
@@ -31,6 +32,7 @@ returns-in-Ok-clause-goes g c =
       adds = commits.grows.at_most;
       unread = commits.unread;
       changes = commits.changes;
+      behind = commits.behind;
       keeps = on_commit {X = CommitReply} {Y = CommitFault} _ _ _ _ _ (Some c.args.session) c.args.session _ _ _ (Ok c.in-Ok.reply) _ _ _ refl c.requires.open (λ told. (c.requires.mounted told).cell) commits.discloses commits.certifies
           (commit_behind g.P.Platform g.L.Sink.written _ _ _ _ c.args.session g.met.P.Platform.counts_pages c.requires.open (λ e. (c.in-Ok.ensures.idle e).3) commits.synced) (λ going. going) (λ keys done. done);
       blame = record {
@@ -55,7 +57,8 @@ returns-in-Err-clause-goes g c =
       rises = commits.grows.rises;
       adds = commits.grows.at_most;
       unread = commits.unread;
-      changes = commits.changes;
+      changes = λ told. subst (λ (s : DeviceStop). MayRiseBy (most_stopped s) (g.P.Platform.changes c.args.platform.now) (g.P.Platform.changes c.commit.new.platform)) (sym c.stop_of.ensures) (fault_changes c.in-Err.fault _ _ (commits.changes told));
+      behind = commits.behind;
       keeps = on_commit {X = CommitReply} {Y = CommitFault} _ _ _ _ _ (Some c.args.session) c.args.session _ _ _ (Err c.in-Err.fault) _ _ _ refl c.requires.open (λ told. (c.requires.mounted told).cell) commits.discloses commits.certifies
           (commit_behind g.P.Platform g.L.Sink.written _ _ _ _ c.args.session g.met.P.Platform.counts_pages c.requires.open (λ e. (c.in-Err.ensures.idle e).3) commits.synced) (λ going. going) (λ keys done. done);
       blame = record {

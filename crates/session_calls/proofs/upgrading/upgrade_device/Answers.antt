@@ -4,19 +4,19 @@ use Rattle.device_terms.specs.Served.{IsServedImage}
 use Rattle.session_calls.specs.Upgrades.{AnswersUpgrade, UpgradeGoes, UpgradeLeads}
 use Rattle.session_calls.specs.declared.stops.DeviceStop.{DeviceStop}
 use Rattle.session_calls.specs.declared.upgrading.UpgradeReply.{UpgradeReply}
-use Rattle.session_calls.proofs.UpgradeGoesLaws.{refused_goes, upgraded_goes, upgrade_changes}
+use Rattle.session_calls.proofs.UpgradeGoesLaws.{refused_goes, upgraded_goes}
 use Rattle.session_calls.proofs.UpgradeLaws.{refusal_answers, refused_leads, upgraded_leads}
 use Rattle.session_calls.proofs.upgrading.upgrade_device.Goals as goal
 
 pub returns-in-Ok-clause-goes : goal.returns-in-Ok-clause-goes
 returns-in-Ok-clause-goes g c =
     let is = c.in-Ok.ensures.cause in
-    upgraded_goes g.P.Platform g.T.Tape g.L.Sink _ _ _ _ _ _ c.in-Ok.number is.0 _ is.1 is.3 is.5 c.upgrade.ensures.discloses c.in-Ok.ensures.certifies g.met.P.Platform.counts_pages c.upgrade.ensures.synced (upgrade_changes g.P.Platform g.T.Tape _ _ _ _ _ c.upgrade.ensures.spends) c.upgrade.ensures.grows
+    upgraded_goes g.P.Platform g.T.Tape g.L.Sink _ _ _ _ _ _ c.in-Ok.number is.0 _ is.1 is.3 is.5 c.upgrade.ensures.discloses c.in-Ok.ensures.certifies g.met.P.Platform.counts_pages c.upgrade.ensures.synced c.in-Ok.ensures.spends c.upgrade.ensures.grows
 
 pub returns-in-Err-clause-goes : goal.returns-in-Err-clause-goes
 returns-in-Err-clause-goes g c =
     subst (λ (r : Result UpgradeReply DeviceStop). UpgradeGoes g.P.Platform g.T.Tape g.L.Sink c.args.platform.now c.upgrade.new.platform c.args.tape.now c.upgrade.new.tape c.args.ledger.now c.upgrade.new.ledger r) (sym c.answer_of.ensures)
-    (refused_goes g.P.Platform g.T.Tape g.L.Sink _ _ _ _ _ _ c.in-Err.refusal _ c.in-Err.ensures.cause c.in-Err.ensures.unput c.upgrade.ensures.discloses c.in-Err.ensures.certifies g.met.P.Platform.counts_pages c.upgrade.ensures.synced (upgrade_changes g.P.Platform g.T.Tape _ _ _ _ _ c.upgrade.ensures.spends) c.upgrade.ensures.grows)
+    (refused_goes g.P.Platform g.T.Tape g.L.Sink _ _ _ _ _ _ c.in-Err.refusal _ c.in-Err.ensures.cause c.in-Err.ensures.unput c.upgrade.ensures.discloses c.in-Err.ensures.certifies g.met.P.Platform.counts_pages c.upgrade.ensures.synced c.in-Err.ensures.spends c.upgrade.ensures.grows)
 
 pub returns-in-Ok-clause-answers : goal.returns-in-Ok-clause-answers
 returns-in-Ok-clause-answers g c =
