@@ -1,6 +1,6 @@
 use Rattle.std.proofs.Common.{◌≡◌, ◌-◌, true, Some, Ok, Err, inl, inr, refl, sym, subst, arith}
 use Rattle.std.proofs.lemmas.Bool.{cases_Bool, cases_lt}
-use Rattle.platform.specs.Counts.{MayRiseBy}
+use Rattle.sdbt_base.specs.Rises.{MayRiseBy}
 use Rattle.platform.proofs.Moments.{During-now}
 use Rattle.device_terms.specs.Served.{IsServedImage}
 use Rattle.device_course.proofs.KeysLaws.{on_commit}
