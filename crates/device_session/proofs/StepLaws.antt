@@ -129,14 +129,7 @@ pub same_counts : {S R W : Type 0} (P : PlatformGhosts S) (T : TapeGhosts R) (L 
     → commit_counts P T L platform_now tape_now ledger ≡ commit_counts P T L platform tape ledger
 same_counts P T L platform platform_now tape tape_now ledger same_platform same_tape = λ k. commit_counts P T L (same_platform k) (same_tape k) ledger
 
--- a sync alone, and a sync and a replacement of the root record
-pub few_of_two : (old new : ℕ) → MayRiseBy 1 old new → MayRiseBy 2 old new
-few_of_two old new one = record { rises = one.rises; at_most = let most = one.at_most in omega (arith, most) }
-
--- no call, and so neither
-pub unsynced : (old new : ℕ) → new ≡ old → MayRiseBy 0 old new
-unsynced old new same = record { rises = omega (arith, same); at_most = omega (arith, same) }
-
+-- a sync, and a replacement of the root record
 sync_and_swap : (old mid new : ℕ) → MayRiseBy 1 old mid → MayRiseByOne mid new → MayRiseBy 2 old new
 sync_and_swap old mid new sync swap = let a = sync.rises in let b = sync.at_most in let c = swap.rises in let d = swap.by_one in record { rises = omega (arith, a, c); at_most = omega (arith, b, d) }
 

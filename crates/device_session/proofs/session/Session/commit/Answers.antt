@@ -5,9 +5,10 @@ use Rattle.btree_walk.specs.declared.reader.NodeReader.{NodeReader}
 use Rattle.root_codec.specs.declared.root.Root.{Root}
 use Rattle.device_session.specs.Sessions.{Session}
 use Rattle.device_session.specs.Finishing.{TakesUp}
-use Rattle.device_session.proofs.StepLaws.{IsCommitting, untouched_after, commits_nothing, commits_full, commits_stopped, same_counts, commits_failed, commits_done, commits_raised, committed_cached, few_of_two, unsynced}
+use Rattle.device_session.proofs.StepLaws.{IsCommitting, untouched_after, commits_nothing, commits_full, commits_stopped, same_counts, commits_failed, commits_done, commits_raised, committed_cached}
 use Rattle.device_session.proofs.DamageLaws.{follows_taken}
 use Rattle.std.proofs.lemmas.Result.{err_from_is_err_and}
+use Rattle.sdbt_base.proofs.RiseLaws.{counted_few, counted_not}
 use Rattle.device_session.specs.contracts.session.Session.{the_view}
 use Rattle.device_session.proofs.session.Session.commit.Given.{Over}
 use Rattle.device_session.proofs.session.Session.commit.Goals.{After-publish, After-take_up}
@@ -54,21 +55,21 @@ returns-in-Err-Memory-clause-commits g c = rw (← c.self.view_is) (
     let cause = rw c.in-Err-Memory.field-0-is at c.in-Err-Memory.ensures.cause in
     commits_stopped _ _ _ _ _ _ _ _ _ _ _ c.prepare.ensures.beside c.prepare.ensures.within c.in-Err-Memory.ensures.keeps
     (record { head = ap g.P.Platform.head cause.1; image = λ told. ap (λ s. (g.P.Platform.history s).present) cause.1; changes = λ told. ap g.P.Platform.changes cause.1; drawn = ap g.T.Tape.drawn cause.2 }, c.prepare.ensures.beside.cell, same_counts g.P.Platform g.T.Tape g.L.Sink _ _ _ _ _ cause.1 cause.2, refl)
-    (λ told. unsynced _ _ (ap g.P.Platform.changes cause.1)) (λ told. inl (ap g.P.Platform.changes cause.1)))
+    (λ told. counted_not 0 _ _ (ap g.P.Platform.changes cause.1)) (λ told. inl (ap g.P.Platform.changes cause.1)))
 
 pub returns-in-Err-TapeFault-clause-commits : goal.returns-in-Err-TapeFault-clause-commits
 returns-in-Err-TapeFault-clause-commits g c = rw (← c.self.view_is) (
     let cause = rw c.in-Err-TapeFault.field-0-is at c.in-Err-TapeFault.ensures.cause in
     commits_stopped _ _ _ _ _ _ _ _ _ _ _ c.prepare.ensures.beside c.prepare.ensures.within c.in-Err-TapeFault.ensures.keeps
     ((cause.1, ap (λ (n : ℕ). counts n (g.T.Tape.faults c.prepare.new.tape) 0 0 (g.L.Sink.faults c.args.ledger.now)) cause.2), c.prepare.ensures.beside.cell, refl)
-    (λ told. unsynced _ _ (cause.3 told)) (λ told. inl (cause.3 told)))
+    (λ told. counted_not 0 _ _ (cause.3 told)) (λ told. inl (cause.3 told)))
 
 pub returns-in-Err-PlatformFault-clause-commits : goal.returns-in-Err-PlatformFault-clause-commits
 returns-in-Err-PlatformFault-clause-commits g c = rw (← c.self.view_is) (
     let cause = rw c.in-Err-PlatformFault.field-0-is at c.in-Err-PlatformFault.ensures.cause in
     commits_stopped _ _ _ _ _ _ _ _ _ _ _ c.prepare.ensures.beside c.prepare.ensures.within c.in-Err-PlatformFault.ensures.keeps
     (cause.1, ap (λ (n : ℕ). counts (g.P.Platform.faults c.prepare.new.platform) n 0 0 (g.L.Sink.faults c.args.ledger.now)) cause.2)
-    (λ told. few_of_two _ _ (c.prepare.ensures.beside.changes told)) cause.3)
+    (λ told. counted_few 1 2 _ _ (omega arith) (c.prepare.ensures.beside.changes told)) cause.3)
 
 -- the session with the new tree
 takes : (g : Over) (c : After-take_up g) → TakesUp (the_view c.self.inside) c.prepare.new.reader.cache c.in-Ok.prepared.root c.take_up.new.self
