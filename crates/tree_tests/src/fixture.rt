@@ -17,7 +17,6 @@ use std::alloc::Global;
 use std::marker::Model;
 
 /// A grove, the device that it stands on, and what its nodes are read with.
-#[derive(Drop)]
 pub(crate) struct Fixture {
     device: Device,
     reader: NodeReader,
@@ -37,6 +36,19 @@ impl Model for Fixture {
     ghost view = { λ f. tt };
 
     ghost invariant = { λ f. IsSound f.grove × (f.grove.blocks ≡ f.root.blocks) × AreBelow (bound (length (image_of_now f.device.platform).recorded) (key_size f.root.version)) (places_of f.grove) };
+}
+
+/// No key of the tree is left where the grove is let go.
+impl Drop for Fixture {
+    fn drop(mut self) {
+        self.grove.wipe();
+        let Fixture {
+            device: _,
+            reader: _,
+            root: _,
+            grove: _,
+        } = self;
+    }
 }
 
 impl Fixture {
@@ -78,15 +90,18 @@ impl Fixture {
             mut device,
             reader,
             root,
-            grove,
+            mut grove,
         } = self;
-        let top = device.seal(alloc, grove.top())?;
+        let sealed = device.seal(alloc, grove.top());
+        let level = grove.level();
+        grove.wipe();
+        let top = sealed?;
         Fixture::over(
             alloc,
             device,
             reader,
             (root.order, root.blocks),
-            grove.level(),
+            level,
             top.addr,
         )
     }
