@@ -138,16 +138,19 @@ impl PageCalls for DiskFiles {
     ghost occurred = { λ _. tt };
 
     fn count_pages(&mut self) -> io::Result<u64> {
-        spend(&mut self.power)?;
+        if let Err(error) = spend(&mut self.power) {
+            self.calls.note(FileCall::CountPages, 0, false, &[]);
+            return Err(error);
+        }
         let pages = self.pages.len() as u64;
         self.calls.note(FileCall::CountPages, pages, true, &[]);
         Ok(pages)
     }
 
     fn read_page(&mut self, addr: u64, into: &mut [u8]) -> io::Result<()> {
-        spend(&mut self.power)?;
-        if addr >= self.pages.len() as u64 {
-            return Err(ErrorKind::UnexpectedEof.into());
+        if spend(&mut self.power).is_err() || addr >= self.pages.len() as u64 {
+            self.calls.note(FileCall::ReadPage, addr, false, into);
+            return Err(ErrorKind::Other.into());
         }
         into.copy_from_slice(&self.pages[addr as usize]);
         self.calls.note(FileCall::ReadPage, addr, true, into);
@@ -188,7 +191,10 @@ impl PageCalls for DiskFiles {
 
 impl FolderCalls for DiskFiles {
     fn read_root(&mut self, into: &mut [u8]) -> io::Result<Option<usize>> {
-        spend(&mut self.power)?;
+        if let Err(error) = spend(&mut self.power) {
+            self.calls.note(FileCall::ReadRoot, 0, false, &[]);
+            return Err(error);
+        }
         let Some(held) = self.root else {
             self.calls.note(FileCall::ReadRoot, 0, true, &[]);
             return Ok(None);
