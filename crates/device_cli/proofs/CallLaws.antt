@@ -38,12 +38,14 @@ use Rattle.session_calls.specs.Upgrades.{LeadsNowhere, LeadsUpgraded, MayUpgrade
 use Rattle.session_calls.specs.declared.stops.DeviceStop.{DeviceStop}
 use Rattle.session_calls.specs.declared.stops.DeviceStop.TheVariants as stops
 use Rattle.session_calls.proofs.StateLaws.{at_array}
-use Rattle.device_cli.specs.Looks.{most_changes}
+use Rattle.device_cli.specs.Looks.{changes_stopped, most_changes}
+use Rattle.session_calls.specs.Commits.{most_stopped}
+use Rattle.sdbt_base.specs.Rises.{MayRiseBy}
 use Rattle.device_cli.proofs.LookLaws.{changed_not}
 use Rattle.session_calls.proofs.UpgradeLaws.{turns_upgraded}
 use Rattle.device_cli.specs.Added.{LeavesFew, left_by}
 use Rattle.device_cli.specs.Causes.{MayStop, OnMounted}
-use Rattle.device_cli.specs.Desk.{After}
+use Rattle.device_cli.specs.Desk.{After, ReadsTree}
 use Rattle.device_cli.specs.Replied.{Halts, Serves}
 use Rattle.line_run.specs.Stops.{IsSound}
 use Rattle.device_cli.specs.Represents.{Represents}
@@ -122,8 +124,8 @@ no_root (stops.BadRecord addr) of e = cc
 
 -- what a stop of a call leaves
 pub after_stopped : {S : Type 0} (P : Ghosts S) (before desk : Desk) (old new : S) (command : Command) (stop : DeviceStop) → (IsErrOf {T = Given} {E = DeviceStop} (Err stop) stops.BadRoot → ⊥) → P.capacity new ≡ P.capacity old → P.head old ≤ P.head new → (P.tells → P.changes new ≡ P.changes old)
-    → LeavesFew P.tells (P.history old).present stop command (needed_of before.session) (P.head old) (P.head new) → After P before desk old new command (Err stop)
-after_stopped P before desk old new command stop none capacity rises same added = record {
+    → LeavesFew P.tells (P.history old).present stop command (needed_of before.session) (P.head old) (P.head new) → ReadsTree P before old new command → After P before desk old new command (Err stop)
+after_stopped P before desk old new command stop none capacity rises same added reads = record {
   ready = tt;
   room = tt;
   mounted = λ told. tt;
@@ -133,10 +135,20 @@ after_stopped P before desk old new command stop none capacity rises same added 
   bad_root = λ told. none;
   capacity = capacity;
   rises = rises;
-  changes = λ told. changed_not (most_changes command) (P.changes old) (P.changes new) (same told);
+  changes = λ told. changed_not (changes_stopped command stop) (P.changes old) (P.changes new) (same told);
+  reads = λ told. reads;
   added = added;
   full = tt;
 }
+
+-- how often a command that may sync and replace the root record does so where it stops
+pub stopped_changes : (command : Command) (stop : DeviceStop) (old new : ℕ) → most_changes command ≡ 2 → MayRiseBy (most_stopped stop) old new → MayRiseBy (changes_stopped command stop) old new
+stopped_changes command stops.Platform old new two few = record { rises = few.rises; at_most = let most = few.at_most in omega (arith, most, two) }
+stopped_changes command stops.Ledger old new two few = record { rises = few.rises; at_most = let most = few.at_most in omega (arith, most, two) }
+stopped_changes command stops.Tape old new two few = few
+stopped_changes command stops.Memory old new two few = few
+stopped_changes command stops.BadRoot old new two few = few
+stopped_changes command (stops.BadRecord addr) old new two few = few
 
 -- the session that is held is on the root record in the cell
 pub mounted_held : (held : Option Session) (session : Session) (image : Image) → held ≡ Some session → IfSome held (IsMounted image) → IsMounted image session

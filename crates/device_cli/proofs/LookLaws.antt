@@ -9,15 +9,16 @@ use Rattle.device_session.specs.Open.{IsOpen, blocks_of}
 use Rattle.device_session.specs.Reading.{KeepsWayTo, room_of}
 use Rattle.session_calls.specs.Goes.{ReadsPages}
 use Rattle.session_calls.specs.declared.stops.DeviceStop.{DeviceStop}
+use Rattle.session_calls.specs.declared.stops.DeviceStop.TheVariants as stops
 use Rattle.script_lang.specs.Commands.{Command, Format, Mount, Read, Write, Trim, Commit, Drop, Erase, Upgrade, Stat, Seize}
 use Rattle.script_lang.specs.Grammar.{Spells, IsBad}
-use Rattle.script_lang.specs.Replies.{Reply, said}
+use Rattle.script_lang.specs.Replies.{Reply, is_refusal, said}
 use Rattle.script_lang.specs.declared.replies.Reply.{Reply as Given}
 use Rattle.script_lang.proofs.CommandLaws.{one_command}
 use Rattle.device_session.specs.Sessions.{Session}
 use Rattle.device_cli.specs.Replied.{outcome}
 use Rattle.device_cli.specs.World.{World}
-use Rattle.device_cli.specs.Looks.{IsBounded, IsWarmFor, AreBounded, AreChanging, ChangesFew, ReadsOn, LooksOn, block_read, is_refused, most_changes, most_for, most_reads, most_told, reads_refused}
+use Rattle.device_cli.specs.Looks.{IsBounded, IsWarmFor, AreBounded, AreChanging, ChangesFew, ReadsOn, LooksOn, block_read, changes_stopped, changes_told, is_refused, most_changes, most_for, most_reads, most_told, reads_refused}
 
 -- replies behind the first one, and so many more
 drop_next : {X : Type 0} (n : ℕ) (xs : List X) → drop n (drop 1 xs) ≡ drop (suc n) xs
@@ -72,21 +73,35 @@ dropped (suc n) [] others same = absurd (omega (arith, same))
 dropped (suc n) (reply ∷ replies) others same = dropped n replies others (omega (arith, same))
 
 -- what happens to a count for lines, and then for others
-record Changing (lines more : List (List ℕ)) (most : ℕ) : Type 0 where
+record Changing (lines more : List (List ℕ)) (replies : List Reply) (most : ℕ) : Type 0 where
   pub first : ℕ
   pub second : ℕ
-  pub front : AreChanging lines first
-  pub behind : AreChanging more second
+  pub front : AreChanging lines replies first
+  pub behind : AreChanging more (drop (length lines) replies) second
   pub sum : most ≡ first + second
 
-changing : (lines more : List (List ℕ)) (most : ℕ) → AreChanging (lines ++ more) most → Changing lines more most
-changing [] more most h = record { first = 0; second = most; front = refl; behind = h; sum = omega arith }
-changing (line ∷ lines) more most (inl (bad, rest)) =
-    let p = changing lines more most rest in
-    record { first = p.first; second = p.second; front = inl (bad, p.front); behind = p.behind; sum = p.sum }
-changing (line ∷ lines) more most (inr (command, spells, others, rest, is)) =
-    let p = changing lines more others rest in
-    record { first = most_changes command + p.first; second = p.second; front = inr (command, spells, p.first, p.front, refl); behind = p.behind; sum = omega (arith, is, p.sum) }
+changing : (lines more : List (List ℕ)) (replies : List Reply) (most : ℕ) → AreChanging (lines ++ more) replies most → Changing lines more replies most
+changing [] more replies most h = record { first = 0; second = most; front = refl; behind = h; sum = omega arith }
+changing (line ∷ lines) more replies most (inl (bad, rest)) =
+    let p = changing lines more (drop 1 replies) most rest in
+    record { first = p.first; second = p.second; front = inl (bad, p.front); behind = subst (λ (rs : List Reply). AreChanging more rs p.second) (drop_next (length lines) replies) p.behind; sum = p.sum }
+changing (line ∷ lines) more replies most (inr (command, spells, others, rest, is)) =
+    let p = changing lines more (drop 1 replies) others rest in
+    record {
+      first = changes_told command (slice_get replies 0) + p.first;
+      second = p.second;
+      front = inr (command, spells, p.first, p.front, refl);
+      behind = subst (λ (rs : List Reply). AreChanging more rs p.second) (drop_next (length lines) replies) p.behind;
+      sum = omega (arith, is, p.sum);
+    }
+
+-- as many replies as lines, of more
+fronted_changing : (lines : List (List ℕ)) (replies others : List Reply) (most : ℕ) → length replies ≡ length lines → AreChanging lines (replies ++ others) most → AreChanging lines replies most
+fronted_changing [] replies others most same h = h
+fronted_changing (line ∷ lines) [] others most same h = absurd (omega (arith, same))
+fronted_changing (line ∷ lines) (reply ∷ replies) others most same (inl (bad, rest)) = inl (bad, fronted_changing lines replies others most (omega (arith, same)) rest)
+fronted_changing (line ∷ lines) (reply ∷ replies) others most same (inr (command, spells, few, rest, is)) =
+    inr (command, spells, few, fronted_changing lines replies others few (omega (arith, same)) rest, is)
 
 pub changed_not : (most old new : ℕ) → new ≡ old → MayRiseBy most old new
 changed_not most old new same = record { rises = omega (arith, same); at_most = omega (arith, same) }
@@ -113,8 +128,9 @@ pub looks_then : (tells : Type 0) (old mid new : World) (lines more : List (List
     → LooksOn tells old mid lines replies Was → LooksOn tells mid new more others Done → LooksOn tells old new (lines ++ more) (replies ++ others) Done
 looks_then tells old mid new lines more replies others Was Done same was p q told = (
   λ most h.
-      let parts = changing lines more most h in
-      changed_then parts.first parts.second most old.changes mid.changes new.changes parts.sum ((p told).0 parts.first parts.front) ((q told).0 parts.second parts.behind),
+      let parts = changing lines more (replies ++ others) most h in
+      changed_then parts.first parts.second most old.changes mid.changes new.changes parts.sum ((p told).0 parts.first (fronted_changing lines replies others parts.first same parts.front))
+      ((q told).0 parts.second (subst (λ (rs : List Reply). AreChanging more rs parts.second) (dropped (length lines) replies others same) parts.behind)),
   λ before after most warm h.
       let parts = parted before after lines more (replies ++ others) most h in
       let one = (p told).1 before parts.between parts.first warm (fronted before parts.between lines replies others parts.first same parts.front) in
@@ -126,7 +142,7 @@ looks_then tells old mid new lines more replies others Was Done same was p q tol
 pub looks_longer : (tells : Type 0) (old new : World) (lines more : List (List ℕ)) (replies : List Reply) (Was Done : Type 0) → (Done → ⊥) → LooksOn tells old new lines replies Was → LooksOn tells old new (lines ++ more) replies Done
 looks_longer tells old new lines more replies Was Done never p told = (
   λ most h.
-      let parts = changing lines more most h in
+      let parts = changing lines more replies most h in
       changed_then parts.first parts.second most old.changes new.changes new.changes parts.sum ((p told).0 parts.first parts.front) (changed_not parts.second new.changes new.changes refl),
   λ before after most warm h.
       let parts = parted before after lines more replies most h in
@@ -150,17 +166,17 @@ reads_line old new line replies command Done spells looks before after most warm
     let block : after ≡ block_read command = subst (λ (c : Command). after ≡ block_read c) same last in
     (omega (arith, here.0, few, none), λ done. subst (λ (b : Option ℕ). IsWarmFor new.session b) (sym block) (here.1 done))
 
-changes_line : (old new : World) (line : List ℕ) (command : Command) → Spells line command → MayRiseBy (most_changes command) old.changes new.changes → ChangesFew old new (line ∷ [])
-changes_line old new line command spells few most (inl (bad, rest)) = absurd (bad command spells)
-changes_line old new line command spells few most (inr (other, reads, others, none, is)) =
+changes_line : (old new : World) (line : List ℕ) (replies : List Reply) (command : Command) → Spells line command → MayRiseBy (changes_told command (slice_get replies 0)) old.changes new.changes → ChangesFew old new (line ∷ []) replies
+changes_line old new line replies command spells few most (inl (bad, rest)) = absurd (bad command spells)
+changes_line old new line replies command spells few most (inr (other, reads, others, none, is)) =
     let same : other ≡ command = one_command line other command reads spells in
-    let sum : most ≡ most_changes command + others = subst (λ (c : Command). most ≡ most_changes c + others) same is in
+    let sum : most ≡ changes_told command (slice_get replies 0) + others = subst (λ (c : Command). most ≡ changes_told c (slice_get replies 0) + others) same is in
     record { rises = few.rises; at_most = omega (arith, few.at_most, sum) }
 
-pub looks_line : (tells : Type 0) (old new : World) (line : List ℕ) (replies : List Reply) (command : Command) (Done : Type 0) → Spells line command → (tells → MayRiseBy (most_changes command) old.changes new.changes)
+pub looks_line : (tells : Type 0) (old new : World) (line : List ℕ) (replies : List Reply) (command : Command) (Done : Type 0) → Spells line command → (tells → MayRiseBy (changes_told command (slice_get replies 0)) old.changes new.changes)
     → (tells → (before : Option ℕ) → IsWarmFor old.session before → IsBounded command → (new.reads ≤ old.reads + most_told before command (slice_get replies 0)) × (Done → IsWarmFor new.session (block_read command)))
     → LooksOn tells old new (line ∷ []) replies Done
-looks_line tells old new line replies command Done spells few looks told = (changes_line old new line command spells (few told), reads_line old new line replies command Done spells (looks told))
+looks_line tells old new line replies command Done spells few looks told = (changes_line old new line replies command spells (few told), reads_line old new line replies command Done spells (looks told))
 
 -- a line outside the grammar
 reads_bad : (old new : World) (line : List ℕ) (replies : List Reply) (Done : Type 0) → IsBad line → new.session ≡ old.session → new.reads ≤ old.reads → ReadsOn old new (line ∷ []) replies Done
@@ -200,8 +216,26 @@ reads_cut old new line reply Was Done never p before after most warm (inr (comma
     let here = p before after (most_told before command (Some reply) + others) warm (inr (command, spells, look, others, rest, refl)) in
     (omega (arith, here.0, is, told_most before command reply), λ done. absurd (never done))
 
+told_changes : (command : Command) (reply : Reply) → changes_told command (Some reply) ≤ most_changes command
+told_changes command reply = elim (cases_Bool (is_refusal reply)) [ inl refused ↦ rw refused (omega arith) | inr served ↦ rw served (omega arith) ]
+
+changes_cut : (old new : World) (line : List ℕ) (reply : Reply) → ChangesFew old new (line ∷ []) (reply ∷ []) → ChangesFew old new (line ∷ []) []
+changes_cut old new line reply p most (inl (bad, rest)) = p most (inl (bad, rest))
+changes_cut old new line reply p most (inr (command, spells, others, rest, is)) =
+    let here = p (changes_told command (Some reply) + others) (inr (command, spells, others, rest, refl)) in
+    record { rises = here.rises; at_most = let few = here.at_most in omega (arith, few, is, told_changes command reply) }
+
+-- where a line stops the run it happens no oftener than for any reply
+pub changes_most : (command : Command) (stop : DeviceStop) (old new : ℕ) → MayRiseBy (changes_stopped command stop) old new → MayRiseBy (most_changes command) old new
+changes_most command stops.Platform old new few = few
+changes_most command stops.Ledger old new few = record { rises = few.rises; at_most = let most = few.at_most in omega (arith, most) }
+changes_most command stops.Tape old new few = record { rises = few.rises; at_most = let most = few.at_most in omega (arith, most) }
+changes_most command stops.Memory old new few = record { rises = few.rises; at_most = let most = few.at_most in omega (arith, most) }
+changes_most command stops.BadRoot old new few = record { rises = few.rises; at_most = let most = few.at_most in omega (arith, most) }
+changes_most command (stops.BadRecord addr) old new few = record { rises = few.rises; at_most = let most = few.at_most in omega (arith, most) }
+
 pub looks_cut : (tells : Type 0) (old new : World) (line : List ℕ) (reply : Reply) (Was Done : Type 0) → (Done → ⊥) → LooksOn tells old new (line ∷ []) (reply ∷ []) Was → LooksOn tells old new (line ∷ []) [] Done
-looks_cut tells old new line reply Was Done never p told = ((p told).0, reads_cut old new line reply Was Done never (p told).1)
+looks_cut tells old new line reply Was Done never p told = (changes_cut old new line reply (p told).0, reads_cut old new line reply Was Done never (p told).1)
 
 -- ---- one command
 

@@ -1,10 +1,12 @@
 -- How often a run reads a page or looks at the cell, at lines that don't go over the whole tree.
-use Rattle.std.specs.Prelude.{◌≡◌, ◌⊎◌, ℕ, ◌+◌, ◌<◌, ◌≤◌, ◌==◌, Bool, true, false, if◌then◌else◌, List, [], ◌∷◌, Option, None, Some, drop, slice_get}
+use Rattle.std.specs.Prelude.{◌≡◌, ◌⊎◌, ℕ, ◌+◌, ◌-◌, ◌<◌, ◌≤◌, ◌==◌, Bool, true, false, if◌then◌else◌, List, [], ◌∷◌, Option, None, Some, Result, Ok, Err, drop, slice_get}
 use Rattle.sdbt_base.specs.Rises.{MayRiseBy}
 use Rattle.script_lang.specs.Commands.{Command}
 use Rattle.script_lang.specs.Commands.{Commit, Erase, Format, Mount, Read, Write, Trim, Drop, Stat, Upgrade}
 use Rattle.script_lang.specs.Grammar.{IsBad, Spells}
-use Rattle.script_lang.specs.Replies.{Reply, Unmounted, AlreadyMounted, Range, Full}
+use Rattle.script_lang.specs.Replies.{Reply, Unmounted, AlreadyMounted, Range, Full, is_refusal}
+use Rattle.session_calls.specs.declared.stops.DeviceStop.{DeviceStop}
+use Rattle.session_calls.specs.declared.stops.DeviceStop.TheVariants as stops
 use Rattle.device_session.specs.Open.{blocks_of}
 use Rattle.device_session.specs.Reading.{KeepsWayTo, room_of}
 use Rattle.device_session.specs.Sessions.{Session}
@@ -77,11 +79,27 @@ most_changes Upgrade = 2
 most_changes Erase = 1
 most_changes _ = 0
 
--- the lines spell commands, or nothing, and so often that happens for them together, at most
-abbrev pub AreChanging : List (List ℕ) → ℕ → Type 0
-AreChanging [] most = most ≡ 0
-AreChanging (line ∷ lines) most =
-    (IsBad line × AreChanging lines most) ⊎ ((command : Command) × Spells line command × (others : ℕ) × AreChanging lines others × (most ≡ most_changes command + others))
+-- so often for a command with this reply, or with none: never where it is refused
+abbrev pub changes_told : Command → Option Reply → ℕ
+changes_told command None = most_changes command
+changes_told command (Some reply) = if is_refusal reply then 0 else most_changes command
+
+-- and for one that stops so: never before it syncs, and where the ledger failed the root record isn't replaced
+abbrev pub changes_stopped : Command → DeviceStop → ℕ
+changes_stopped command stops.Platform = most_changes command
+changes_stopped command stops.Ledger = most_changes command - 1
+changes_stopped command _ = 0
+
+abbrev pub changes_at : Command → Result Reply DeviceStop → ℕ
+changes_at command (Ok reply) = changes_told command (Some reply)
+changes_at command (Err stop) = changes_stopped command stop
+
+-- the lines spell commands, or nothing, the first of them have these replies, and so often that happens for them together, at most
+abbrev pub AreChanging : List (List ℕ) → List Reply → ℕ → Type 0
+AreChanging [] replies most = most ≡ 0
+AreChanging (line ∷ lines) replies most =
+    (IsBad line × AreChanging lines (drop 1 replies) most)
+    ⊎ ((command : Command) × Spells line command × (others : ℕ) × AreChanging lines (drop 1 replies) others × (most ≡ changes_told command (slice_get replies 0) + others))
 
 -- the cache has room for a node of each level, and keeps each node on the way to the block that was read last, if one was
 abbrev pub IsWarmFor : Option Session → Option ℕ → Type 0
@@ -89,9 +107,9 @@ IsWarmFor None block = Unit {0}
 IsWarmFor (Some session) None = 20 ≤ room_of session
 IsWarmFor (Some session) (Some block) = (20 ≤ room_of session) × (block < blocks_of session → KeepsWayTo session block)
 
--- it happens no oftener for these lines
-abbrev pub ChangesFew : World → World → List (List ℕ) → Type 0
-ChangesFew old new lines = (most : ℕ) → AreChanging lines most → MayRiseBy most old.changes new.changes
+-- it happens no oftener for these lines with these replies
+abbrev pub ChangesFew : World → World → List (List ℕ) → List Reply → Type 0
+ChangesFew old new lines replies = (most : ℕ) → AreChanging lines replies most → MayRiseBy most old.changes new.changes
 
 -- where the lines are such, with these replies, no more is read than this; and where all are done, the cache is ready for the next one
 abbrev pub ReadsOn : World → World → List (List ℕ) → List Reply → Type 0 → Type 0
@@ -101,4 +119,4 @@ ReadsOn old new lines replies Done =
 
 -- of these lines and their replies it is both so
 abbrev pub LooksOn : Type 0 → World → World → List (List ℕ) → List Reply → Type 0 → Type 0
-LooksOn tells old new lines replies Done = tells → ChangesFew old new lines × ReadsOn old new lines replies Done
+LooksOn tells old new lines replies Done = tells → ChangesFew old new lines replies × ReadsOn old new lines replies Done

@@ -109,8 +109,9 @@ pub record AnswersScript (tells : Type 0) (old new : World) (status : ℕ) (left
   -- or erases; one page for a read of the block that was read just before, and 21 for one of another; 40 for a write or a trim; and nothing for a line that is refused since no session is open, or one
   -- is, by its numbers, or for want of pages
   pub looks : tells → (most : ℕ) (last : Option ℕ) → AreBounded None lines replies most last → new.reads ≤ old.reads + (1 + most)
-  -- all pages are synced, or the cell replaced or cleared, twice at most for a line that formats, commits or upgrades, once for one that erases, and never for another
-  pub changes : tells → ChangesFew old new lines
+  -- all pages are synced, or the cell replaced or cleared, twice at most for a line that formats, commits or upgrades, once for one that erases, and never for another, or
+  -- for one that is refused
+  pub changes : tells → ChangesFew old new lines replies
   -- over an image that stands for a device which can be served, from that device on without a session
   pub answered : tells → (there : Option Device) → StandsFor old.history.present there → IsServedImage old.history.present
       → AnswersFrom old new status (closed there) lines replies part

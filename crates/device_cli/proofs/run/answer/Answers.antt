@@ -12,7 +12,7 @@ use Rattle.device_cli.proofs.CellLaws.{served_at}
 use Rattle.device_cli.proofs.ReplyLaws.{so_there, so_line}
 use Rattle.page_store.proofs.KeepingLaws.{drew_none}
 use Rattle.device_cli.proofs.DrawingLaws.{until_line, until_none, until_cut}
-use Rattle.device_cli.proofs.LookLaws.{looks_bad, looks_line}
+use Rattle.device_cli.proofs.LookLaws.{changes_most, looks_bad, looks_line}
 use Rattle.device_cli.proofs.WipedLaws.{ended_wiped}
 use Rattle.device_course.proofs.KeysLaws.{on_start, on_done}
 use Rattle.device_cli.proofs.Choices.{on_ok}
@@ -64,7 +64,7 @@ returns-in-Ok-clause-handled g c text kept =
     later (until_line old.drawn new.drawn text reply spent.0 (inr (command, c.in-Some.ensures.found text kept, spent.1)) spent.2)
     (until_cut old.drawn new.drawn text command spent.0 (c.in-Some.ensures.found text kept) (λ none. ap g.T.Tape.drawn (c.in-Ok.ensures.still.undrawn none)) spent.2) (so_line P.tells old.history new.history old.session new.session text reply (λ told. extended told) (so_there P.tells c.args.desk.now.session c.serve.new.self.session _ old.history new.history text command reply (c.in-Some.ensures.found text kept) c.requires.ready c.requires.mounted c.in-Ok.ensures.after.mounted (λ told. extended told) c.in-Ok.ensures.any))
     (tells_short P.tells old.history.present old new text command reply (c.in-Some.ensures.found text kept) later (full_as_said c.in-Ok.reply c.serve.new.self.buffer _ c.in-Ok.ensures.after.full)) c.in-Ok.ensures.enough
-    (looks_line P.tells old new text (reply ∷ []) command _ (c.in-Some.ensures.found text kept) c.serve.ensures.after.changes (λ told before warm look. let few = c.in-Ok.ensures.looks told before warm look in (few.0, λ done. few.1 refl)))
+    (looks_line P.tells old new text (reply ∷ []) command _ (c.in-Some.ensures.found text kept) c.in-Ok.ensures.after.changes (λ told before warm look. let few = c.in-Ok.ensures.looks told before warm look in (few.0, λ done. few.1 refl)))
     (λ told entry updates rep enough. turned_command P.tells old new entry updates text command reply told (c.in-Some.ensures.found text kept) c.requires.ready
     (served_at _ _ (c.serve.ensures.keeps.serves told (c.requires.cell told))) c.in-Ok.ensures.pages
     (c.in-Ok.ensures.seen told entry rep.there) rep enough (c.in-Ok.ensures.answered told entry rep.there))
@@ -81,7 +81,7 @@ returns-in-Err-clause-handled g c text kept =
     (until_cut old.drawn new.drawn text command c.in-Err.ensures.keeps.keys.grew (c.in-Some.ensures.found text kept) (λ none. ap g.T.Tape.drawn (c.in-Err.ensures.still.undrawn none)) c.in-Err.ensures.keeps.keys.drew)
     (λ told. (c.serve.ensures.keeps.serves told (c.requires.cell told)).extends) c.in-Err.ensures.after.added
     c.in-Err.ensures.any
-    (looks_line P.tells old new text [] command _ (c.in-Some.ensures.found text kept) c.serve.ensures.after.changes (λ told before warm look. ((c.in-Err.ensures.looks told before warm look).0, λ done. absurd cc)))
+    (looks_line P.tells old new text [] command _ (c.in-Some.ensures.found text kept) (λ told. changes_most command c.in-Err.stop _ _ (c.in-Err.ensures.after.changes told)) (λ told before warm look. ((c.in-Err.ensures.looks told before warm look).0, λ done. absurd cc)))
     (λ told. served_at _ _ (c.serve.ensures.keeps.serves told (c.requires.cell told))) (λ told entry rep. halts_by (world_of P c.args.desk.now.session c.args.platform.now) (world_of P c.serve.new.self.session c.serve.new.platform) old.drawn new.drawn entry command c.in-Err.stop (c.in-Err.ensures.answered told entry rep.there))
 
 pub returns-in_default-clause-keeps : goal.returns-in_default-clause-keeps

@@ -1,4 +1,4 @@
-use Rattle.std.proofs.Common.{◌≡◌, true, [], Option, None, Some, Err, refl, sym, ◌∙◌, ap, subst, arith}
+use Rattle.std.proofs.Common.{◌≡◌, true, [], Option, None, Some, Err, refl, sym, ◌∙◌, ap, subst, arith, rules}
 use Rattle.std.specs.Prelude.{IfSome}
 use Rattle.device_session.specs.Open.{IsOpen, is_touched}
 use Rattle.device_session.specs.Sessions.{Session}
@@ -10,7 +10,7 @@ use Rattle.device_cli.specs.Causes.{number_behind}
 use Rattle.device_cli.proofs.ReplyLaws.{held_has, number_is}
 use Rattle.device_cli.specs.Looks.{IsWarmFor}
 use Rattle.device_cli.proofs.LookLaws.{still_warm}
-use Rattle.device_cli.proofs.CallLaws.{commit_stops, halts_commit, on_held, serves_number, serves_short}
+use Rattle.device_cli.proofs.CallLaws.{commit_stops, halts_commit, on_held, serves_number, serves_short, stopped_changes}
 use Rattle.device_cli.proofs.ServedLaws.{gives_unmounted_commit}
 use Rattle.device_cli.proofs.ServingLaws.{serves_unmounted}
 use Rattle.device_cli.proofs.desk.Desk.commit.Given.{Over}
@@ -118,3 +118,60 @@ pub returns-in_err-done-clause-looks : goal.returns-in_err-done-clause-looks
 returns-in_err-done-clause-looks g c told before warm look =
     let goes = c.in_err-done.ensures.goes in
     (omega (arith, goes.unread told), rw (stopped g c) (λ done. absurd cc))
+
+-- ---- how often it syncs, and what it leaves
+
+pub returns-in-Committed-clause-after : goal.returns-in-Committed-clause-after
+returns-in-Committed-clause-after g c =
+    record {
+      ready = search rules;
+      room = search rules;
+      mounted = search rules;
+      reply = search rules;
+      short = search rules;
+      wiped = search rules;
+      bad_root = search rules;
+      capacity = search rules;
+      rises = search rules;
+      changes = rw c.in-Committed.is at c.in_ok-done.ensures.goes.changes;
+      reads = λ told. tt;
+      added = search rules;
+      full = search rules;
+    }
+
+pub returns-in-Full-clause-after : goal.returns-in-Full-clause-after
+returns-in-Full-clause-after g c =
+    record {
+      ready = search rules;
+      room = search rules;
+      mounted = search rules;
+      reply = search rules;
+      short = search rules;
+      wiped = search rules;
+      bad_root = search rules;
+      capacity = search rules;
+      rises = search rules;
+      changes = rw c.in-Full.is at c.in_ok-done.ensures.goes.changes;
+      reads = λ told. tt;
+      added = search rules;
+      full = search rules;
+    }
+
+pub returns-in_err-done-clause-after : goal.returns-in_err-done-clause-after
+returns-in_err-done-clause-after g c =
+    let goes = c.in_err-done.ensures.goes in
+    rw (stopped g c) (record {
+      ready = tt;
+      room = tt;
+      mounted = λ told. tt;
+      reply = tt;
+      short = tt;
+      wiped = tt;
+      bad_root = search rules;
+      capacity = goes.capacity;
+      rises = goes.rises;
+      changes = λ told. stopped_changes Commit c.in_err-done.field-0.0 _ _ refl (goes.changes told);
+      reads = λ told. tt;
+      added = search rules;
+      full = tt;
+    })

@@ -1,4 +1,4 @@
-use Rattle.std.proofs.Common.{Option, None, refl, sym, ◌∙◌, subst}
+use Rattle.std.proofs.Common.{Option, None, refl, sym, ◌∙◌, subst, rules}
 use Rattle.device_session.specs.Sessions.{Session}
 use Rattle.device_course.specs.States.{IsListed}
 use Rattle.device_cli.specs.World.{World, world_of}
@@ -7,7 +7,7 @@ use Rattle.device_course.proofs.CertifiedLaws.{certified_emptied}
 use Rattle.device_course.proofs.KeysLaws.{on_kept, listed_image}
 use Rattle.device_cli.specs.Looks.{IsWarmFor}
 use Rattle.device_cli.proofs.EnoughLaws.{enough_none}
-use Rattle.device_cli.proofs.LookLaws.{warm_less}
+use Rattle.device_cli.proofs.LookLaws.{changed_not, warm_less}
 use Rattle.device_cli.proofs.desk.Desk.erase.Goals as goal
 
 pub returns-in-Ok-clause-answered : goal.returns-in-Ok-clause-answered
@@ -58,3 +58,20 @@ returns-in-Err-NoDevice-clause-looks g c told before warm look = ((c.erase.ensur
 
 pub returns-in-Err-PlatformFault-clause-looks : goal.returns-in-Err-PlatformFault-clause-looks
 returns-in-Err-PlatformFault-clause-looks g c told before warm look = ((c.erase.ensures.reads told).0.by_one, λ done. absurd cc)
+
+pub returns-in-Err-NoDevice-clause-after : goal.returns-in-Err-NoDevice-clause-after
+returns-in-Err-NoDevice-clause-after g c = record {
+  ready = search rules;
+  room = search rules;
+  mounted = search rules;
+  reply = search rules;
+  short = search rules;
+  wiped = search rules;
+  bad_root = search rules;
+  capacity = search rules;
+  rises = search rules;
+  changes = λ told. changed_not 0 _ _ ((rw c.in-Err-NoDevice.field-0-is at c.in-Err-NoDevice.ensures.cause).0 told).3;
+  reads = λ told. tt;
+  added = search rules;
+  full = search rules;
+}

@@ -169,6 +169,7 @@ returns-in-Ok-clause-after g c = record {
   capacity = search rules;
   rises = search rules;
   changes = search rules;
+  reads = λ told. tt;
   added = search rules;
   full = search rules;
 }
@@ -237,3 +238,105 @@ returns-in-Err-LedgerFault-clause-looks g c told before warm look = ((c.format.e
 
 pub returns-in-Err-PlatformFault-clause-looks : goal.returns-in-Err-PlatformFault-clause-looks
 returns-in-Err-PlatformFault-clause-looks g c told before warm look = ((c.format.ensures.spends.0 told).0.by_one, λ done. absurd cc)
+
+pub returns-in-Err-NotEmpty-clause-after : goal.returns-in-Err-NotEmpty-clause-after
+returns-in-Err-NotEmpty-clause-after g c = record {
+  ready = ready_later c.args.self.now.session _ _ c.format.ensures.grows.0.rises c.requires.ready;
+  room = c.requires.room;
+  mounted = search rules;
+  reply = search rules;
+  short = search rules;
+  wiped = search rules;
+  bad_root = search rules;
+  capacity = search rules;
+  rises = search rules;
+  changes = λ told. ((rw c.in-Err-NotEmpty.field-0-is at c.in-Err-NotEmpty.ensures.spends).0 told).2;
+  reads = λ told. tt;
+  added = search rules;
+  full = search rules;
+}
+
+pub returns-in-Err-Full-clause-after : goal.returns-in-Err-Full-clause-after
+returns-in-Err-Full-clause-after g c = record {
+  ready = ready_later c.args.self.now.session _ _ c.format.ensures.grows.0.rises c.requires.ready;
+  room = c.requires.room;
+  mounted = search rules;
+  reply = search rules;
+  short = search rules;
+  wiped = search rules;
+  bad_root = search rules;
+  capacity = search rules;
+  rises = search rules;
+  changes = λ told. ((rw c.in-Err-Full.field-0-is at c.in-Err-Full.ensures.spends).0 told).2;
+  reads = λ told. tt;
+  added = search rules;
+  full = search rules;
+}
+
+pub returns-in-Err-Memory-clause-after : goal.returns-in-Err-Memory-clause-after
+returns-in-Err-Memory-clause-after g c = record {
+  ready = tt;
+  room = tt;
+  mounted = search rules;
+  reply = search rules;
+  short = search rules;
+  wiped = search rules;
+  bad_root = search rules;
+  capacity = search rules;
+  rises = search rules;
+  changes = λ told. ((rw c.in-Err-Memory.field-0-is at c.in-Err-Memory.ensures.spends).0 told).2;
+  reads = λ told. tt;
+  added = search rules;
+  full = search rules;
+}
+
+pub returns-in-Err-TapeFault-clause-after : goal.returns-in-Err-TapeFault-clause-after
+returns-in-Err-TapeFault-clause-after g c = record {
+  ready = tt;
+  room = tt;
+  mounted = search rules;
+  reply = search rules;
+  short = search rules;
+  wiped = search rules;
+  bad_root = search rules;
+  capacity = search rules;
+  rises = search rules;
+  changes = λ told. ((rw c.in-Err-TapeFault.field-0-is at c.in-Err-TapeFault.ensures.spends).0 told).2;
+  reads = λ told. tt;
+  added = search rules;
+  full = search rules;
+}
+
+pub returns-in-Err-LedgerFault-clause-after : goal.returns-in-Err-LedgerFault-clause-after
+returns-in-Err-LedgerFault-clause-after g c = record {
+  ready = tt;
+  room = tt;
+  mounted = search rules;
+  reply = search rules;
+  short = search rules;
+  wiped = search rules;
+  bad_root = search rules;
+  capacity = search rules;
+  rises = search rules;
+  changes = λ told. ((rw c.in-Err-LedgerFault.field-0-is at c.in-Err-LedgerFault.ensures.spends).0 told).2;
+  reads = λ told. tt;
+  added = search rules;
+  full = search rules;
+}
+
+pub returns-in-Err-PlatformFault-clause-after : goal.returns-in-Err-PlatformFault-clause-after
+returns-in-Err-PlatformFault-clause-after g c = record {
+  ready = tt;
+  room = tt;
+  mounted = search rules;
+  reply = search rules;
+  short = search rules;
+  wiped = search rules;
+  bad_root = search rules;
+  capacity = search rules;
+  rises = search rules;
+  changes = λ told. ((rw c.in-Err-PlatformFault.field-0-is at c.in-Err-PlatformFault.ensures.spends).0 told).2;
+  reads = λ told. tt;
+  added = search rules;
+  full = search rules;
+}

@@ -63,7 +63,8 @@ returns-clause-after g c =
       bad_root = λ told e. cc;
       capacity = along.capacity;
       rises = along.rises;
-      changes = λ told. changed_not 0 _ _ (along.changes told);
+      changes = λ told. changed_not _ _ _ (along.changes told);
+      reads = λ told. tt;
       added = tt;
       full = search rules;
     }
@@ -118,7 +119,7 @@ stopped g c = let p = err_from_is_err_and c.from_residual.result c.from_residual
 pub returns-in_err-read_block-clause-after : goal.returns-in_err-read_block-clause-after
 returns-in_err-read_block-clause-after g c =
     let goes = c.in_err-read_block.ensures.goes (no_draw None) in
-    rw (stopped g c) (after_stopped g.P.Platform _ _ _ _ (Read c.args.block) c.in_err-read_block.field-0.0 (no_root _ goes.stops) goes.along.capacity goes.along.rises goes.along.changes (omega (arith, goes.along.adds)))
+    rw (stopped g c) (after_stopped g.P.Platform _ _ _ _ (Read c.args.block) c.in_err-read_block.field-0.0 (no_root _ goes.stops) goes.along.capacity goes.along.rises goes.along.changes (omega (arith, goes.along.adds)) tt)
 
 pub returns-in_err-read_block-clause-blame : goal.returns-in_err-read_block-clause-blame
 returns-in_err-read_block-clause-blame g c =

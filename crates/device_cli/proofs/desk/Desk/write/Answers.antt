@@ -77,7 +77,8 @@ returns-clause-after g c =
       bad_root = λ told e. cc;
       capacity = along.capacity;
       rises = along.rises;
-      changes = λ told. changed_not 0 _ _ (along.changes told);
+      changes = λ told. changed_not _ _ _ (along.changes told);
+      reads = λ told. tt;
       added = tt;
       full = λ e. cc;
     }
@@ -132,7 +133,7 @@ returns-in_err-write_block-clause-after g c =
     let bytes : List ℕ = take c.args.count c.args.self.now.buffer in
     let goes = c.in_err-write_block.ensures.goes in
     rw (stopped g c) (after_stopped g.P.Platform _ _ _ _ (Write c.args.block bytes) c.in_err-write_block.field-0.0 (no_root _ goes.stops) goes.along.capacity goes.along.rises goes.along.changes
-    (write_added g.P.Platform g.T.Tape _ _ _ _ c.args.block bytes _ c.in_err-write_block.field-0.0 goes.along.adds c.in_err-write_block.ensures.adds))
+    (write_added g.P.Platform g.T.Tape _ _ _ _ c.args.block bytes _ c.in_err-write_block.field-0.0 goes.along.adds c.in_err-write_block.ensures.adds) tt)
 
 pub returns-in_err-write_block-clause-blame : goal.returns-in_err-write_block-clause-blame
 returns-in_err-write_block-clause-blame g c =
