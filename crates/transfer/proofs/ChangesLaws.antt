@@ -13,7 +13,10 @@ use Rattle.page_store.specs.Kept.{IsRootOf}
 use Rattle.device_session.specs.Sessions.{Session}
 use Rattle.device_session.specs.declared.refusals.CommitReply.{CommitReply}
 use Rattle.device_session.specs.declared.refusals.CommitReply.TheVariants as replies
-use Rattle.session_calls.specs.Commits.{AnswersReply}
+use Rattle.session_calls.specs.Commits.{AnswersReply, most_stopped}
+use Rattle.device_session.specs.Publishing.{most_commit}
+use Rattle.session_calls.specs.declared.stops.DeviceStop.{DeviceStop}
+use Rattle.session_calls.specs.declared.stops.DeviceStop.TheVariants as stopping
 use Rattle.session_calls.specs.Damage.{IsMounted}
 use Rattle.session_calls.specs.declared.stops.DeviceStop.TheVariants as device
 use Rattle.transfer.specs.Changes.{ChangesFew, clears_at, clears_of}
@@ -33,6 +36,19 @@ changed_behind most old mid new same may = subst (λ (n : ℕ). MayRiseBy most n
 
 pub changed_before : (most old mid new : ℕ) → new ≡ mid → MayRiseBy most old mid → MayRiseBy most old new
 changed_before most old mid new same may = subst (λ (n : ℕ). MayRiseBy most old n) (sym same) may
+
+-- a commit syncs and replaces the root record twice at most, whatever it answers
+pub replied_twice : (reply : CommitReply) (old new : ℕ) → MayRiseBy (most_commit (Ok reply)) old new → MayRiseBy 2 old new
+replied_twice (replies.Committed number) old new may = may
+replied_twice (replies.Full needed free) old new may = counted_few 0 2 old new (omega arith) may
+
+pub stopped_twice : (stop : DeviceStop) (old new : ℕ) → MayRiseBy (most_stopped stop) old new → MayRiseBy 2 old new
+stopped_twice stopping.Platform old new may = may
+stopped_twice stopping.Tape old new may = counted_few 0 2 old new (omega arith) may
+stopped_twice stopping.Ledger old new may = counted_few 1 2 old new (omega arith) may
+stopped_twice stopping.BadRoot old new may = counted_few 0 2 old new (omega arith) may
+stopped_twice (stopping.BadRecord addr) old new may = counted_few 0 2 old new (omega arith) may
+stopped_twice stopping.Memory old new may = counted_few 0 2 old new (omega arith) may
 
 -- ---- the number
 

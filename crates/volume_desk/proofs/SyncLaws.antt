@@ -1,12 +1,14 @@
 -- How often a line syncs all pages, or replaces the root record, at most.
 use Rattle.std.proofs.Common.{◌≡◌, ◌≤◌, ◌+◌, ℕ, List, Result, Ok, Err, sym, ap, subst, arith}
-use Rattle.sdbt_base.proofs.RiseLaws.{counted_not}
+use Rattle.sdbt_base.proofs.RiseLaws.{counted_few, counted_not}
 use Rattle.sdbt_base.specs.Rises.{MayRiseBy}
 use Rattle.platform.specs.declared.platforms.Platform.{Ghosts as PlatformGhosts}
 use Rattle.device_session.specs.Sessions.{Session}
 use Rattle.device_session.specs.declared.refusals.CommitReply.{CommitReply}
 use Rattle.device_session.specs.declared.refusals.CommitReply.TheVariants as commits
-use Rattle.session_calls.specs.Commits.{AnswersReply}
+use Rattle.session_calls.specs.Commits.{AnswersReply, most_stopped}
+use Rattle.device_session.specs.Publishing.{most_commit}
+use Rattle.session_calls.specs.declared.stops.DeviceStop.TheVariants as stopping
 use Rattle.session_calls.specs.declared.stops.DeviceStop.{DeviceStop}
 use Rattle.volume_lines.specs.Lines.{Line, Create, Read, Write, Trim, Destroy, Commit, asked}
 use Rattle.volume_lines.specs.Replies.{Reply, Created, Exists, NoRoom, Unknown, Content, Done, Range, Full, Destroyed, Uncommitted, Committed, Bad}
@@ -18,6 +20,19 @@ use Rattle.volume_desk.specs.Turns.{commit_reply, destroy_reply}
 -- and what it did behind that
 pub changed_behind : (most old mid new : ℕ) → mid ≡ old → MayRiseBy most mid new → MayRiseBy most old new
 changed_behind most old mid new same may = subst (λ (n : ℕ). MayRiseBy most n new) same may
+
+-- a commit syncs and replaces the root record twice at most, whatever it answers
+pub replied_twice : (reply : CommitReply) (old new : ℕ) → MayRiseBy (most_commit (Ok reply)) old new → MayRiseBy 2 old new
+replied_twice (commits.Committed number) old new may = may
+replied_twice (commits.Full needed free) old new may = counted_few 0 2 old new (omega arith) may
+
+pub stopped_twice : (stop : DeviceStop) (old new : ℕ) → MayRiseBy (most_stopped stop) old new → MayRiseBy 2 old new
+stopped_twice stopping.Platform old new may = may
+stopped_twice stopping.Tape old new may = counted_few 0 2 old new (omega arith) may
+stopped_twice stopping.Ledger old new may = counted_few 1 2 old new (omega arith) may
+stopped_twice stopping.BadRoot old new may = counted_few 0 2 old new (omega arith) may
+stopped_twice (stopping.BadRecord addr) old new may = counted_few 0 2 old new (omega arith) may
+stopped_twice stopping.Memory old new may = counted_few 0 2 old new (omega arith) may
 
 -- a commit that was answered, or a line that was this one
 pub commit_changes : {S R W : Type 0} (P : PlatformGhosts S) (platform platform_now : S) (tape tape_now : R) (ledger ledger_now : W) (session now : Session) (reply : CommitReply) (given : Given) (buffer : List ℕ)

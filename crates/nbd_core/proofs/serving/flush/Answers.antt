@@ -2,6 +2,7 @@ use Rattle.session_calls.proofs.CarryLaws.{carries_committed, carries_stopped, c
 use Rattle.nbd_core.proofs.BlameLaws.{blame_commit, blame_committed, commit_comes, commit_halts, of_commit}
 use Rattle.platform.proofs.Moments.{During-now}
 use Rattle.device_terms.specs.Served.{IsServedImage}
+use Rattle.nbd_core.proofs.ChangeLaws.{replied_twice, stopped_twice}
 use Rattle.nbd_core.proofs.DamageLaws.{commit_says}
 use Rattle.nbd_core.proofs.NearLaws.{commit_adds}
 use Rattle.nbd_core.proofs.ShortLaws.{flush_spent}
@@ -52,7 +53,7 @@ pub returns-in-Err-clause-adds : goal.returns-in-Err-clause-adds
 returns-in-Err-clause-adds g c = commit_adds g.P.Platform g.T.Tape _ _ _ _ _ c.in-Err.stop _ c.after_commit.ensures c.in-Err.ensures.answers c.in-Err.ensures.goes.adds
 
 pub returns-in-Ok-clause-changes : goal.returns-in-Ok-clause-changes
-returns-in-Ok-clause-changes g c = c.in-Ok.ensures.goes.changes
+returns-in-Ok-clause-changes g c told = replied_twice c.in-Ok.done.reply _ _ (c.in-Ok.ensures.goes.changes told)
 
 pub returns-in-Err-clause-changes : goal.returns-in-Err-clause-changes
-returns-in-Err-clause-changes g c = c.in-Err.ensures.goes.changes
+returns-in-Err-clause-changes g c told = stopped_twice c.in-Err.stop _ _ (c.in-Err.ensures.goes.changes told)

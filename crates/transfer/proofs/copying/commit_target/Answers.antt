@@ -2,7 +2,7 @@ use Rattle.std.proofs.Common.{refl}
 use Rattle.transfer.specs.Counts.{counts}
 use Rattle.session_calls.proofs.CarryLaws.{carries_committed, carries_end, carries_going, carries_stopped}
 use Rattle.transfer.proofs.BlameLaws.{of_ledger, to_quiet, to_stopped}
-use Rattle.transfer.proofs.ChangesLaws.{committed_number}
+use Rattle.transfer.proofs.ChangesLaws.{committed_number, replied_twice, stopped_twice}
 use Rattle.transfer.proofs.CommitLaws.{commit_done, commit_short, commit_stopped}
 use Rattle.transfer.proofs.HaltLaws.{commit_to, number_blamed, number_commit, number_full}
 use Rattle.transfer.proofs.copying.commit_target.Goals as goal
@@ -56,10 +56,10 @@ pub returns-in-Err-clause-full : goal.returns-in-Err-clause-full
 returns-in-Err-clause-full g c is = absurd cc
 
 pub returns-in-Ok-clause-unread : goal.returns-in-Ok-clause-unread
-returns-in-Ok-clause-unread g c told = (c.in-Ok.ensures.goes.unread told, c.in-Ok.ensures.goes.changes told)
+returns-in-Ok-clause-unread g c told = (c.in-Ok.ensures.goes.unread told, replied_twice c.in-Ok.done.reply _ _ (c.in-Ok.ensures.goes.changes told))
 
 pub returns-in-Err-clause-unread : goal.returns-in-Err-clause-unread
-returns-in-Err-clause-unread g c told = (c.in-Err.ensures.goes.unread told, c.in-Err.ensures.goes.changes told)
+returns-in-Err-clause-unread g c told = (c.in-Err.ensures.goes.unread told, stopped_twice c.in-Err.stop _ _ (c.in-Err.ensures.goes.changes told))
 
 pub returns-in-Ok-clause-number : goal.returns-in-Ok-clause-number
 returns-in-Ok-clause-number g c told =

@@ -13,7 +13,7 @@ use Rattle.session_calls.proofs.CarryLaws.{carries_committed, carries_going, car
 use Rattle.volume_desk.proofs.CauseLaws.{commit_may}
 use Rattle.volume_desk.proofs.DoneLaws.{commit_along, keeps_all, needs_behind, short_pages, short_still}
 use Rattle.volume_desk.proofs.DrawingLaws.{commit_drew, short_head, spends_some}
-use Rattle.volume_desk.proofs.SyncLaws.{commit_changes}
+use Rattle.volume_desk.proofs.SyncLaws.{commit_changes, replied_twice, stopped_twice}
 use Rattle.volume_desk.proofs.TurnLaws.{array_held, commit_pages, commit_served, committed_to}
 use Rattle.volume_desk.proofs.committing.commit.Goals as goal
 
@@ -63,7 +63,7 @@ returns-in-Err-clause-spends g c table buffer = spends_some g.P.Platform.tells _
 
 pub returns-in-Ok-clause-changes : goal.returns-in-Ok-clause-changes
 returns-in-Ok-clause-changes g c told buffer =
-    commit_changes g.P.Platform _ _ c.args.tape.now c.commit_session.new.tape c.args.ledger.now c.commit_session.new.ledger c.args.session c.in-Ok.done.session c.in-Ok.done.reply c.reply_to_commit.result buffer c.in-Ok.ensures.answers c.reply_to_commit.ensures (c.in-Ok.ensures.goes.changes told)
+    commit_changes g.P.Platform _ _ c.args.tape.now c.commit_session.new.tape c.args.ledger.now c.commit_session.new.ledger c.args.session c.in-Ok.done.session c.in-Ok.done.reply c.reply_to_commit.result buffer c.in-Ok.ensures.answers c.reply_to_commit.ensures (replied_twice c.in-Ok.done.reply _ _ (c.in-Ok.ensures.goes.changes told))
 
 pub returns-in-Err-clause-changes : goal.returns-in-Err-clause-changes
-returns-in-Err-clause-changes g c told buffer = c.in-Err.ensures.goes.changes told
+returns-in-Err-clause-changes g c told buffer = stopped_twice c.in-Err.stop _ _ (c.in-Err.ensures.goes.changes told)

@@ -18,7 +18,7 @@ use Rattle.volume_desk.proofs.DrawingLaws.{destroy_drew, short_head, spends_some
 use Rattle.volume_desk.specs.Reads.{reads_out}
 use Rattle.volume_desk.proofs.ReadLaws.{destroy_reads, takes_none_reads, takes_some_reads}
 use Rattle.volume_desk.specs.Syncs.{changes_in}
-use Rattle.volume_desk.proofs.SyncLaws.{changed_behind, destroy_changes}
+use Rattle.volume_desk.proofs.SyncLaws.{changed_behind, destroy_changes, replied_twice, stopped_twice}
 use Rattle.volume_desk.proofs.TurnLaws.{changed_served, committed_to, destroy_served, destroy_stopped, stopped_kept, takes_none, takes_some}
 use Rattle.volume_desk.proofs.committing.destroy.Goals as goal
 
@@ -147,7 +147,7 @@ pub returns-in-Ok-commit_session-clause-changes : goal.returns-in-Ok-commit_sess
 returns-in-Ok-commit_session-clause-changes g c told buffer =
     changed_behind (changes_in (Destroy c.args.name.now) buffer (Ok c.reply_to_destroy.result)) _ _ _ (c.in-Ok.ensures.calls.along.changes told)
     (destroy_changes g.P.Platform c.take_out.new.platform c.commit_session.new.platform c.take_out.new.tape c.commit_session.new.tape c.args.ledger.now c.commit_session.new.ledger c.take_out.new.session c.in-Ok-commit_session.done.session c.in-Ok-commit_session.done.reply c.reply_to_destroy.result c.args.name.now buffer
-    c.in-Ok-commit_session.ensures.answers c.reply_to_destroy.ensures (c.in-Ok-commit_session.ensures.goes.changes told))
+    c.in-Ok-commit_session.ensures.answers c.reply_to_destroy.ensures (replied_twice c.in-Ok-commit_session.done.reply _ _ (c.in-Ok-commit_session.ensures.goes.changes told)))
 
 pub returns-in-Err-commit_session-clause-changes : goal.returns-in-Err-commit_session-clause-changes
-returns-in-Err-commit_session-clause-changes g c told buffer = changed_behind 2 _ _ _ (c.in-Ok.ensures.calls.along.changes told) (c.in-Err-commit_session.ensures.goes.changes told)
+returns-in-Err-commit_session-clause-changes g c told buffer = changed_behind 2 _ _ _ (c.in-Ok.ensures.calls.along.changes told) (stopped_twice c.in-Err-commit_session.stop _ _ (c.in-Err-commit_session.ensures.goes.changes told))
