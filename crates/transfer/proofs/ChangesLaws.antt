@@ -14,6 +14,9 @@ use Rattle.device_session.specs.Sessions.{Session}
 use Rattle.device_session.specs.declared.refusals.CommitReply.{CommitReply}
 use Rattle.device_session.specs.declared.refusals.CommitReply.TheVariants as replies
 use Rattle.session_calls.specs.Commits.{AnswersReply, most_stopped}
+use Rattle.device_core.specs.Publishing.{most_format}
+use Rattle.device_core.specs.declared.refusals.FormatRefusal.{FormatRefusal}
+use Rattle.device_core.specs.declared.refusals.FormatRefusal.TheVariants as making
 use Rattle.device_session.specs.Publishing.{most_commit}
 use Rattle.session_calls.specs.declared.stops.DeviceStop.{DeviceStop}
 use Rattle.session_calls.specs.declared.stops.DeviceStop.TheVariants as stopping
@@ -49,6 +52,16 @@ stopped_twice stopping.Ledger old new may = counted_few 1 2 old new (omega arith
 stopped_twice stopping.BadRoot old new may = counted_few 0 2 old new (omega arith) may
 stopped_twice (stopping.BadRecord addr) old new may = counted_few 0 2 old new (omega arith) may
 stopped_twice stopping.Memory old new may = counted_few 0 2 old new (omega arith) may
+
+-- and so does a format
+pub made_twice : (result : Result (Unit {0}) FormatRefusal) (old new : ℕ) → MayRiseBy (most_format result) old new → MayRiseBy 2 old new
+made_twice (Ok done) old new may = may
+made_twice (Err making.NotEmpty) old new may = counted_few 0 2 old new (omega arith) may
+made_twice (Err making.Full) old new may = counted_few 0 2 old new (omega arith) may
+made_twice (Err making.Memory) old new may = counted_few 0 2 old new (omega arith) may
+made_twice (Err making.TapeFault) old new may = counted_few 0 2 old new (omega arith) may
+made_twice (Err making.LedgerFault) old new may = counted_few 1 2 old new (omega arith) may
+made_twice (Err making.PlatformFault) old new may = may
 
 -- ---- the number
 

@@ -12,7 +12,7 @@ use Rattle.transfer.specs.Halts.{Blames}
 use Rattle.transfer.specs.Running.{IsOfOpening}
 use Rattle.transfer.specs.declared.halts.Halt.{Halt}
 use Rattle.transfer.proofs.BlameLaws.{blames_done, blames_then, of_ledger, of_platform, to_quiet, to_stopped}
-use Rattle.transfer.proofs.ChangesLaws.{changed_before}
+use Rattle.transfer.proofs.ChangesLaws.{changed_before, made_twice}
 use Rattle.transfer.proofs.FormatLaws.{format_blamed, format_halt}
 use Rattle.transfer.proofs.HaltLaws.{mount_to}
 use Rattle.transfer.proofs.LookedLaws.{made_served}
@@ -184,13 +184,13 @@ returns-in-Err-clause-looks g c told =
     omega (arith, one)
 
 pub returns-in-Ok-Some-clause-changes : goal.returns-in-Ok-Some-clause-changes
-returns-in-Ok-Some-clause-changes g c told = changed_before 2 _ _ _ (c.mount_session.ensures.looks.changes told) (c.format.ensures.spends.0 told).2
+returns-in-Ok-Some-clause-changes g c told = changed_before 2 _ _ _ (c.mount_session.ensures.looks.changes told) (made_twice c.format.result _ _ (c.format.ensures.spends.0 told).2)
 
 pub returns-in-Ok-None-clause-changes : goal.returns-in-Ok-None-clause-changes
-returns-in-Ok-None-clause-changes g c told = changed_before 2 _ _ _ (c.mount_session.ensures.looks.changes told) (c.format.ensures.spends.0 told).2
+returns-in-Ok-None-clause-changes g c told = changed_before 2 _ _ _ (c.mount_session.ensures.looks.changes told) (made_twice c.format.result _ _ (c.format.ensures.spends.0 told).2)
 
 pub returns-in-Err-mount_session-clause-changes : goal.returns-in-Err-mount_session-clause-changes
-returns-in-Err-mount_session-clause-changes g c told = changed_before 2 _ _ _ (c.mount_session.ensures.looks.changes told) (c.format.ensures.spends.0 told).2
+returns-in-Err-mount_session-clause-changes g c told = changed_before 2 _ _ _ (c.mount_session.ensures.looks.changes told) (made_twice c.format.result _ _ (c.format.ensures.spends.0 told).2)
 
 pub returns-in-Err-clause-changes : goal.returns-in-Err-clause-changes
-returns-in-Err-clause-changes g c told = (c.format.ensures.spends.0 told).2
+returns-in-Err-clause-changes g c told = (made_twice c.format.result _ _ (c.format.ensures.spends.0 told).2)
