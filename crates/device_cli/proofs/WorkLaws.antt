@@ -31,6 +31,7 @@ use Rattle.line_run.specs.Puts.{HasPut, damage_line}
 use Rattle.device_cli.specs.Drawing.{DrewUntil}
 use Rattle.device_cli.specs.Handed.{Handed}
 use Rattle.sdbt_base.specs.Counts.{Counts, NoneRose}
+use Rattle.device_cli.specs.Scripts.{ScriptState}
 use Rattle.device_cli.specs.Working.{IsIdle, Says, ServesAll, ServesWork, Worked, Working, script_of}
 use Rattle.session_calls.specs.declared.stops.DeviceStop.{DeviceStop}
 use Rattle.session_calls.specs.declared.stops.DeviceStop.TheVariants as device
@@ -53,13 +54,15 @@ summary_parts seed count accepted declined replies are all =
     ∙ ap (λ (n : ℕ). heading seed count (length replies - refused replies) n ++ flat_map line_of (drop (count + 3) replies)) are
 
 -- the run of a script in memory, of which all is left where the platform failed before its first line
-pub work_ran : (tells : Type 0) (seed count : ℕ) (old new : World) (serving : Ending) (text left was told : List ℕ) → text ≡ script_of seed count → was ≡ []
-    → Ran tells (left ≡ text) old new damage_line serving (Some text) (Some left) (Some was) (Some told)
-    → Ran tells (Some left ≡ Some (script_of seed count)) old new damage_line serving (Some (script_of seed count)) (Some left) (Some []) (Some told)
-work_ran tells seed count old new serving text left was told is none r =
+pub work_ran : (tells : Type 0) (seed count : ℕ) (old new : World) (serving : Ending) (source source_now : ScriptState) (was told : List ℕ) → source.left ≡ script_of seed count → was ≡ []
+    → Ran tells (source_now ≡ source) old new damage_line serving (Some source.left) (Some source_now.left) (Some was) (Some told)
+    → Ran tells (Some source_now.left ≡ Some (script_of seed count)) old new damage_line serving (Some (script_of seed count)) (Some source_now.left) (Some []) (Some told)
+work_ran tells seed count old new serving source source_now was told is none r =
+    let left : List ℕ = source_now.left in
+    let text : List ℕ = source.left in
     subst (λ (t : List ℕ). Ran tells (Some left ≡ Some t) old new damage_line serving (Some t) (Some left) (Some []) (Some told)) is
     (subst (λ (w : List ℕ). Ran tells (Some left ≡ Some text) old new damage_line serving (Some text) (Some left) (Some w) (Some told)) none
-    (Ran-before tells (left ≡ text) (Some left ≡ Some text) old new damage_line serving (Some text) (Some left) (Some was) (Some told) (λ e. ap Some e) r))
+    (Ran-before tells (source_now ≡ source) (Some left ≡ Some text) old new damage_line serving (Some text) (Some left) (Some was) (Some told) (λ e. ap (λ (s : ScriptState). Some s.left) e) r))
 
 -- what an own output in memory got of a run over all lines are the lines of its replies
 pub told_replies : (tells Before : Type 0) (old new : World) (left : Option (List ℕ)) (told text : List ℕ) → (r : Ran tells Before old new damage_line (Ok tt) (Some text) left (Some []) (Some told))

@@ -32,7 +32,7 @@ returns-in-Ok-run-clause-worked g c =
     let text : c.new-input.result.left ≡ script = ap (λ s. s.left) c.new-input.ensures ∙ c.in-Ok.ensures.text in
     let none : c.in-Ok-new.told.written ≡ [] = ap (λ s. s.written) c.in-Ok-new.ensures in
     let there : Ran P.tells (left ≡ Some script) old new damage_line (Ok tt) (Some script) left (Some []) (Some told) =
-    work_ran P.tells c.args.seed c.args.count old new (Ok tt) c.new-input.result.left c.run.new.input.left c.in-Ok-new.told.written told text none ran.1 in (
+    work_ran P.tells c.args.seed c.args.count old new (Ok tt) c.new-input.result c.run.new.input c.in-Ok-new.told.written told text none ran.1 in (
       ran.0,
       inr (record {
         serving = Ok tt;
@@ -56,7 +56,7 @@ returns-in-Err-Device-clause-worked g c =
         serving = Err (stops.Device c.in-Err-Device.stop);
         left = Some c.run.new.input.left;
         told = Some c.run.new.output.written;
-        ran = work_ran P.tells c.args.seed c.args.count old new (Err (stops.Device c.in-Err-Device.stop)) c.new-input.result.left c.run.new.input.left c.in-Ok-new.told.written c.run.new.output.written text none ran.1;
+        ran = work_ran P.tells c.args.seed c.args.count old new (Err (stops.Device c.in-Err-Device.stop)) c.new-input.result c.run.new.input c.in-Ok-new.told.written c.run.new.output.written text none ran.1;
         says = elim c.last_line.ensures.stop [
           | inl whole ↦ inl (ap Err whole.0, whole.1)
           | inr part ↦ inr (ap Err part.0, part.2)
@@ -77,7 +77,7 @@ returns-in-Err-Sink-clause-worked g c =
         serving = Err stops.Sink;
         left = Some c.run.new.input.left;
         told = Some c.run.new.output.written;
-        ran = work_ran P.tells c.args.seed c.args.count old new (Err stops.Sink) c.new-input.result.left c.run.new.input.left c.in-Ok-new.told.written c.run.new.output.written text none ran.1;
+        ran = work_ran P.tells c.args.seed c.args.count old new (Err stops.Sink) c.new-input.result c.run.new.input c.in-Ok-new.told.written c.run.new.output.written text none ran.1;
         says = (refl, refl);
       }),
     )
