@@ -19,7 +19,6 @@ use Rattle.device_core.specs.declared.refusals.FormatRefusal.{FormatRefusal}
 use Rattle.device_core.specs.declared.refusals.FormatRefusal.TheVariants as making
 use Rattle.device_session.specs.Publishing.{most_commit}
 use Rattle.session_calls.specs.declared.stops.DeviceStop.{DeviceStop}
-use Rattle.session_calls.specs.declared.stops.DeviceStop.TheVariants as stopping
 use Rattle.session_calls.specs.Damage.{IsMounted}
 use Rattle.session_calls.specs.declared.stops.DeviceStop.TheVariants as device
 use Rattle.transfer.specs.Changes.{ChangesFew, clears_at, clears_of}
@@ -46,12 +45,12 @@ replied_twice (replies.Committed number) old new may = may
 replied_twice (replies.Full needed free) old new may = counted_few 0 2 old new (omega arith) may
 
 pub stopped_twice : (stop : DeviceStop) (old new : ℕ) → MayRiseBy (most_stopped stop) old new → MayRiseBy 2 old new
-stopped_twice stopping.Platform old new may = may
-stopped_twice stopping.Tape old new may = counted_few 0 2 old new (omega arith) may
-stopped_twice stopping.Ledger old new may = counted_few 1 2 old new (omega arith) may
-stopped_twice stopping.BadRoot old new may = counted_few 0 2 old new (omega arith) may
-stopped_twice (stopping.BadRecord addr) old new may = counted_few 0 2 old new (omega arith) may
-stopped_twice stopping.Memory old new may = counted_few 0 2 old new (omega arith) may
+stopped_twice device.Platform old new may = may
+stopped_twice device.Tape old new may = counted_few 0 2 old new (omega arith) may
+stopped_twice device.Ledger old new may = counted_few 1 2 old new (omega arith) may
+stopped_twice device.BadRoot old new may = counted_few 0 2 old new (omega arith) may
+stopped_twice (device.BadRecord addr) old new may = counted_few 0 2 old new (omega arith) may
+stopped_twice device.Memory old new may = counted_few 0 2 old new (omega arith) may
 
 -- and so does a format
 pub made_twice : (result : Result (Unit {0}) FormatRefusal) (old new : ℕ) → MayRiseBy (most_format result) old new → MayRiseBy 2 old new
