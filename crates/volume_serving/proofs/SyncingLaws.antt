@@ -1,13 +1,13 @@
 -- How often lines sync that are handled one after another.
 use Rattle.std.proofs.Common.{◌≡◌, ◌≤◌, ◌+◌, ℕ, List, [], ◌∷◌, ◌++◌, length, inl, inr, refl, sym, subst, arith}
-use Rattle.sdbt_base.proofs.RiseLaws.{counted_few, counted_then}
+use Rattle.sdbt_base.proofs.RiseLaws.{counted_few, counted_not, counted_then}
 use Rattle.sdbt_base.specs.Rises.{MayRiseBy}
 use Rattle.volume_lines.specs.Grammar.{IsBad, Spells}
 use Rattle.volume_lines.specs.Lines.{Line}
 use Rattle.volume_lines.specs.Replies.{Reply}
 use Rattle.volume_lines.proofs.LineLaws.{one_thing}
 use Rattle.volume_desk.specs.Syncs.{changes_for, changes_with}
-use Rattle.volume_desk.proofs.SyncLaws.{changed_behind, changed_not}
+use Rattle.volume_desk.proofs.SyncLaws.{changed_behind}
 use Rattle.volume_serving.specs.Syncing.{AreChanging, ChangesFew}
 
 -- ---- lines behind others, and more of them
@@ -43,7 +43,7 @@ longer (line ∷ lines) more (reply ∷ replies) most (inr (it, spelled, others,
     (changes_with it reply + p.0, inr (it, spelled, p.0, p.1, refl), omega (arith, is, less))
 
 pub few_nothing : (here : ℕ) → ChangesFew here here [] []
-few_nothing here most none = changed_not most here here refl
+few_nothing here most none = counted_not most here here refl
 
 pub few_then : (old mid new : ℕ) (lines more : List (List ℕ)) (replies others : List Reply) → length replies ≡ length lines → ChangesFew old mid lines replies → ChangesFew mid new more others → ChangesFew old new (lines ++ more) (replies ++ others)
 few_then old mid new lines more replies others same one two most h =
@@ -78,4 +78,4 @@ few_cut old new line it spelled may most (inr (other, reads, is)) =
 
 -- outside the grammar
 pub few_bad : (here : ℕ) (line : List ℕ) (replies : List Reply) → ChangesFew here here (line ∷ []) replies
-few_bad here line replies most h = changed_not most here here refl
+few_bad here line replies most h = counted_not most here here refl
