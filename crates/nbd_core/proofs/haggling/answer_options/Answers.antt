@@ -1,4 +1,4 @@
-use Rattle.std.proofs.Common.{[], ◌∷◌, ◌++◌, Option, Ok, arith, subst, sym, ◌∙◌}
+use Rattle.std.proofs.Common.{[], ◌∷◌, ◌++◌, Option, Ok, arith, subst, refl, sym, ◌∙◌}
 use Rattle.std.specs.Prelude.{IsSome}
 use Rattle.std.proofs.lemmas.Result.{err_from_is_err_and}
 use Rattle.nbd_lang.specs.declared.options.OptionHead.{OptionHead}
@@ -61,7 +61,7 @@ options-preserved g c =
       options = so_far.options ++ more.0 ∷ [];
       heard = more.2;
       others = others_more so_far.options more.0 c.in-Some.option c.in-Other.field-0 so_far.others more.1 c.in-Other.is;
-      open_yet = c.in_ok-option.ensures.ended.open_yet (subst (λ (it : Option OptionHead). IsSome it) (sym c.in-Some.is) tt) ∙ so_far.open_yet;
+      open_yet = c.in_ok-option.ensures.ended.open_yet (subst (λ (it : Option OptionHead). IsSome it) (sym c.in-Some.is) refl) ∙ so_far.open_yet;
       input = omega (arith, so_far.input, c.in_ok-option.ensures.cause);
       output = omega (arith, so_far.output, c.in_ok-put_answer.ensures.cause);
     }

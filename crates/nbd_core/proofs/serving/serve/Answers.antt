@@ -64,7 +64,7 @@ requests-preserved g c =
       changes = λ told. rises_more _ so_far.exchanges more.0 c.in-Some.request _ _ _ more.1 (so_far.changes told) (answer_changes told);
       room = keeps_then _ 33554448 _ _ _ _ _ _ (omega arith) (room_most (4096 * blocks_of c.requests.session) c.in-Some.request) so_far.room c.in-Ok.ensures.keeps;
       carries = carries_then _ _ _ _ _ _ _ _ _ tt c.requests.invariant.carries (carries_going _ _ _ _ _ _ _ (λ going. refl) c.in-Ok.ensures.carries);
-      open_yet = c.in-Ok.ensures.ended.open_yet tt ∙ c.in_ok-request.ensures.ended.open_yet (subst (λ (it : Option Request). IsSome it) (sym c.in-Some.is) tt) ∙ so_far.open_yet;
+      open_yet = c.in-Ok.ensures.ended.open_yet tt ∙ c.in_ok-request.ensures.ended.open_yet (subst (λ (it : Option Request). IsSome it) (sym c.in-Some.is) refl) ∙ so_far.open_yet;
       quiet = c.in-Ok.ensures.blame.quiet ∙ ((c.in_ok-request.ensures.blame (counts (g.P.Platform.faults c.requests.platform) (g.T.Tape.faults c.requests.tape) 0 (g.O.Sink.faults c.requests.output) (g.L.Sink.faults c.requests.ledger))).quiet ∙ so_far.quiet);
     }
 

@@ -175,7 +175,7 @@ loop-done-preserved g c =
           (c.in-Ok.ensures.writes told device _ (so_far.wrote told device array there all long (front_of c.loop-done.done k so_far.gone _ all so_far.all front)));
       platform = platform_quiet _ _ c.in-Ok.ensures.calls.quiet ∙ so_far.platform;
       tape = tape_quiet _ _ c.in-Ok.ensures.calls.quiet ∙ so_far.tape;
-      open_yet = c.in-Ok-true.ensures.ended.open_yet refl ∙ so_far.open_yet;
+      open_yet = c.in-Ok-true.ensures.ended.open_yet c.in-Ok-true.field-0-test ∙ so_far.open_yet;
       input = c.in-Ok-true.ensures.cause ∙ so_far.input;
     }
 

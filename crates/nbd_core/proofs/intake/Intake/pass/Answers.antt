@@ -1,4 +1,4 @@
-use Rattle.std.proofs.Common.{◌≡◌, ◌++◌, ◌≤◌, ◌∙◌, ap, refl, sym, arith, take, subst, length, length-append, ℕ, List}
+use Rattle.std.proofs.Common.{◌≡◌, ◌++◌, ◌≤◌, ◌∙◌, ap, sym, arith, take, subst, length, length-append, ℕ, List}
 use Rattle.nbd_core.specs.Room.{Came, IsShorter}
 use Rattle.nbd_core.proofs.CameLaws.{pass_more, gone_more, length-gone}
 use Rattle.nbd_core.proofs.intake.Intake.pass.Goals as goal
@@ -50,6 +50,6 @@ loop-left-preserved g c =
           (sym c.skip.ensures.left)
           (subst (Came (g.I.Source.left c.args.input.now) (g.I.Source.left c.need.new.input) c.args.self.now c.need.new.self.left (IsShorter c.args.count)) same came);
       all = omega (arith, so_far.all, length-gone so_far.gone ahead here within, c.min-here.ensures);
-      open_yet = c.in-Ok-true.ensures.ended.open_yet refl ∙ so_far.open_yet;
+      open_yet = c.in-Ok-true.ensures.ended.open_yet c.in-Ok-true.field-0-test ∙ so_far.open_yet;
       quiet = omega (arith, so_far.quiet, c.in-Ok-true.ensures.cause);
     }
